@@ -1,0 +1,71 @@
+ghost use Rattle.std.specs.Prelude.{◌≡◌, ◌++◌, OnOk, IfOk};
+ghost use Rattle.std.specs.Fmt.{signed_decimal};
+ghost use Rattle.rip_wire.specs.Call.{arguments_text, separated};
+
+use crate::name::Name;
+use crate::writer::Writer;
+use rip_values::{Bytes, List, NoMemory, Whole};
+use std::alloc::Global;
+
+/// A call of a remote function, by its name and arguments.
+#[derive(Debug, Drop)]
+pub struct Call {
+    pub name: Name,
+    pub args: List<Whole>,
+}
+
+/// Writes the numerals of whole numbers, with a comma between two.
+fn write_numbers(numbers: &[Whole], out: &mut Writer) -> Result<(), NoMemory>
+    ensures { OnOk result (out.new ≡ out.old ++ separated signed_decimal numbers.now) }
+{
+    let Some((first, others)) = numbers.split_first() else {
+        return Ok(());
+    };
+    out.whole(*first)?;
+    for number in others {
+        out.text(b",")?;
+        out.whole(*number)?;
+    }
+    Ok(())
+}
+
+/// Writes `[A,B,..]`, the arguments as decimal numerals.
+pub fn write_arguments(args: &List<Whole>, out: &mut Writer) -> Result<(), NoMemory>
+    ensures { OnOk result (out.new ≡ out.old ++ arguments_text args.now) }
+{
+    out.text(b"[")?;
+    write_numbers(args.as_slice(), out)?;
+    out.text(b"]")
+}
+
+impl Call {
+    ghost use Rattle.rip_wire.specs.Call.{call_parts, call_text};
+
+    /// Writes `"NAME",[ARGS]`.
+    pub fn write_parts(&self, out: &mut Writer) -> Result<(), NoMemory>
+        ensures { OnOk result (out.new ≡ out.old ++ call_parts self.now) }
+    {
+        out.text(b"\"")?;
+        out.text(self.name.as_slice())?;
+        out.text(b"\",")?;
+        write_arguments(&self.args, out)
+    }
+
+    /// Writes the canonical text, `["NAME",[ARGS]]`.
+    pub fn write(&self, out: &mut Writer) -> Result<(), NoMemory>
+        ensures { OnOk result (out.new ≡ out.old ++ call_text self.now) }
+    {
+        out.text(b"[")?;
+        self.write_parts(out)?;
+        out.text(b"]")
+    }
+
+    /// The canonical text, `["NAME",[ARGS]]`.
+    pub fn text(&self, alloc: Global) -> Result<Bytes, NoMemory>
+        ensures { IfOk result (λ text. text ≡ call_text self.now) }
+    {
+        let mut out = Writer::new(alloc);
+        self.write(&mut out)?;
+        Ok(out.into_bytes())
+    }
+}

@@ -1,0 +1,15 @@
+//! What goes over the wire: remote calls, the batches in which a browser reports them, and their texts.
+//!
+//! A call has one canonical text, by which reported and made calls are compared. A batch is read from a request's
+//! body exactly where the body is the text of one.
+#![tactic(auto)]
+
+mod batch;
+mod call;
+mod name;
+mod writer;
+
+pub use batch::{Batch, Item};
+pub use call::Call;
+pub use name::{MAX_NAME, Name, is_name, is_name_byte};
+pub use writer::Writer;
