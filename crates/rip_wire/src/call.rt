@@ -29,26 +29,34 @@ fn write_numbers(numbers: &[Whole], out: &mut Writer) -> Result<(), NoMemory>
     Ok(())
 }
 
-/// Writes `[A,B,..]`, the arguments as decimal numerals.
-pub fn write_arguments(args: &List<Whole>, out: &mut Writer) -> Result<(), NoMemory>
-    ensures { OnOk result (out.new ≡ out.old ++ arguments_text args.now) }
-{
-    out.text(b"[")?;
-    write_numbers(args.as_slice(), out)?;
-    out.text(b"]")
-}
-
 impl Call {
-    ghost use Rattle.rip_wire.specs.Call.{call_parts, call_text};
+    ghost use Rattle.rip_wire.specs.Call.{quoted, call_parts, call_text};
+
+    /// Writes `"NAME"`.
+    pub fn write_name(&self, out: &mut Writer) -> Result<(), NoMemory>
+        ensures { OnOk result (out.new ≡ out.old ++ quoted self.now.name) }
+    {
+        out.text(b"\"")?;
+        out.text(self.name.as_slice())?;
+        out.text(b"\"")
+    }
+
+    /// Writes `[A,B,..]`, the arguments as decimal numerals.
+    pub fn write_arguments(&self, out: &mut Writer) -> Result<(), NoMemory>
+        ensures { OnOk result (out.new ≡ out.old ++ arguments_text self.now.args) }
+    {
+        out.text(b"[")?;
+        write_numbers(self.args.as_slice(), out)?;
+        out.text(b"]")
+    }
 
     /// Writes `"NAME",[ARGS]`.
     pub fn write_parts(&self, out: &mut Writer) -> Result<(), NoMemory>
         ensures { OnOk result (out.new ≡ out.old ++ call_parts self.now) }
     {
-        out.text(b"\"")?;
-        out.text(self.name.as_slice())?;
-        out.text(b"\",")?;
-        write_arguments(&self.args, out)
+        self.write_name(out)?;
+        out.text(b",")?;
+        self.write_arguments(out)
     }
 
     /// Writes the canonical text, `["NAME",[ARGS]]`.
