@@ -2,3 +2,4 @@ pub mod Telling
 pub mod Reading
 pub mod Writing
 pub mod Connections
+pub mod Memory

@@ -1,9 +1,13 @@
 -- What an object of the outside tells: lists that grow, where anything is told, and a count of faults.
 use Rattle.std.specs.Prelude.{◌≡◌, ℕ, ◌+◌, ◌-◌, ◌^◌, ◌≤◌, min, List, [], ◌++◌, Option, Some, None, option_map}
 
--- the count rose, or stands at its end: a count of 64 bits that stays there can't rise for ever
+-- one more, or the end of 64 bits
+abbrev pub one_more : ℕ → ℕ
+one_more n = min (n + 1) (2 ^ 64 - 1)
+
+-- the count rose, or stands at its end: a count of 64 bits can't rise for ever
 abbrev pub Rose : ℕ → ℕ → Type 0
-Rose before now = min (before + 1) (2 ^ 64 - 1) ≤ now
+Rose old new = one_more old ≤ new
 
 -- what was told grows by xs, where it is told
 abbrev pub also : {A : Type 0} → List A → Option (List A) → Option (List A)

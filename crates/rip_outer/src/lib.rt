@@ -8,12 +8,15 @@
 #![tactic(auto)]
 
 mod connections;
+mod listed;
+mod memory_sink;
 mod moments;
 mod nothing;
 mod reading;
 mod writing;
 
 pub use connections::{Door, Knock, KnockList, Sent, TraceKnock};
+pub use memory_sink::MemorySink;
 pub use moments::{Clock, Words};
 pub use nothing::{NoClock, NoDoor, NoWords};
 pub use reading::{FileList, Files, FilesError, MAX_FILE, NamedFile};
