@@ -1,0 +1,5 @@
+pub mod Telling
+pub mod Reading
+pub mod Writing
+pub mod Connections
+pub mod Memory
