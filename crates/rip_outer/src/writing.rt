@@ -1,3 +1,4 @@
+use rip_values::NoMemory;
 use thiserror::Error;
 
 /// Why bytes weren't put.
@@ -7,6 +8,17 @@ pub enum SinkError {
     Failed,
     #[error("out of memory")]
     Memory,
+}
+
+impl From<NoMemory> for SinkError {
+    ghost use Rattle.std.specs.Prelude.{◌≡◌};
+    ghost use Rattle.rip_outer.specs.declared.writing.SinkError.TheVariants.{Memory};
+
+    ghost from_gives = { λ _ e. e ≡ Memory };
+
+    fn from(_: NoMemory) -> SinkError {
+        SinkError::Memory
+    }
 }
 
 /// Where the program puts what it writes.

@@ -1,0 +1,14 @@
+//! Turns of the server: what it does with the batches of a session, and the history that it logs.
+//!
+//! A batch is admitted where it is the next and its session lives. A reported call is served where the page's script
+//! made that very call at that position; the first that differs ends the session. Each entry of the history is put to
+//! the sink when it is made.
+#![tactic(auto)]
+
+mod log;
+mod opening;
+mod session;
+mod trace;
+
+pub use opening::identifier;
+pub use trace::{Stop, serve_trace};
