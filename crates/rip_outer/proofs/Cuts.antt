@@ -1,5 +1,5 @@
 -- Where the first piece of a text ends.
-use Rattle.std.proofs.Common.{◌≡◌, ◌≢◌, ℕ, zero, suc, ◌+◌, ◌-◌, ◌<◌, List, [], ◌∷◌, length, get_or, take, drop, arith, refl, true, false, eq-eqb, add-one, cond, ◌∙◌, ap}
+use Rattle.std.proofs.Common.{◌≤◌, ◌==◌, if◌then◌else◌, Bool, ◌≡◌, ◌≢◌, ℕ, zero, suc, ◌+◌, ◌-◌, ◌<◌, List, [], ◌∷◌, length, get_or, take, drop, arith, refl, true, false, eq-eqb, add-one, cond, ◌∙◌, ap}
 use Rattle.std.proofs.lemmas.Bool.{ne_eqb}
 use Rattle.std.proofs.lemmas.List.{take_rest}
 use Rattle.std.proofs.lemmas.Grind.{common_steps}
@@ -34,3 +34,17 @@ pieces_whole bs front back some others is_front is_back =
     let all : take (length bs) bs ≡ bs = grind (arith, common_steps) in
     let none : drop (length bs) bs ≡ [] = grind (arith, common_steps) in
     rw (is_front, is_back, all, none) (pieces_uncut bs some others)
+
+-- a byte makes no more than one more piece
+length_with_first : (b : ℕ) (ps : List (List ℕ)) → length (with_first b ps) ≤ length ps + 1
+length_with_first b [] = omega arith
+length_with_first b (p ∷ ps) = omega arith
+
+-- there are no more pieces than bytes
+pub length_pieces : (bs : List ℕ) → length (pieces bs) ≤ length bs
+length_pieces [] = omega arith
+length_pieces (b ∷ bs) =
+    elim (b == 10) as (λ feed. length (if feed then [] ∷ pieces bs else with_first b (pieces bs)) ≤ length (b ∷ bs)) [
+      true ↦ omega (arith, length_pieces bs)
+      | false ↦ omega (arith, length_pieces bs, length_with_first b (pieces bs))
+    ]

@@ -15,6 +15,8 @@ mod moments;
 mod nothing;
 mod pieces;
 mod reading;
+#[cfg(test)]
+mod tests;
 mod text;
 mod writing;
 

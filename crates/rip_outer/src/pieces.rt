@@ -1,4 +1,4 @@
-ghost use Rattle.std.specs.Prelude.{◌≡◌, ◌≢◌, ◌∷◌, []};
+ghost use Rattle.std.specs.Prelude.{◌≡◌, ◌≢◌, ◌<◌, ◌^◌, ◌∷◌, [], length};
 ghost use Rattle.rip_outer.specs.Pieces.{pieces};
 
 use std::marker::Model;
@@ -20,8 +20,10 @@ impl<'a> Model for Lines<'a> {
 
 impl<'a> Lines<'a> {
     /// The pieces of these bytes.
+    #[tactic(auto, using(crate::proofs::Cuts::length_pieces))]
     pub fn over(bytes: &'a [u8]) -> Lines<'a>
-        ensures { result ≡ pieces bytes.now }
+        ensures value { result ≡ pieces bytes.now }
+        ensures bound { length result < 2 ^ 64 }
     {
         Lines { rest: bytes }
     }
