@@ -11,7 +11,7 @@ pieces_cut [] i in_range others here = absurd (omega arith)
 pieces_cut (b ∷ bs) zero in_range others here = rw (eq-eqb b 10 here)
 pieces_cut (b ∷ bs) (suc i) in_range others here =
     let rest : pieces bs ≡ take i bs ∷ pieces (drop (i + 1) bs) =
-        pieces_cut bs i (omega arith) (λ k below. others (suc k) (omega arith)) here in
+    pieces_cut bs i (omega arith) (λ k below. others (suc k) (omega arith)) here in
     let ends : drop (suc i + 1) (b ∷ bs) ≡ drop (i + 1) bs = rw (add-one, add-one) in
     rw (ne_eqb b 10 (others 0 (omega arith)), rest, ends)
 
@@ -21,7 +21,7 @@ pieces_uncut [] some others = absurd (some refl)
 pieces_uncut (b ∷ []) some others = rw (ne_eqb b 10 (others 0 (omega arith)))
 pieces_uncut (b ∷ c ∷ bs) some others =
     let rest : pieces (c ∷ bs) ≡ (c ∷ bs) ∷ [] =
-        pieces_uncut (c ∷ bs) (λ same. cc) (λ k below. others (suc k) (omega arith)) in
+    pieces_uncut (c ∷ bs) (λ same. cc) (λ k below. others (suc k) (omega arith)) in
     rw (ne_eqb b 10 (others 0 (omega arith))) (ap (with_first b) rest)
 
 -- the same, where what follows is taken as a part of the bytes
@@ -45,6 +45,6 @@ pub length_pieces : (bs : List ℕ) → length (pieces bs) ≤ length bs
 length_pieces [] = omega arith
 length_pieces (b ∷ bs) =
     elim (b == 10) as (λ feed. length (if feed then [] ∷ pieces bs else with_first b (pieces bs)) ≤ length (b ∷ bs)) [
-      true ↦ omega (arith, length_pieces bs)
+      | true ↦ omega (arith, length_pieces bs)
       | false ↦ omega (arith, length_pieces bs, length_with_first b (pieces bs))
     ]

@@ -32,7 +32,11 @@ impl MemoryFiles {
     ghost use Rattle.rip_outer.specs.Memory.{new_files, Answers};
 
     /// These files, which fail at these calls, numbered from 1.
-    pub fn make(alloc: Global, files: &FileList, failing: &NumberList) -> Result<MemoryFiles, NoMemory>
+    pub fn make(
+        alloc: Global,
+        files: &FileList,
+        failing: &NumberList,
+    ) -> Result<MemoryFiles, NoMemory>
         ensures { IfOk result (λ made. made ≡ new_files files.now failing.now) }
     {
         Ok(MemoryFiles {
@@ -85,7 +89,9 @@ impl Files for MemoryFiles {
     {
         let answer = self.answer(alloc, name);
         self.calls = self.calls.saturating_add(1);
-        if matches!(answer, Err(FilesError::Memory)) || add_name(alloc, &mut self.asked, name).is_err() {
+        if matches!(answer, Err(FilesError::Memory))
+            || add_name(alloc, &mut self.asked, name).is_err()
+        {
             return Err(FilesError::Memory);
         }
         if matches!(answer, Err(FilesError::Failed)) {

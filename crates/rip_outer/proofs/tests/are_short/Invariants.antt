@@ -1,6 +1,6 @@
 use Rattle.std.proofs.Common.{◌≡◌, ◌≤◌, ◌++◌, map, length, All}
 use Rattle.rip_outer.specs.Pieces.{pieces}
-use Rattle.rip_outer.proofs.tests.first_long.Given as goal
+use Rattle.rip_outer.proofs.tests.are_short.Given as goal
 
 -- the lines so far were short, and with those that are left they are all
 abbrev pub invariant-loop-line : goal.invariant-loop-line
