@@ -1,5 +1,5 @@
 -- Where the first piece of a text ends.
-use Rattle.std.proofs.Common.{◌≤◌, ◌==◌, if◌then◌else◌, Bool, ◌≡◌, ◌≢◌, ℕ, zero, suc, ◌+◌, ◌-◌, ◌<◌, List, [], ◌∷◌, length, get_or, take, drop, arith, refl, true, false, eq-eqb, add-one, cond, ◌∙◌, ap}
+use Rattle.std.proofs.Common.{◌≤◌, ◌==◌, if◌then◌else◌, ◌≡◌, ◌≢◌, ℕ, zero, suc, ◌+◌, ◌-◌, ◌<◌, List, [], ◌∷◌, length, get_or, take, drop, arith, refl, true, false, eq-eqb, add-one, ap}
 use Rattle.std.proofs.lemmas.Bool.{ne_eqb}
 use Rattle.std.proofs.lemmas.List.{take_rest}
 use Rattle.std.proofs.lemmas.Grind.{common_steps}

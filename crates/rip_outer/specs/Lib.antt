@@ -1,4 +1,4 @@
-pub mod Telling
+pub mod Outside
 pub mod Reading
 pub mod Writing
 pub mod Connections

@@ -25,7 +25,13 @@ impl Model for MemoryFiles {
 
     ghost Value = { FilesState };
 
-    ghost view = { λ s. record { files = s.files; failing = s.failing; asked = s.asked.items; calls = s.calls; faults = s.faults } };
+    ghost view = { λ s. record {
+      files = s.files;
+      failing = s.failing;
+      asked = s.asked.items;
+      calls = s.calls;
+      faults = s.faults;
+    } };
 }
 
 impl MemoryFiles {

@@ -1,6 +1,6 @@
 ghost use Rattle.std.specs.Prelude.{◌≡◌, ◌≤◌, ◌<◌, ◌^◌, ◌↔◌, ◌⊎◌, ◌∷◌, [], length, IsTrue, All, IfSome, IsSomeAnd};
 ghost use Rattle.rip_outer.specs.Pieces.{pieces};
-ghost use Rattle.rip_outer.specs.Telling.{Rose, also, IsOver};
+ghost use Rattle.rip_outer.specs.Outside.{Rose, also, IsOver};
 ghost use Rattle.rip_outer.specs.Reading.{contents_of};
 
 use super::*;

@@ -1,4 +1,4 @@
-use Rattle.std.proofs.Common.{arith, ◌≡◌, length, take, drop}
+use Rattle.std.proofs.Common.{arith}
 use Rattle.rip_outer.proofs.Cuts.{pieces_cut_range, pieces_whole}
 use Rattle.rip_outer.proofs.pieces.split_first.Goals as goal
 
