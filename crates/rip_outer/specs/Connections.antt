@@ -18,10 +18,6 @@ pub record Telling : Type 0 where
   pub told : Option (List Told)
   pub left : Option (List Told)
 
--- a door that has told nothing and will tell nothing
-abbrev pub nothing_told : Telling
-nothing_told = record { told = Some []; left = Some [] }
-
 -- the door told ks from the old to the new
 pub record Goes (old new : Telling) (ks : List Told) : Type 0 where
   pub told : new.told ≡ also ks old.told

@@ -21,7 +21,7 @@ impl<'a> Model for Lines<'a> {
 impl<'a> Lines<'a> {
     /// The pieces of these bytes.
     #[tactic(auto, using(crate::proofs::Cuts::length_pieces))]
-    pub fn over(bytes: &'a [u8]) -> Lines<'a>
+    pub(crate) fn over(bytes: &'a [u8]) -> Lines<'a>
         ensures value { result ≡ pieces bytes.now }
         ensures bound { length result < 2 ^ 64 }
     {
