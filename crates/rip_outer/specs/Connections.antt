@@ -1,6 +1,6 @@
 -- What a door tells of its connections.
 use Rattle.std.specs.Prelude.{◌≡◌, ◌==◌, ℕ, ◌≤◌, Bool, true, false, if◌then◌else◌, List, [], ◌∷◌, map, take, count_by, Contains, Option, Some, None}
-use Rattle.rip_outer.specs.Telling.{Rose, Front, also, before}
+use Rattle.rip_outer.specs.Outside.{Rose, Front, also, before}
 use Rattle.rip_outer.specs.declared.connections.TraceKnock.{TraceKnock}
 use Rattle.rip_outer.specs.declared.connections.TraceKnock.TheVariants as trace
 use Rattle.rip_outer.specs.declared.connections.Knock.{Knock}
@@ -17,10 +17,6 @@ pub data Told : Type 0 where
 pub record Telling : Type 0 where
   pub told : Option (List Told)
   pub left : Option (List Told)
-
--- a door that has told nothing and will tell nothing
-abbrev pub nothing_told : Telling
-nothing_told = record { told = Some []; left = Some [] }
 
 -- the door told ks from the old to the new
 pub record Goes (old new : Telling) (ks : List Told) : Type 0 where
@@ -65,8 +61,7 @@ pub record IsLive (told : List Told) (shuts : List (ℕ × ℕ)) (c : ℕ) : Typ
   pub not_lost : ¬ Contains told (lost c)
   pub not_shut : ¬ Contains (map (λ s. s.0) shuts) c
 
--- connections are numbered 0, 1, 2 in the order of their opening, and a piece or a going comes of a live one alone,
--- where the door tells its knocks and shuts
+-- connections are numbered 0, 1, 2 in the order of their opening, and a piece or a going comes of a live one alone
 abbrev pub IsAllowedAfter : List Told → List (ℕ × ℕ) → Knock → Type 0
 IsAllowedAfter told shuts (Opened c) = c ≡ count_by is_opening told
 IsAllowedAfter told shuts (Bytes c n) = IsLive told shuts c
@@ -75,6 +70,7 @@ IsAllowedAfter told shuts Quiet = Unit {0}
 IsAllowedAfter told shuts Closed = Unit {0}
 IsAllowedAfter told shuts Failed = Unit {0}
 
+-- the same, where the door tells its knocks and shuts
 abbrev pub IsAllowed : Option (List Told) → Option (List (ℕ × ℕ)) → Knock → Type 0
 IsAllowed None shuts k = Unit {0}
 IsAllowed (Some told) None k = Unit {0}
@@ -127,6 +123,7 @@ silence c (knocked (trace.Gone d)) = (if d == c then knocked trace.Quiet else kn
 silence c (knocked trace.Quiet) = knocked trace.Quiet
 silence c (lost d) = lost d
 
+-- what is left once c is shut
 abbrev pub silenced : ℕ → List Told → List Told
 silenced c left = map (silence c) left
 

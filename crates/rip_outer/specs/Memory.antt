@@ -1,6 +1,6 @@
 -- What the forms in memory hold, and what a call of one does.
-use Rattle.std.specs.Prelude.{◌≡◌, ℕ, ◌+◌, ◌<◌, ◌≤◌, List, [], ◌∷◌, ◌++◌, length, Contains, Option, Some, None, IsSomeAnd, ◌⊎◌, Result, Ok, Err}
-use Rattle.rip_outer.specs.Telling.{one_more}
+use Rattle.std.specs.Prelude.{◌≡◌, ℕ, ◌+◌, ◌≤◌, List, [], ◌∷◌, ◌++◌, length, Contains, Some, None, ◌⊎◌, Result, Ok, Err}
+use Rattle.rip_outer.specs.Outside.{one_more}
 use Rattle.rip_outer.specs.Reading.{contents_of, IsTooLong}
 use Rattle.rip_outer.specs.declared.reading.NamedFile.{NamedFile}
 use Rattle.rip_outer.specs.declared.reading.FilesError.{FilesError}

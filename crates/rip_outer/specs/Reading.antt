@@ -1,7 +1,7 @@
 -- What files hold, and what reading one answers.
 use Rattle.std.specs.Prelude.{◌≡◌, ℕ, ◌<◌, List, [], ◌∷◌, length, find, nat_eq, Option, Some, None, option_map, IsSomeAnd, Result, Ok, Err}
 use Rattle.std.specs.Cmp.Lexicographic.{pointwise}
-use Rattle.rip_outer.specs.Telling.{Rose, also}
+use Rattle.rip_outer.specs.Outside.{Rose, also}
 use Rattle.rip_outer.specs.declared.reading.NamedFile.{NamedFile}
 use Rattle.rip_outer.specs.declared.reading.FilesError.{FilesError}
 use Rattle.rip_outer.specs.declared.reading.FilesError.TheVariants.{Failed, TooLong, Memory}

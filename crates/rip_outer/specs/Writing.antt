@@ -1,6 +1,6 @@
 -- What putting bytes to a sink does.
 use Rattle.std.specs.Prelude.{◌≡◌, ℕ, List, Option, Result, Ok, Err}
-use Rattle.rip_outer.specs.Telling.{Rose, Front, also}
+use Rattle.rip_outer.specs.Outside.{Rose, Front, also}
 use Rattle.rip_outer.specs.declared.writing.SinkError.{SinkError}
 use Rattle.rip_outer.specs.declared.writing.SinkError.TheVariants.{Failed, Memory}
 

@@ -48,7 +48,7 @@ pub type KnockList = List<TraceKnock>;
 /// shut.
 pub trait Door {
     ghost use Rattle.std.specs.Prelude.{◌≡◌, ◌≢◌, ◌≤◌, ℕ, Bool, List, Option, option_map};
-    ghost use Rattle.rip_outer.specs.Telling.{also, IsOver};
+    ghost use Rattle.rip_outer.specs.Outside.{also, IsOver};
     ghost use Rattle.rip_outer.specs.Connections.{Telling, Goes, telling, FitsRoom, IsAllowed, busy_told, CountsKnock};
     ghost use Rattle.rip_outer.specs.Connections.{loses, Sends, CountsSent, silenced, also_shut};
 

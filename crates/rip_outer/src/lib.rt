@@ -9,15 +9,23 @@
 
 mod connections;
 mod listed;
+mod memory_files;
 mod memory_sink;
 mod moments;
 mod nothing;
+mod pieces;
 mod reading;
+#[cfg(test)]
+mod tests;
+mod text;
 mod writing;
 
 pub use connections::{Door, Knock, KnockList, Sent, TraceKnock};
+pub use memory_files::MemoryFiles;
 pub use memory_sink::MemorySink;
 pub use moments::{Clock, Words};
 pub use nothing::{NoClock, NoDoor, NoWords};
+pub use pieces::Lines;
 pub use reading::{FileList, Files, FilesError, MAX_FILE, NamedFile};
+pub use text::lines;
 pub use writing::{Sink, SinkError};

@@ -21,7 +21,12 @@ impl Model for MemorySink {
 
     ghost Value = { SinkState };
 
-    ghost view = { λ s. record { bytes = s.bytes.items; failing = s.failing; calls = s.calls; faults = s.faults } };
+    ghost view = { λ s. record {
+      bytes = s.bytes.items;
+      failing = s.failing;
+      calls = s.calls;
+      faults = s.faults;
+    } };
 }
 
 impl MemorySink {

@@ -1,7 +1,7 @@
 /// A clock of whole milliseconds.
 pub trait Clock {
     ghost use Rattle.std.specs.Prelude.{◌≡◌, ◌+◌, ◌<◌, ◌≤◌, ◌^◌, ◌∷◌, [], ℕ, List, Option, IfSome};
-    ghost use Rattle.rip_outer.specs.Telling.{also};
+    ghost use Rattle.rip_outer.specs.Outside.{also};
 
     // The moments told so far, and the moment that call j from now on gives, from 0, each where the object tells it;
     // how many calls failed.
@@ -27,7 +27,7 @@ pub trait Clock {
 /// Random words of 64 bits.
 pub trait Words {
     ghost use Rattle.std.specs.Prelude.{◌≡◌, ◌+◌, ◌<◌, ◌≤◌, ◌^◌, ◌∷◌, [], ℕ, List, Option, IfSome};
-    ghost use Rattle.rip_outer.specs.Telling.{also};
+    ghost use Rattle.rip_outer.specs.Outside.{also};
 
     // The words told so far, and the word that call j from now on gives, from 0, each where the object tells it; how
     // many calls failed.

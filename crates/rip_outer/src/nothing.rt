@@ -1,23 +1,22 @@
 use crate::connections::{Door, Knock, Sent};
 use crate::moments::{Clock, Words};
 
-/// The door at which nobody knocks: each answer is `Closed`.
+/// The door at which nobody knocks: it is closed, and each connection is gone.
 #[derive(Clone, Copy, Debug, PartialEq, Eq)]
 pub struct NoDoor;
 
 impl Door for NoDoor {
-    ghost use Rattle.std.specs.Prelude.{◌≡◌, [], Some, None, ℕ};
-    ghost use Rattle.rip_outer.specs.Connections.{nothing_told};
+    ghost use Rattle.std.specs.Prelude.{◌≡◌, [], Some, None};
 
-    ghost knocks = { λ _. nothing_told };
+    ghost knocks = { λ _. record { told = None; left = None } };
 
     ghost asked = { λ _. Some [] };
 
     ghost sent = { λ _ _. Some [] };
 
-    ghost shuts = { λ _. Some [] };
+    ghost shuts = { λ _. None };
 
-    ghost is_open = { λ _ _. ⊥ };
+    ghost is_open = { λ _ _. Unit {0} };
 
     ghost count = { λ _. 0 };
 
@@ -25,17 +24,19 @@ impl Door for NoDoor {
         0
     }
 
-    fn next(&mut self, _room: &mut [u8; 4096], _busy: bool) -> Knock {
+    fn next(&mut self, _room: &mut [u8; 4096], _busy: bool) -> Knock
+        ensures { result ≡ Knock.Closed }
+    {
         Knock::Closed
     }
 
-    fn send(&mut self, _c: u64, _bytes: &[u8]) -> Sent {
-        unreachable!()
+    fn send(&mut self, _c: u64, _bytes: &[u8]) -> Sent
+        ensures { result ≡ Sent.Gone }
+    {
+        Sent::Gone
     }
 
-    fn shut(&mut self, _c: u64) {
-        unreachable!()
-    }
+    fn shut(&mut self, _c: u64) {}
 }
 
 /// The clock that stands at 0.
