@@ -1,3 +1,4 @@
 pub mod Name
 pub mod Call
 pub mod Batch
+pub mod Reader

@@ -6,10 +6,13 @@
 
 mod batch;
 mod call;
+mod list;
 mod name;
+mod reader;
 mod writer;
 
 pub use batch::{Batch, Item};
 pub use call::Call;
 pub use name::{MAX_NAME, Name, is_name, is_name_byte};
+pub use reader::{ReadError, Reader};
 pub use writer::Writer;

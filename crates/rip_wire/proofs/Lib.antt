@@ -1,0 +1,5 @@
+pub mod Spans
+pub mod Numerals
+pub mod Names
+pub mod Results
+pub mod Lists
