@@ -3,3 +3,9 @@ pub mod Numerals
 pub mod Names
 pub mod Results
 pub mod Lists
+pub mod Calls
+pub mod Items
+pub mod ListLaws
+pub mod Sequences
+pub mod Batches
+pub mod TextLaws

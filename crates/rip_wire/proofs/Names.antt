@@ -1,4 +1,4 @@
-use Rattle.std.proofs.Common.{◌≡◌, ◌++◌, ◌∷◌, ℕ, true, List, [], refl, sym, ◌∙◌}
+use Rattle.std.proofs.Common.{◌≡◌, ◌++◌, ◌∷◌, ℕ, true, List, [], refl, sym, ap, ◌∙◌}
 use Rattle.std.specs.List.{list_all}
 use Rattle.std.proofs.lemmas.List.{append_assoc}
 use Rattle.rip_wire.specs.Name.{IsName, is_name_byte}
@@ -13,3 +13,12 @@ name_read bytes left name front others rest opened cut passes stops h =
     let joined : (name ++ 34 ∷ []) ++ rest ≡ name ++ (34 ∷ rest) = append_assoc name (34 ∷ []) rest in
     let e : name ++ (34 ∷ rest) ≡ front ++ others = cc in
     span_same is_name_byte name front (34 ∷ rest) others h.in_range.letters passes refl stops e
+
+-- two names in quotes that make one text are equal
+pub name_same : (bytes a b r s : List ℕ) → IsTextThen quoted IsName Anything bytes a r → IsTextThen quoted IsName Anything bytes b s → (a ≡ b) × (r ≡ s)
+name_same bytes a b r s h k =
+    let read = name_read bytes (b ++ (34 ∷ s)) a b (34 ∷ s) r (k.is ∙ ap (λ bs. 34 ∷ bs) (append_assoc b (34 ∷ []) s)) refl k.in_range.letters refl h in
+    (read.0, quote_tails r s read.1)
+  where
+    quote_tails : (r s : List ℕ) → 34 ∷ r ≡ 34 ∷ s → r ≡ s
+    quote_tails r s e = cc

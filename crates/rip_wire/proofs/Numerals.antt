@@ -1,4 +1,4 @@
-use Rattle.std.proofs.Common.{◌≡◌, ◌≢◌, ◌++◌, ◌∷◌, ◌<◌, ◌≤◌, ◌^◌, ℕ, ℤ, suc, pos, negsuc, Bool, true, false, List, [], length, get_or, decimal, Option, Some, None, Result, Ok, Err, IfSome, IsNone, OnErr, MatchResult, refl, sym, ap, ◌∙◌, subst, arith, rules}
+use Rattle.std.proofs.Common.{◌≡◌, ◌≢◌, ◌++◌, ◌∷◌, ◌<◌, ◌≤◌, ◌≤ℤ◌, ◌^◌, ℕ, ℤ, suc, pos, negsuc, Bool, true, false, List, [], length, get_or, decimal, Option, Some, None, Result, Ok, Err, IfSome, IfOk, IsNone, OnErr, MatchResult, refl, sym, ap, ◌∙◌, subst, arith, rules}
 use Prim.Native.Nat.{zero}
 use denote.Ref.{Bor}
 use Rattle.std.specs.Bool.{OnTrue, OnFalse}
@@ -7,16 +7,16 @@ use Rattle.std.specs.Fmt.{signed_decimal}
 use Rattle.std.specs.List.{list_all}
 use Rattle.std.specs.Option.{ok_or}
 use Rattle.std.specs.Result.{result_ok}
-use Rattle.std.specs.Str.{IsUtf8, IsAscii}
+use Rattle.std.specs.Str.{IsUtf8}
 use Rattle.std.specs.Str.Parse.{ParsesUnsigned, digits_value}
-use Rattle.std.proofs.lemmas.Fmt.{digits_decimal, digits_value-decimal, decimal-digits_value, decimal_digit, first_decimal, decimal_nonempty, decimal_injective, IsAscii-from_digits, parse-decimal}
-use Rattle.std.proofs.lemmas.List.{append_cancel_left}
+use Rattle.std.proofs.lemmas.Fmt.{digits_decimal, decimal-digits_value, decimal_digit, first_decimal, decimal_nonempty, decimal_injective, IsAscii-from_digits, parse-decimal}
 use Rattle.std.proofs.lemmas.Bool.{false≢true}
 use Rattle.std.proofs.lemmas.Int.{ints}
 use Rattle.std.proofs.lemmas.Str.{IsUtf8-from_ascii}
 use Rattle.std.proofs.lemmas.Str.Parse.{IsNumeralModel, IsDigitsTest, numerals_by_value, parse_digits}
 use Rattle.rip_values.specs.Whole.{IsWhole}
-use Rattle.rip_wire.specs.Reader.{IsWritten, NoDigitFirst, IsTextThen, BeginsWithNone}
+use Rattle.rip_wire.specs.Reader.{IsWithin, IsWritten, NoDigitFirst, IsTextThen, IsOnlyText, BeginsWithNone}
+use Rattle.rip_wire.proofs.ListLaws.{CanBeListed}
 use Rattle.rip_wire.proofs.Spans.{both_true, span_same}
 
 tells : IsDigitsTest (λ ds. list_all is_ascii_digit ds ≡ true)
@@ -110,3 +110,52 @@ text_same U Q digits (Ok s) text cases e =
     let same : s ≡ text = cc in
     sym (ap (λ (t : Bor (List ℕ)). t.now) same) ∙ cases.0
 text_same U Q digits (Err x) text cases e = cc
+
+-- two numerals of numbers in range, behind which no digit follows, that make one text are equal
+pub number_same : (least most : ℕ) → most < 2 ^ 64 → (bytes : List ℕ) (m n : ℕ) (r s : List ℕ) → IsTextThen decimal (IsWithin least most) NoDigitFirst bytes m r → IsTextThen decimal (IsWithin least most) NoDigitFirst bytes n s → (m ≡ n) × (r ≡ s)
+number_same least most bound bytes m n r s h k =
+    decimal_same m n r s (omega arith) (omega arith) h.follows k.follows (sym h.is ∙ k.is)
+
+-- a numeral of a number out of range is none of one in range
+pub out_of_range : (least most : ℕ) → most < 2 ^ 64 → (bytes : List ℕ) (n : ℕ) (left : List ℕ) → IsTextThen decimal (λ m. m < 2 ^ 64) NoDigitFirst bytes n left → ¬ (IsWithin least most n) → BeginsWithNone decimal (IsWithin least most) NoDigitFirst bytes
+out_of_range least most bound bytes n left h outside = λ m rest k.
+    let same = decimal_same m n rest left (omega (arith, k.in_range.1)) h.in_range k.follows h.follows (sym k.is ∙ h.is) in
+    outside (subst (IsWithin least most) same.0 k.in_range)
+
+whole_magnitude : (n : ℕ) → pos n ≤ℤ pos 9007199254740991 → n < 2 ^ 64
+whole_magnitude n h = omega (arith, ints)
+
+negative_magnitude : (n : ℕ) → negsuc 9007199254740990 ≤ℤ negsuc n → suc n < 2 ^ 64
+negative_magnitude n h = omega (arith, ints)
+
+minus_tails : (bytes left others : List ℕ) → bytes ≡ 45 ∷ left → bytes ≡ 45 ∷ others → left ≡ others
+minus_tails bytes left others e f = cc
+
+-- and so of whole numbers
+pub whole_same : (bytes : List ℕ) (y z : ℤ) (r s : List ℕ) → IsTextThen signed_decimal IsWhole NoDigitFirst bytes y r → IsTextThen signed_decimal IsWhole NoDigitFirst bytes z s → (y ≡ z) × (r ≡ s)
+whole_same bytes (pos m) (pos n) r s h k =
+    let same = decimal_same m n r s (whole_magnitude m h.in_range.1) (whole_magnitude n k.in_range.1) h.follows k.follows (sym h.is ∙ k.is) in
+    (ap pos same.0, same.1)
+whole_same bytes (pos m) (negsuc n) r s h k =
+    absurd (false≢true (decimal_front m r (decimal (suc n) ++ s) 45 (whole_magnitude m h.in_range.1) (sym h.is ∙ k.is)))
+whole_same bytes (negsuc m) (pos n) r s h k =
+    absurd (false≢true (decimal_front n s (decimal (suc m) ++ r) 45 (whole_magnitude n k.in_range.1) (sym k.is ∙ h.is)))
+whole_same bytes (negsuc m) (negsuc n) r s h k =
+    let same = decimal_same (suc m) (suc n) r s (negative_magnitude m h.in_range.0) (negative_magnitude n k.in_range.0) h.follows k.follows (minus_tails bytes _ _ h.is k.is) in
+    (cc (same.0), same.1)
+
+-- the whole number that was read is the only one
+pub only_whole : {E : Type 0} (bytes : List ℕ) (r : Result ℤ E) (rest : List ℕ) → IfOk r (λ z. IsTextThen signed_decimal IsWhole NoDigitFirst bytes z rest) → IfOk r (λ z. IsOnlyText signed_decimal IsWhole NoDigitFirst bytes z rest)
+only_whole bytes (Err e) rest h = tt
+only_whole bytes (Ok z) rest h = λ y other k. whole_same bytes y z other rest k h
+
+minus_no_bracket : (left bytes : List ℕ) → 45 ∷ left ≡ 93 ∷ bytes → ⊥
+minus_no_bracket left bytes e = cc
+
+whole_opens : (z : ℤ) (rest bytes : List ℕ) → IsWhole z → signed_decimal z ++ rest ≢ 93 ∷ bytes
+whole_opens (pos n) rest bytes h e = false≢true (decimal_front n rest bytes 93 (whole_magnitude n h.1) e)
+whole_opens (negsuc n) rest bytes h e = minus_no_bracket _ bytes e
+
+-- whole numbers can be told apart in a list
+pub whole_listed : CanBeListed signed_decimal IsWhole NoDigitFirst
+whole_listed = record { comma = λ bytes. refl; bracket = λ bytes. refl; opens = whole_opens; same = whole_same }

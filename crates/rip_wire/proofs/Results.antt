@@ -1,4 +1,4 @@
-use Rattle.std.proofs.Common.{◌≡◌, Option, Some, None, Result, Ok, Err, OnErr, IsSome, sym, ◌∙◌}
+use Rattle.std.proofs.Common.{◌≡◌, Option, Some, None, Result, Ok, Err, OnErr, IsSome}
 use Rattle.std.specs.Option.{ok_or}
 use Rattle.std.specs.Result.{IsErrOf}
 

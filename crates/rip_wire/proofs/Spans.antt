@@ -1,4 +1,4 @@
-use Rattle.std.proofs.Common.{◌≡◌, ◌++◌, ◌∷◌, ◌&&◌, ℕ, ◌≤◌, Bool, true, false, List, [], length, take, drop, cond, refl, sym, ap, ◌∙◌, subst, add_comm, add-one, arith}
+use Rattle.std.proofs.Common.{◌≡◌, ◌++◌, ◌∷◌, ◌&&◌, ℕ, Bool, true, false, List, [], length, take, drop, refl, sym, ap, ◌∙◌, add_comm, add-one}
 use Rattle.std.specs.List.{list_all, take_while, prefix_len}
 use Rattle.std.proofs.lemmas.Bool.{false≢true}
 use Rattle.std.proofs.lemmas.List.Folds.{length-prefix_len}

@@ -1,4 +1,4 @@
-use Rattle.std.specs.Prelude.{◌≡◌, ◌≢◌, codes, ◌++◌, ◌∷◌, ℕ, ℤ, pos, negsuc, suc, ◌≤◌, Bool, true, false, List, [], length, ⊤}
+use Rattle.std.specs.Prelude.{◌≡◌, codes, ◌++◌, ◌∷◌, ℕ, ℤ, pos, negsuc, suc, ◌≤◌, Bool, true, false, List, [], length, ⊤}
 use Rattle.std.specs.Char.{is_ascii_digit}
 use Rattle.std.specs.List.{AllByRecursion}
 use Rattle.rip_wire.specs.Call.{separated}
@@ -21,6 +21,10 @@ abbrev pub IsWritten : Bool → ℕ → ℤ → Type 0
 IsWritten is_negative magnitude (pos n) = (is_negative ≡ false) × (n ≡ magnitude)
 IsWritten is_negative magnitude (negsuc n) = (is_negative ≡ true) × (suc n ≡ magnitude)
 
+-- a number from `least` to `most`
+abbrev pub IsWithin : ℕ → ℕ → ℕ → Type 0
+IsWithin least most n = (least ≤ n) × (n ≤ most)
+
 -- the bytes are the text of this value, which is in range, and behind it the rest, which may follow
 pub record IsTextThen {X : Type 0} (text : X → List ℕ) (IsInRange : X → Type 0) (MayFollow : List ℕ → Type 0) (bytes : List ℕ) (x : X) (rest : List ℕ) : Type 0 where
   pub in_range : IsInRange x
@@ -31,6 +35,10 @@ pub record IsTextThen {X : Type 0} (text : X → List ℕ) (IsInRange : X → Ty
 abbrev pub BeginsWithNone : {X : Type 0} → (X → List ℕ) → (X → Type 0) → (List ℕ → Type 0) → List ℕ → Type 0
 BeginsWithNone {X} text IsInRange MayFollow bytes = (x : X) (rest : List ℕ) → ¬ (IsTextThen text IsInRange MayFollow bytes x rest)
 
+-- and the bytes are the text of no other value and another rest
+abbrev pub IsOnlyText : {X : Type 0} → (X → List ℕ) → (X → Type 0) → (List ℕ → Type 0) → List ℕ → X → List ℕ → Type 0
+IsOnlyText {X} text IsInRange MayFollow bytes x rest = (y : X) (other : List ℕ) → IsTextThen text IsInRange MayFollow bytes y other → (y ≡ x) × (other ≡ rest)
+
 -- at most so many values, each in range
 pub record AreUpTo {X : Type 0} (most : ℕ) (IsInRange : X → Type 0) (xs : List X) : Type 0 where
   pub all : AllByRecursion IsInRange xs
@@ -39,11 +47,3 @@ pub record AreUpTo {X : Type 0} (most : ℕ) (IsInRange : X → Type 0) (xs : Li
 -- `[A,B,..]`
 abbrev pub list_text : {X : Type 0} → (X → List ℕ) → List X → List ℕ
 list_text text xs = codes "[" ++ separated text xs ++ codes "]"
-
--- the texts can be told apart in a list: a comma and a bracket may follow one, none begins with the closing bracket,
--- and bytes begin with the text of one value at most
-pub record CanBeListed {X : Type 0} (text : X → List ℕ) (IsInRange : X → Type 0) (MayFollow : List ℕ → Type 0) : Type 0 where
-  pub comma : (bytes : List ℕ) → MayFollow (44 ∷ bytes)
-  pub bracket : (bytes : List ℕ) → MayFollow (93 ∷ bytes)
-  pub opens : (x : X) (rest bytes : List ℕ) → IsInRange x → text x ++ rest ≢ 93 ∷ bytes
-  pub same : (bytes : List ℕ) (x y : X) (r s : List ℕ) → IsTextThen text IsInRange MayFollow bytes x r → IsTextThen text IsInRange MayFollow bytes y s → (x ≡ y) × (r ≡ s)

@@ -6,16 +6,15 @@ ghost use Rattle.std.specs.List.{list_all};
 ghost use Rattle.rip_values.specs.Whole.{IsWhole};
 ghost use Rattle.rip_wire.specs.Name.{IsName, is_name_byte};
 ghost use Rattle.rip_wire.specs.Call.{quoted};
-ghost use Rattle.rip_wire.specs.Reader.{IsWritten, NoneFirst, NoDigitFirst, Anything, IsTextThen, BeginsWithNone};
+ghost use Rattle.rip_wire.specs.Reader.{IsWithin, IsWritten, NoneFirst, NoDigitFirst, Anything, IsTextThen, BeginsWithNone};
 ghost use Rattle.rip_wire.specs.declared.reader.ReadError.TheVariants.{Memory};
 
 use crate::name::{Name, is_name_byte};
 use rip_values::{Bytes, NoMemory, Whole};
 use std::alloc::{AllocError, AllocFailed, Global};
 use std::error::Error;
-use std::fmt;
 use std::marker::Model;
-use std::str;
+use std::{fmt, str};
 
 /// Why a text was not read.
 #[derive(Clone, Copy, Debug, PartialEq, Eq)]
@@ -189,6 +188,20 @@ impl<'a> Reader<'a> {
         ensures only_form { IsOkUnless result ReadError.Form }
     {
         canonical_value(self.digits()).ok_or(ReadError::Form)
+    }
+
+    /// Takes a decimal numeral from `least` to `most`.
+    pub fn number_within(&mut self, least: u64, most: u64) -> Result<u64, ReadError>
+        ensures ok { IfOk result (λ n. IsTextThen decimal (IsWithin least most) NoDigitFirst self.old n self.new) }
+        ensures form { OnErr result (BeginsWithNone decimal (IsWithin least most) NoDigitFirst self.old) }
+        ensures only_form { IsOkUnless result ReadError.Form }
+    {
+        let number = self.number()?;
+        if least <= number && number <= most {
+            Ok(number)
+        } else {
+            Err(ReadError::Form)
+        }
     }
 
     /// Takes the decimal numeral of a whole number, with `-` in front of a negative one.

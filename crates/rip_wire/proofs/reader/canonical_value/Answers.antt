@@ -1,5 +1,4 @@
-use Rattle.std.proofs.Common.{◌≡◌, ◌≤◌, length, get_or, sym, ◌∙◌, subst, arith}
-use Rattle.std.specs.Str.Parse.{ParsesUnsigned}
+use Rattle.std.proofs.Common.{◌≡◌, ◌≤◌, length, get_or, sym, ◌∙◌, arith}
 use Rattle.rip_wire.proofs.Numerals.{no_zero_first, refused_no_digits, parsed_value, parsed_none, text_same}
 use Rattle.rip_wire.proofs.reader.canonical_value.Goals as goal
 use Rattle.rip_wire.proofs.reader.canonical_value.Goals.{else-digits-gt1-via-then-digits-gt1+else-digits-eq48, else-digits-gt1-via-else-digits-gt1}
