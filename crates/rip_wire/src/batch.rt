@@ -1,10 +1,25 @@
-ghost use Rattle.std.specs.Prelude.{◌≡◌, ◌++◌, OnOk};
+ghost use Rattle.std.specs.Prelude.{◌≡◌, ◌++◌, OnOk, IfOk, IsErrOf};
 ghost use Rattle.rip_wire.specs.Call.{separated};
 ghost use Rattle.rip_wire.specs.Batch.{item_text};
+ghost use Rattle.rip_wire.specs.Texts.{IsBatchText, IsNoBatchText, CallTextsTellApart, BatchTextsTellApart};
 
 use crate::call::Call;
+use crate::list::{Element, read_list};
+use crate::reader::{ReadError, Reader};
 use crate::writer::Writer;
 use rip_values::{List, NoMemory};
+use std::alloc::Global;
+use std::error::Error;
+use std::fmt;
+
+/// The most items that a batch has.
+pub const MAX_ITEMS: usize = 64;
+
+/// The greatest number of a call.
+pub const MAX_CALL_NUMBER: u64 = 4_294_967_295;
+
+/// The greatest number of a batch.
+pub const MAX_BATCH_NUMBER: u64 = 9_007_199_254_740_991;
 
 /// What a browser reports, in the order in which it happened.
 #[derive(Debug, Drop)]
@@ -18,6 +33,39 @@ pub enum Item {
 pub struct Batch {
     pub number: u64,
     pub items: List<Item>,
+}
+
+/// Why a request's body was not read.
+#[derive(Clone, Copy, Debug, PartialEq, Eq)]
+pub enum WireError {
+    /// The body is the text of no batch in range.
+    Body,
+    /// Want of memory.
+    Memory,
+}
+
+impl fmt::Display for WireError {
+    fn fmt<W: fmt::Write>(&self, f: &mut fmt::Formatter<W>) -> fmt::Result {
+        match self {
+            WireError::Body => f.write_str("the body is no batch"),
+            WireError::Memory => f.write_str("out of memory"),
+        }
+    }
+}
+
+impl Error for WireError {}
+
+impl From<ReadError> for WireError {
+    ghost use Rattle.rip_wire.specs.WireError.{wire_error_of};
+
+    ghost from_gives = { λ e w. w ≡ wire_error_of e };
+
+    fn from(error: ReadError) -> WireError {
+        match error {
+            ReadError::Form => WireError::Body,
+            ReadError::Memory => WireError::Memory,
+        }
+    }
 }
 
 impl Item {
@@ -37,6 +85,23 @@ impl Item {
     }
 }
 
+impl Element for Item {
+    ghost use Rattle.rip_wire.specs.Batch.{item_text, IsItem};
+
+    ghost text = { item_text };
+
+    ghost in_range = { IsItem };
+
+    fn read(reader: &mut Reader<'_>, alloc: Global) -> Result<Item, ReadError> {
+        reader.expect(b"[\"call\",")?;
+        let number = reader.number_within(0, MAX_CALL_NUMBER)?;
+        reader.expect(b",")?;
+        let call = Call::read_parts(reader, alloc)?;
+        reader.expect(b"]")?;
+        Ok(Item::ReportedCall { number, call })
+    }
+}
+
 /// Writes items with a comma between two.
 fn write_items(items: &[Item], out: &mut Writer) -> Result<(), NoMemory>
     ensures { OnOk result (out.new ≡ out.old ++ separated item_text items.now) }
@@ -53,7 +118,8 @@ fn write_items(items: &[Item], out: &mut Writer) -> Result<(), NoMemory>
 }
 
 impl Batch {
-    ghost use Rattle.rip_wire.specs.Batch.{items_text};
+    ghost use Rattle.rip_wire.specs.Batch.{items_text, batch_text, IsBatch};
+    ghost use Rattle.rip_wire.specs.Reader.{Anything, IsTextThen, BeginsWithNone};
 
     /// Writes the items, `[ITEM,ITEM,..]`.
     pub fn write_items(&self, out: &mut Writer) -> Result<(), NoMemory>
@@ -63,4 +129,37 @@ impl Batch {
         write_items(self.items.as_slice(), out)?;
         out.text(b"]")
     }
+
+    /// Takes `{"batch":N,"items":[..]}`.
+    pub fn read(reader: &mut Reader<'_>, alloc: Global) -> Result<Batch, ReadError>
+        ensures ok { IfOk result (λ b. IsTextThen batch_text IsBatch Anything reader.old b reader.new) }
+        ensures form { IsErrOf result ReadError.Form → BeginsWithNone batch_text IsBatch Anything reader.old }
+    {
+        reader.expect(b"{\"batch\":")?;
+        let number = reader.number_within(1, MAX_BATCH_NUMBER)?;
+        reader.expect(b",\"items\":")?;
+        let items = read_list(reader, alloc, MAX_ITEMS)?;
+        reader.expect(b"}")?;
+        Ok(Batch { number, items })
+    }
 }
+
+/// The batch that a request's body is the text of.
+pub fn read_batch(alloc: Global, body: &[u8]) -> Result<Batch, WireError>
+    ensures ok { IfOk result (λ b. IsBatchText body.now b) }
+    ensures body { IsErrOf result WireError.Body → IsNoBatchText body.now }
+{
+    let mut reader = Reader::new(body);
+    let batch = Batch::read(&mut reader, alloc)?;
+    if reader.is_at_end() {
+        Ok(batch)
+    } else {
+        Err(WireError::Body)
+    }
+}
+
+/// The law of the texts: a text is that of one call or batch in range at most.
+pub fn texts_tell_apart()
+    ensures calls { CallTextsTellApart }
+    ensures batches { BatchTextsTellApart }
+{}

@@ -1,11 +1,16 @@
-ghost use Rattle.std.specs.Prelude.{◌≡◌, ◌++◌, OnOk, IfOk};
+ghost use Rattle.std.specs.Prelude.{◌≡◌, ◌++◌, OnOk, IfOk, IsErrOf};
 ghost use Rattle.std.specs.Fmt.{signed_decimal};
 ghost use Rattle.rip_wire.specs.Call.{arguments_text, separated};
 
+use crate::list::read_list;
 use crate::name::Name;
+use crate::reader::{ReadError, Reader};
 use crate::writer::Writer;
 use rip_values::{Bytes, List, NoMemory, Whole};
 use std::alloc::Global;
+
+/// The most arguments that a call has.
+pub const MAX_ARGUMENTS: usize = 8;
 
 /// A call of a remote function, by its name and arguments.
 #[derive(Debug, Drop)]
@@ -30,7 +35,8 @@ fn write_numbers(numbers: &[Whole], out: &mut Writer) -> Result<(), NoMemory>
 }
 
 impl Call {
-    ghost use Rattle.rip_wire.specs.Call.{quoted, call_parts, call_text};
+    ghost use Rattle.rip_wire.specs.Call.{quoted, call_parts, call_text, IsCall};
+    ghost use Rattle.rip_wire.specs.Reader.{Anything, IsTextThen, BeginsWithNone};
 
     /// Writes `"NAME"`.
     pub fn write_name(&self, out: &mut Writer) -> Result<(), NoMemory>
@@ -75,5 +81,16 @@ impl Call {
         let mut out = Writer::new(alloc);
         self.write(&mut out)?;
         Ok(out.into_bytes())
+    }
+
+    /// Takes `"NAME",[ARGS]`.
+    pub fn read_parts(reader: &mut Reader<'_>, alloc: Global) -> Result<Call, ReadError>
+        ensures ok { IfOk result (λ call. IsTextThen call_parts IsCall Anything reader.old call reader.new) }
+        ensures form { IsErrOf result ReadError.Form → BeginsWithNone call_parts IsCall Anything reader.old }
+    {
+        let name = reader.name(alloc)?;
+        reader.expect(b",")?;
+        let args = read_list(reader, alloc, MAX_ARGUMENTS)?;
+        Ok(Call { name, args })
     }
 }

@@ -6,10 +6,16 @@
 
 mod batch;
 mod call;
+mod list;
 mod name;
+mod reader;
 mod writer;
 
-pub use batch::{Batch, Item};
-pub use call::Call;
+pub use batch::{
+    Batch, Item, MAX_BATCH_NUMBER, MAX_CALL_NUMBER, MAX_ITEMS, WireError, read_batch,
+    texts_tell_apart,
+};
+pub use call::{Call, MAX_ARGUMENTS};
 pub use name::{MAX_NAME, Name, is_name, is_name_byte};
+pub use reader::{ReadError, Reader};
 pub use writer::Writer;
