@@ -1,21 +1,20 @@
 -- A run of the server is a legal course.
-use Rattle.std.proofs.Common.{◌≡◌, ◌≢◌, ℕ, ◌+◌, ◌-◌, ◌<◌, ◌≤◌, Bool, true, false, cond, List, [], ◌∷◌, ◌++◌, length, take, map, Option, refl, sym, ap, ◌∙◌, subst, arith, suc, zero, ◌&&◌, ◌==◌, ◌⊎◌, inl, inr, append-nil, append_assoc, length-append}
-use Rattle.std.specs.Prelude.{Some, None, slice_get, option_map}
+use Rattle.std.proofs.Common.{◌≡◌, ℕ, ◌+◌, ◌-◌, ◌≤◌, Bool, true, false, cond, List, [], ◌∷◌, ◌++◌, length, take, map, refl, sym, ap, ◌∙◌, subst, arith, ◌==◌, ◌⊎◌, inl, inr, append-nil, append_assoc, length-append}
+use Rattle.std.specs.Prelude.{slice_get, option_map}
 use Rattle.std.proofs.lemmas.Bool.{eqb-true, false≢true, cases_lt}
 use Rattle.std.proofs.lemmas.Bool.Decides.{Decides-eqb}
 use Rattle.std.proofs.lemmas.Option.{slice_get_past}
 use Rattle.std.proofs.lemmas.List.{take_all, length-map}
 use Rattle.rip_wire.specs.declared.batch.Batch.{Batch}
 use Rattle.rip_wire.specs.declared.batch.Item.{Item}
-use Rattle.rip_log.specs.declared.entry.Entry.{Entry}
 use Rattle.rip_log.specs.declared.entry.Entry.TheVariants.{Admitted, Done, Ended}
 use Rattle.rip_server.specs.Opening.{opening_entries}
-use Rattle.rip_server.specs.Served.{reported, reported_call, IsServed, Lives, served_entry, ending_of, batch_entries, session_entries}
+use Rattle.rip_server.specs.Served.{reported, reported_call, IsServed, served_entry, ending_of, batch_entries, session_entries}
 use Rattle.rip_server.specs.Course.{Admissions, batches_of, IsNext, Admits, Course}
-use Rattle.rip_server.specs.Steps.{admits, after_items, after_batch, item_entries, step_entries, run_entries, opened, run_history}
+use Rattle.rip_server.specs.Steps.{admits, after_items, item_entries, step_entries, run_entries, opened, run_history}
 use Rattle.rip_server.specs.declared.session.Session.{Session}
 use Rattle.rip_server.proofs.ItemLemmas.{admitted_step}
-use Rattle.rip_server.proofs.MatchLemmas.{matched, Matches, matched_matches, items_are, both, joined}
+use Rattle.rip_server.proofs.MatchLemmas.{matched, matched_matches, items_are, both, joined}
 use Rattle.rip_server.proofs.StandingLemmas.{after_are, reported-push, Standing, lives, dies, standing_admitted}
 
 -- so many calls are served in all that of a batch's items those at its front are which are served

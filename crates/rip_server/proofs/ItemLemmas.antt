@@ -1,11 +1,10 @@
 -- What an item does to the rest of its batch.
-use Rattle.std.proofs.Common.{◌≡◌, ℕ, ◌+◌, ◌<◌, ◌≤◌, Bool, true, false, cond, List, [], ◌∷◌, ◌++◌, length, get_or, take, drop, map, refl, sym, ap, ◌∙◌, arith, add-one, suc}
-use Rattle.std.specs.Prelude.{Some, None}
+use Rattle.std.proofs.Common.{◌≡◌, ℕ, ◌+◌, ◌<◌, true, false, cond, List, [], ◌∷◌, ◌++◌, length, get_or, take, drop, sym, ap, ◌∙◌, arith, add-one, suc}
+use Rattle.std.specs.Prelude.{Some}
 use Rattle.std.proofs.Math.Seq.{drop-cons}
 use Rattle.std.proofs.lemmas.Grind.{common_steps}
 use Rattle.rip_wire.specs.declared.batch.Batch.{Batch}
 use Rattle.rip_wire.specs.declared.batch.Item.{Item}
-use Rattle.rip_log.specs.declared.entry.Entry.{Entry}
 use Rattle.rip_log.specs.declared.entry.Entry.TheVariants.{Admitted, Done}
 use Rattle.rip_server.specs.Served.{served_entry, ending_of}
 use Rattle.rip_server.specs.Steps.{serves, item_entries, after_items, admits, step_entries}

@@ -1,11 +1,10 @@
 -- The calls of a batch beside those that the script makes.
-use Rattle.std.proofs.Common.{◌≡◌, ◌≢◌, ℕ, ◌+◌, ◌<◌, ◌≤◌, Bool, true, false, cond, List, [], ◌∷◌, ◌++◌, length, take, map, Option, refl, sym, ap, ◌∙◌, subst, arith, suc, zero, ◌&&◌, ◌==◌, eqb, Decides}
+use Rattle.std.proofs.Common.{◌≡◌, ◌≢◌, ℕ, ◌+◌, ◌<◌, ◌≤◌, Bool, true, false, cond, List, [], ◌∷◌, ◌++◌, length, take, map, Option, refl, sym, ap, ◌∙◌, arith, suc, zero, ◌&&◌, ◌==◌}
 use Rattle.std.specs.Prelude.{Some, None, slice_get, option_map, nat_eq, unwrap_or}
 use Rattle.std.specs.List.{enumerate_from}
 use Rattle.std.specs.Cmp.Lexicographic.{pointwise}
 use Rattle.std.proofs.lemmas.Bool.{eqb-true, false≢true}
 use Rattle.std.proofs.lemmas.Bool.Decides.{Decides-eqb}
-use Rattle.std.proofs.lemmas.Option.{slice_get_within, slice_get_past, slice_get-map}
 use Rattle.std.proofs.lemmas.Slice.Eq.{bytes_eq-Decides}
 use Rattle.rip_wire.specs.Call.{call_text}
 use Rattle.rip_wire.specs.declared.batch.Item.{Item}
@@ -13,8 +12,7 @@ use Rattle.rip_wire.specs.declared.batch.Item.TheVariants.{ReportedCall}
 use Rattle.rip_log.specs.declared.entry.Entry.{Entry}
 use Rattle.rip_log.specs.declared.entry.Entry.TheVariants.{Done}
 use Rattle.rip_server.specs.Served.{numbered, reported_call, served_entry, ending_of}
-use Rattle.rip_server.specs.Steps.{is_made, serves, item_entries, after_items}
-use Rattle.rip_server.specs.declared.session.Session.{Session}
+use Rattle.rip_server.specs.Steps.{is_made, serves, item_entries}
 
 -- a call with its number
 abbrev pub with_number : ℕ → List ℕ → ℕ × List ℕ

@@ -1,20 +1,15 @@
 -- What a session's state says of the batches that were admitted.
-use Rattle.std.proofs.Common.{◌≡◌, ◌≢◌, ℕ, ◌+◌, ◌-◌, ◌<◌, ◌≤◌, Bool, true, false, cond, List, [], ◌∷◌, ◌++◌, length, take, map, Option, refl, sym, ap, ◌∙◌, subst, arith, suc, zero, ◌&&◌, ◌==◌, ◌⊎◌, inl, inr, append-nil, append_assoc, length-append}
-use Rattle.std.specs.Prelude.{Some, None, slice_get, option_map}
-use Rattle.std.specs.List.{flat_map}
-use Rattle.std.proofs.lemmas.Bool.{eqb-true, false≢true, cases_lt}
-use Rattle.std.proofs.lemmas.Option.{slice_get_past}
-use Rattle.std.proofs.lemmas.List.{take_all, length-map}
+use Rattle.std.proofs.Common.{◌≡◌, ℕ, ◌+◌, ◌-◌, ◌<◌, Bool, true, false, cond, List, [], ◌∷◌, ◌++◌, length, map, refl, sym, ap, ◌∙◌, subst, arith, suc, zero, inl, inr, append-nil, append_assoc, length-append}
+use Rattle.std.specs.Prelude.{slice_get}
+use Rattle.std.proofs.lemmas.Bool.{false≢true, cases_lt}
+use Rattle.std.proofs.lemmas.List.{length-map}
 use Rattle.rip_wire.specs.declared.batch.Batch.{Batch}
 use Rattle.rip_wire.specs.declared.batch.Item.{Item}
-use Rattle.rip_log.specs.declared.entry.Entry.{Entry}
-use Rattle.rip_log.specs.declared.entry.Entry.TheVariants.{Admitted, Done}
-use Rattle.rip_server.specs.Served.{numbered, reported, reported_call, IsServed, Lives, served_entry, ending_of, batch_entries, session_entries}
-use Rattle.rip_server.specs.Course.{Admissions, batches_of, IsNext, Admits}
-use Rattle.rip_server.specs.Steps.{serves, admits, after_items, after_batch, item_entries, step_entries, run_entries}
+use Rattle.rip_server.specs.Served.{numbered, reported, reported_call, IsServed, Lives}
+use Rattle.rip_server.specs.Course.{Admissions, batches_of}
+use Rattle.rip_server.specs.Steps.{serves, after_items}
 use Rattle.rip_server.specs.declared.session.Session.{Session}
-use Rattle.rip_server.proofs.ItemLemmas.{admitted_step}
-use Rattle.rip_server.proofs.MatchLemmas.{matched, Matches, matched_matches, items_are}
+use Rattle.rip_server.proofs.MatchLemmas.{matched, Matches, matched_matches}
 
 -- what items leave of a session
 pub record After (made : List (List ℕ)) (s after : Session) (items : List Item) : Type 0 where

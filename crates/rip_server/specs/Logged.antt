@@ -1,5 +1,5 @@
 use Rattle.std.specs.Prelude.{◌≡◌, ℕ, List, Option, Result, Ok, Err}
-use Rattle.rip_outer.specs.Telling.{Front, also}
+use Rattle.rip_outer.specs.Outside.{Front, also}
 use Rattle.rip_outer.specs.declared.writing.SinkError.{SinkError}
 use Rattle.rip_log.specs.History.{history_text}
 use Rattle.rip_log.specs.declared.entry.Entry.{Entry}

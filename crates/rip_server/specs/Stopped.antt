@@ -1,5 +1,5 @@
 use Rattle.std.specs.Prelude.{◌≡◌, ℕ, List, Option}
-use Rattle.rip_outer.specs.Telling.{Rose, Front, also}
+use Rattle.rip_outer.specs.Outside.{Rose, Front, also}
 use Rattle.rip_log.specs.History.{history_text}
 use Rattle.rip_log.specs.declared.entry.Entry.{Entry}
 use Rattle.rip_server.specs.declared.trace.Stop.{Stop}

@@ -1,4 +1,4 @@
-use Rattle.std.proofs.Common.{◌≡◌, ◌+◌, ◌++◌, take, drop, refl, sym, ap, ◌∙◌, arith, rules}
+use Rattle.std.proofs.Common.{◌+◌, take, drop, refl, ap, ◌∙◌, arith}
 use Rattle.std.specs.Prelude.{Ok}
 use Rattle.rip_server.specs.Steps.{run_entries, step_entries, after_batch, opened}
 use Rattle.rip_server.proofs.LoggedLemmas.{logged_part, logged_rest, also-nil}

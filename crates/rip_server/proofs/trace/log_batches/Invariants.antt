@@ -1,6 +1,6 @@
-use Rattle.std.proofs.Common.{◌≡◌, ◌+◌, ◌++◌, take, drop, map}
+use Rattle.std.proofs.Common.{◌≡◌, take, drop}
 use Rattle.std.specs.List.{AllByRecursion}
-use Rattle.rip_outer.specs.Telling.{also}
+use Rattle.rip_outer.specs.Outside.{also}
 use Rattle.rip_log.specs.History.{history_text}
 use Rattle.rip_wire.specs.Batch.{IsBatch}
 use Rattle.rip_server.specs.Steps.{run_entries, opened}

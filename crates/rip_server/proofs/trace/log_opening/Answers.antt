@@ -1,7 +1,7 @@
 use Rattle.std.proofs.Common.{[], ◌∷◌, refl}
 use Rattle.std.specs.Prelude.{None, Ok}
 use Rattle.rip_log.specs.declared.entry.Entry.TheVariants.{Opened, Done}
-use Rattle.rip_server.specs.Opening.{identifier, opening_entries}
+use Rattle.rip_server.specs.Opening.{identifier}
 use Rattle.rip_server.proofs.LoggedLemmas.{logged_cut, logged_last, takes_one, also-nil}
 use Rattle.rip_server.proofs.trace.log_opening.Goals as goal
 

@@ -1,12 +1,9 @@
-use Rattle.std.proofs.Common.{◌≡◌, ℕ, ◌+◌, List, [], ◌∷◌, ◌++◌, map, take, drop, sym, ap, ◌∙◌, arith, rules, append_assoc}
+use Rattle.std.proofs.Common.{◌≡◌, ◌+◌, [], ◌∷◌, ◌++◌, map, take, drop, sym, ap, ◌∙◌, arith, rules, append_assoc}
 use Rattle.std.specs.Prelude.{Some, None, Ok}
 use Rattle.std.proofs.lemmas.List.{drop_all, map_push}
-use Rattle.rip_outer.specs.Telling.{also}
-use Rattle.rip_log.specs.History.{history_text}
-use Rattle.rip_log.specs.declared.entry.Entry.{Entry}
 use Rattle.rip_log.specs.declared.entry.Entry.TheVariants.{Done}
-use Rattle.rip_server.specs.Served.{served_entry, ending_of}
-use Rattle.rip_server.specs.Steps.{item_entries, after_items}
+use Rattle.rip_server.specs.Served.{served_entry}
+use Rattle.rip_server.specs.Steps.{item_entries}
 use Rattle.rip_server.proofs.LoggedLemmas.{logged_last, logged_cut}
 use Rattle.rip_server.proofs.ItemLemmas.{take_step, item_served, item_ends, after_served}
 use Rattle.rip_server.proofs.session.Session.serve_items.Goals as goal

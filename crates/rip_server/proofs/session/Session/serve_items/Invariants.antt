@@ -1,5 +1,5 @@
 use Rattle.std.proofs.Common.{◌≡◌, ◌+◌, ◌++◌, take, drop, map}
-use Rattle.rip_outer.specs.Telling.{also}
+use Rattle.rip_outer.specs.Outside.{also}
 use Rattle.rip_log.specs.History.{history_text}
 use Rattle.rip_server.specs.Served.{served_entry}
 use Rattle.rip_server.specs.Steps.{item_entries, after_items}
