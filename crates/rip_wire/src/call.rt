@@ -45,7 +45,7 @@ pub fn write_arguments(args: &List<Whole>, out: &mut Writer) -> Result<(), NoMem
 
 impl Call {
     ghost use Rattle.rip_wire.specs.Call.{call_parts, call_text, IsCall};
-    ghost use Rattle.rip_wire.specs.Reader.{Anything, IsTextThen, BeginsWithNone};
+    ghost use Rattle.rip_wire.specs.Reader.{Anything, IsTextThen, IsOnlyText, BeginsWithNone};
 
     /// Writes `"NAME",[ARGS]`.
     pub fn write_parts(&self, out: &mut Writer) -> Result<(), NoMemory>
@@ -78,6 +78,7 @@ impl Call {
     /// Takes `"NAME",[ARGS]`.
     pub fn read_parts(reader: &mut Reader<'_>, alloc: Global) -> Result<Call, ReadError>
         ensures ok { IfOk result (λ call. IsTextThen call_parts IsCall Anything reader.old call reader.new) }
+        ensures only { IfOk result (λ call. IsOnlyText call_parts IsCall Anything reader.old call reader.new) }
         ensures form { IsErrOf result ReadError.Form → BeginsWithNone call_parts IsCall Anything reader.old }
     {
         let name = reader.name(alloc)?;
