@@ -1,5 +1,5 @@
-use Rattle.std.proofs.Common.{◌≡◌, ◌≢◌, ◌++◌, ◌∷◌, ◌<◌, ◌≤◌, ◌+◌, ℕ, List, [], length, codes, refl, sym, ap, ◌∙◌, arith}
-use Rattle.std.specs.List.{flat_map, AllByRecursion}
+use Rattle.std.proofs.Common.{◌≡◌, ◌≢◌, ◌++◌, ◌∷◌, ◌<◌, ◌≤◌, ℕ, List, [], length, codes, refl, sym, ap, ◌∙◌, arith}
+use Rattle.std.specs.List.{AllByRecursion}
 use Rattle.std.proofs.lemmas.List.{append_assoc, append-nil, append_cancel_left, length-append}
 use Rattle.std.proofs.lemmas.List.Concat.{flat_map-append}
 use Rattle.rip_wire.specs.Call.{call_parts, IsCall}
@@ -22,7 +22,7 @@ pub record Found (bytes : List ℕ) (items : List Call) (left : List ℕ) : Type
   pub only : (xs : List Call) (rest : List ℕ) → IsTextThen statements_text (AreUpTo 64 IsCall) NoStatementFirst bytes xs rest → Front xs items rest left
 
 -- a text of three parts, more text, and what is behind it
-four_parts : (l a n b rest : List ℕ) → (((l ++ a) ++ n) ++ b) ++ rest ≡ l ++ (a ++ (n ++ (b ++ rest)))
+pub four_parts : (l a n b rest : List ℕ) → (((l ++ a) ++ n) ++ b) ++ rest ≡ l ++ (a ++ (n ++ (b ++ rest)))
 four_parts l a n b rest =
     append_assoc ((l ++ a) ++ n) b rest ∙ append_assoc (l ++ a) n (b ++ rest) ∙ append_assoc l a (n ++ (b ++ rest))
 
@@ -40,7 +40,7 @@ found_none bytes = record {
   all = tt;
   few = omega arith;
   is = refl;
-  only = λ xs rest h. record { more = xs; is = refl; all = h.in_range.all; left = h.is }
+  only = λ xs rest h. record { more = xs; is = refl; all = h.in_range.all; left = h.is };
 }
 
 -- the bytes behind `ripley.call(`, where a call is to be found
@@ -60,7 +60,7 @@ front_next left opened closing after rest items c xs (m ∷ more) cut only close
       more = more;
       is = is ∙ ap (λ z. items ++ (z ∷ more)) same.0 ∙ sym (append_assoc items (c ∷ []) more);
       all = all.1;
-      left = after_part closing (codes ",null);") after (statements_text more ++ rest) closed (sym same.1)
+      left = after_part closing (codes ",null);") after (statements_text more ++ rest) closed (sym same.1);
     }
 
 joined : (a l b n after : List ℕ) → a ++ (l ++ (b ++ (n ++ after))) ≡ (a ++ (((l ++ b) ++ n) ++ [])) ++ after
@@ -72,7 +72,7 @@ found_more bytes left opened closing after items c f room cut read only closed =
   all = all_push items c f.all read.in_range;
   few = omega (arith, length-append items (c ∷ []));
   is = f.is ∙ ap (λ bs. statements_text items ++ bs) (cut ∙ ap (λ bs. codes "ripley.call(" ++ bs) (read.is ∙ ap (λ bs. call_parts c ++ bs) closed)) ∙ (rw (flat_map-append statement_text items (c ∷ [])) (joined (statements_text items) (codes "ripley.call(") (call_parts c) (codes ",null);") after));
-  only = λ xs rest h. let g = f.only xs rest h in front_next left opened closing after rest items c xs g.more cut only closed h.follows g.is g.all g.left
+  only = λ xs rest h. let g = f.only xs rest h in front_next left opened closing after rest items c xs g.more cut only closed h.follows g.is g.all g.left;
 }
 
 -- no list of calls begins so if as many as may stand there are followed by another
@@ -101,6 +101,11 @@ refused_close bytes left opened closing items c found cut only absent =
     by : (more : List Call) (rest : List ℕ) → AllByRecursion IsCall more → left ≡ statements_text more ++ rest → NoStatementFirst rest → ⊥
     by [] rest all e stops = stops opened (sym e ∙ cut)
     by (m ∷ more) rest all e stops = absent _ (sym (only m _ (opened_call left opened rest m more cut all e)).1)
+
+-- where no statement follows, the calls that were found are the statements' calls
+pub found_end : (bytes left : List ℕ) (items : List Call) → Found bytes items left → NoStatementFirst left → IsTextThen statements_text (AreUpTo 64 IsCall) NoStatementFirst bytes items left
+found_end bytes left items found stops =
+    record { in_range = record { all = found.all; few = found.few }; follows = stops; is = found.is }
 
 -- where no statement follows, the calls that were found are the only ones
 pub found_only : (bytes left : List ℕ) (items : List Call) → Found bytes items left → NoStatementFirst left → IsOnlyText statements_text (AreUpTo 64 IsCall) NoStatementFirst bytes items left

@@ -22,7 +22,7 @@ IsTextOf bytes text = (bytes ≡ text) ⊎ (bytes ≡ text ++ 10 ∷ [])
 -- the page's bytes are a spelling of these calls, of which there are at most 64
 pub record IsPage (bytes : List ℕ) (calls : List Call) : Type 0 where
   pub spelled : IsTextOf bytes (page_text calls)
-  pub calls : AllByRecursion IsCall calls
+  pub in_range : AllByRecursion IsCall calls
   pub few : length calls ≤ 64
 
 -- the page's bytes are a spelling of some calls

@@ -6,6 +6,8 @@
 
 mod app;
 mod page;
+#[cfg(test)]
+mod tests;
 
 pub use app::{App, AppRefusal, load};
 pub use page::{MAX_CALLS, pages_tell_apart};

@@ -23,7 +23,7 @@ const MANIFEST: &[u8] = b"{\"version\":1,\"functions\":{},\"limits\":{}}";
 fn is_end(rest: &[u8]) -> bool
     ensures { IsTrue result ↔ IsEnd rest.now }
 {
-    rest.is_empty() || rest == b"\n"
+    rest.is_empty() || rest == b"\n".as_slice()
 }
 
 /// Takes the statements that make calls, as many as there are.
