@@ -4,7 +4,7 @@ use Rattle.std.proofs.lemmas.List.{append_assoc}
 use Rattle.rip_values.specs.Whole.{IsWhole}
 use Rattle.rip_wire.specs.Name.{IsName}
 use Rattle.rip_wire.specs.Call.{quoted, arguments_text, call_parts, IsCall}
-use Rattle.rip_wire.specs.Reader.{IsTextThen, BeginsWithNone, Anything, AreUpTo, NoDigitFirst}
+use Rattle.rip_wire.specs.Reader.{IsTextThen, IsOnlyText, BeginsWithNone, Anything, AreUpTo, NoDigitFirst}
 use Rattle.rip_wire.specs.declared.call.Call.{Call}
 use Rattle.rip_wire.proofs.Numerals.{whole_listed}
 use Rattle.rip_wire.proofs.Names.{name_same}
@@ -63,3 +63,8 @@ parts_same bytes c d r s h k =
     let second : IsTextThen arguments_text (AreUpTo 8 IsWhole) Anything (arguments_text c.args ++ r) d.args s = record { in_range = record { all = k.in_range.args; few = k.in_range.few }; follows = tt; is = tails } in
     let args = list_same signed_decimal IsWhole NoDigitFirst whole_listed 8 (arguments_text c.args ++ r) c.args d.args r s (parts_args r c h.in_range) second in
     (call_from_fields c d name.0 args.0, args.1)
+
+-- the call that was read is the only one
+pub only_parts : (bytes name_rest others rest : List ℕ) (c : Call) → IsTextThen quoted IsName Anything bytes c.name name_rest → name_rest ≡ 44 ∷ others → IsTextThen arguments_text (AreUpTo 8 IsWhole) Anything others c.args rest → IsOnlyText call_parts IsCall Anything bytes c rest
+only_parts bytes name_rest others rest c name comma args =
+    λ d other k. parts_same bytes d c other rest k (parts_join bytes name_rest others rest c name comma args)

@@ -1,6 +1,7 @@
 use Rattle.std.specs.Prelude.{◌≡◌, ℕ, List}
-use Rattle.rip_wire.specs.Call.{call_text, IsCall}
+use Rattle.rip_wire.specs.Call.{call_parts, call_text, IsCall}
 use Rattle.rip_wire.specs.Batch.{batch_text, IsBatch}
+use Rattle.rip_wire.specs.Reader.{IsTextThen, Anything}
 use Rattle.rip_wire.specs.declared.call.Call.{Call}
 use Rattle.rip_wire.specs.declared.batch.Batch.{Batch}
 
@@ -12,6 +13,10 @@ pub record IsBatchText (body : List ℕ) (b : Batch) : Type 0 where
 -- the body is the text of no batch in range
 abbrev pub IsNoBatchText : List ℕ → Type 0
 IsNoBatchText body = (b : Batch) → ¬ (IsBatchText body b)
+
+-- bytes begin with the parts of one call in range at most
+abbrev pub CallPartsTellApart : Type 0
+CallPartsTellApart = (bytes : List ℕ) (c d : Call) (r s : List ℕ) → IsTextThen call_parts IsCall Anything bytes c r → IsTextThen call_parts IsCall Anything bytes d s → (c ≡ d) × (r ≡ s)
 
 -- two calls in range with one text are equal
 abbrev pub CallTextsTellApart : Type 0

@@ -1,7 +1,7 @@
 ghost use Rattle.std.specs.Prelude.{◌≡◌, ◌++◌, OnOk, IfOk, IsErrOf};
 ghost use Rattle.rip_wire.specs.Call.{separated};
 ghost use Rattle.rip_wire.specs.Batch.{item_text};
-ghost use Rattle.rip_wire.specs.Texts.{IsBatchText, IsNoBatchText, CallTextsTellApart, BatchTextsTellApart};
+ghost use Rattle.rip_wire.specs.Texts.{IsBatchText, IsNoBatchText, CallPartsTellApart, CallTextsTellApart, BatchTextsTellApart};
 
 use crate::call::Call;
 use crate::list::{Element, read_list};
@@ -160,6 +160,78 @@ pub fn read_batch(alloc: Global, body: &[u8]) -> Result<Batch, WireError>
 
 /// The law of the texts: a text is that of one call or batch in range at most.
 pub fn texts_tell_apart()
+    ensures parts { CallPartsTellApart }
     ensures calls { CallTextsTellApart }
     ensures batches { BatchTextsTellApart }
 {}
+
+#[cfg(test)]
+mod tests {
+    use super::*;
+    use std::test::Fail;
+
+    /// The number of the batch that a body is read as, and how many items it has.
+    fn read(alloc: Global, body: &str) -> Result<(u64, usize), WireError> {
+        let batch = read_batch(alloc, body.as_bytes())?;
+        Ok((batch.number, batch.items.len()))
+    }
+
+    #[test]
+    fn bodies_are_read(rt: HostRuntime) -> Result<(), Fail> {
+        let alloc = rt.alloc();
+        for (body, number, items) in [
+            ("{\"batch\":1,\"items\":[]}", 1, 0),
+            (
+                "{\"batch\":9007199254740991,\"items\":[[\"call\",0,\"f\",[]]]}",
+                9_007_199_254_740_991,
+                1,
+            ),
+            (
+                "{\"batch\":1,\"items\":[[\"call\",1,\"f\",[1]],[\"call\",2,\"f\",[3]]]}",
+                1,
+                2,
+            ),
+            (
+                "{\"batch\":2,\"items\":[[\"call\",4294967295,\"a_.Z9\",[0,-1,2,3,4,5,6,-9007199254740991]]]}",
+                2,
+                1,
+            ),
+        ] {
+            assert_eq!(rt; read(alloc, body), Ok((number, items)), "{body}");
+        }
+        Ok(())
+    }
+
+    #[test]
+    fn other_bodies_are_refused(rt: HostRuntime) -> Result<(), Fail> {
+        let alloc = rt.alloc();
+        for body in [
+            "",
+            "{}",
+            "{\"batch\":0,\"items\":[]}",
+            "{\"batch\":01,\"items\":[]}",
+            "{\"batch\":9007199254740992,\"items\":[]}",
+            "{\"batch\":1,\"items\":[]}\n",
+            "{\"batch\": 1,\"items\":[]}",
+            "{\"items\":[],\"batch\":1}",
+            "{\"batch\":1,\"items\":[,]}",
+            "{\"batch\":1,\"items\":[[\"call\",4294967296,\"f\",[]]]}",
+            "{\"batch\":1,\"items\":[[\"call\",-1,\"f\",[]]]}",
+            "{\"batch\":1,\"items\":[[\"call\",1,\"\",[]]]}",
+            "{\"batch\":1,\"items\":[[\"call\",1,\"f-g\",[]]]}",
+            "{\"batch\":1,\"items\":[[\"call\",1,\"f\",[-0]]]}",
+            "{\"batch\":1,\"items\":[[\"call\",1,\"f\",[+1]]]}",
+            "{\"batch\":1,\"items\":[[\"call\",1,\"f\",[00]]]}",
+            "{\"batch\":1,\"items\":[[\"call\",1,\"f\",[1.5]]]}",
+            "{\"batch\":1,\"items\":[[\"call\",1,\"f\",[9007199254740992]]]}",
+            "{\"batch\":1,\"items\":[[\"call\",1,\"f\",[-9007199254740992]]]}",
+            "{\"batch\":1,\"items\":[[\"call\",1,\"f\",[18446744073709551616]]]}",
+            "{\"batch\":1,\"items\":[[\"call\",1,\"f\",[1,2,3,4,5,6,7,8,9]]]}",
+            "{\"batch\":1,\"items\":[[\"call\",1,\"f\",[1,]]]}",
+            "{\"batch\":1,\"items\":[[\"push\",1,\"f\",[]]]}",
+        ] {
+            assert_eq!(rt; read(alloc, body), Err(WireError::Body), "{body}");
+        }
+        Ok(())
+    }
+}

@@ -36,7 +36,7 @@ fn write_numbers(numbers: &[Whole], out: &mut Writer) -> Result<(), NoMemory>
 
 impl Call {
     ghost use Rattle.rip_wire.specs.Call.{quoted, call_parts, call_text, IsCall};
-    ghost use Rattle.rip_wire.specs.Reader.{Anything, IsTextThen, BeginsWithNone};
+    ghost use Rattle.rip_wire.specs.Reader.{Anything, IsTextThen, IsOnlyText, BeginsWithNone};
 
     /// Writes `"NAME"`.
     pub fn write_name(&self, out: &mut Writer) -> Result<(), NoMemory>
@@ -86,6 +86,7 @@ impl Call {
     /// Takes `"NAME",[ARGS]`.
     pub fn read_parts(reader: &mut Reader<'_>, alloc: Global) -> Result<Call, ReadError>
         ensures ok { IfOk result (λ call. IsTextThen call_parts IsCall Anything reader.old call reader.new) }
+        ensures only { IfOk result (λ call. IsOnlyText call_parts IsCall Anything reader.old call reader.new) }
         ensures form { IsErrOf result ReadError.Form → BeginsWithNone call_parts IsCall Anything reader.old }
     {
         let name = reader.name(alloc)?;
