@@ -1,13 +1,11 @@
 -- What the steps of a run do: reading the input, and settling it.
-use Rattle.std.specs.Prelude.{◌≡◌, ◌++◌, ◌∷◌, ◌⊎◌, ℕ, List, [], Option, Result, Ok, Err}
+use Rattle.std.specs.Prelude.{◌≡◌, ◌++◌, ◌⊎◌, ℕ, List, [], Option, Result, Ok, Err, codes}
 use Rattle.rip_outer.specs.Outside.{Rose, Front, also}
-use Rattle.rip_outer.specs.declared.reading.NamedFile.{NamedFile}
-use Rattle.rip_app.specs.Page.{IsSomePage, IsManifest, IsApp}
+use Rattle.rip_app.specs.Page.{IsApp}
 use Rattle.rip_trace.specs.Trace.{IsTrace}
 use Rattle.rip_wire.specs.declared.batch.Batch.{Batch}
-use Rattle.rip_cli.specs.Input.{IsContentOf, HasPage, HasManifest, HasTrace, Refuses, IsLog}
-use Rattle.rip_cli.specs.declared.input.Content.{Content}
-use Rattle.rip_cli.specs.declared.input.Content.TheVariants.{Bytes, TooLong}
+use Rattle.rip_cli.specs.Input.{HasPage, HasManifest, HasTrace, Refuses, IsLog}
+use Rattle.rip_cli.specs.declared.input.Content.TheVariants.{Bytes}
 use Rattle.rip_cli.specs.declared.input.Input.{Input}
 use Rattle.rip_cli.specs.declared.input.ReadStop.{ReadStop}
 use Rattle.rip_cli.specs.declared.input.ReadStop.TheVariants as stop
@@ -33,16 +31,26 @@ CountsReading (Ok x) old new = new ≡ old
 CountsReading (Err stop.Failed) old new = Rose old new
 CountsReading (Err stop.Memory) old new = new ≡ old
 
--- the contents of a page, a manifest and a trace that are accepted
-pub record Accepts (i : Input) (made : List (List ℕ)) (batches : List Batch) : Type 0 where
+-- the page and the manifest are accepted: the page makes these calls
+pub record AcceptsApp (i : Input) (made : List (List ℕ)) : Type 0 where
   pub page : List ℕ
   pub manifest : List ℕ
-  pub trace : List ℕ
   pub is_page : i.page ≡ Bytes page
   pub is_manifest : i.app ≡ Bytes manifest
-  pub is_trace : i.trace ≡ Bytes trace
   pub application : IsApp page manifest made
+
+-- the trace is accepted: it sends these batches
+pub record AcceptsTrace (i : Input) (batches : List Batch) : Type 0 where
+  pub trace : List ℕ
+  pub is_trace : i.trace ≡ Bytes trace
   pub reported : IsTrace trace batches
+
+-- the line for a refusal
+abbrev pub refusal_line : Refusal → List ℕ
+refusal_line refusal.Page = codes "refused page NotYet 0\n"
+refusal_line refusal.App = codes "refused app NotYet\n"
+refusal_line refusal.Trace = codes "refused trace NotYet\n"
+refusal_line refusal.Memory = []
 
 -- why input is refused, the first cause that applies; want of memory has none
 abbrev pub IsRefusedBy : Input → Refusal → Type 0
@@ -72,3 +80,21 @@ CountsStatus BadInput old new = new ≡ old
 CountsStatus TurnsSpent old new = new ≡ old
 CountsStatus Outside old new = Rose old new
 CountsStatus NoMemory old new = new ≡ old
+
+-- the statuses of a run that puts one line
+abbrev pub IsLineStatus : Status → Type 0
+IsLineStatus Read = ⊥
+IsLineStatus BadWords = Unit {0}
+IsLineStatus BadInput = Unit {0}
+IsLineStatus TurnsSpent = ⊥
+IsLineStatus Outside = ⊥
+IsLineStatus NoMemory = ⊥
+
+-- a line was put where the run ends with its status, and a front of it where it stopped before
+abbrev pub PutsLine : Status → Status → List ℕ → Option (List ℕ) → Option (List ℕ) → Type 0
+PutsLine due Read line old new = ⊥
+PutsLine due BadWords line old new = (due ≡ BadWords) × (new ≡ also line old)
+PutsLine due BadInput line old new = (due ≡ BadInput) × (new ≡ also line old)
+PutsLine due TurnsSpent line old new = ⊥
+PutsLine due Outside line old new = Front line old new
+PutsLine due NoMemory line old new = new ≡ old

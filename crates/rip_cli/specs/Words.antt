@@ -1,5 +1,4 @@
-use Rattle.std.specs.Prelude.{◌≡◌, ◌∷◌, ℕ, List, [], codes, map, string_bytes}
-use Rattle.std.specs.declared.string.String.{String}
+use Rattle.std.specs.Prelude.{◌≡◌, ◌∷◌, ℕ, List, [], codes}
 
 -- three names of files
 pub record Names : Type 0 where

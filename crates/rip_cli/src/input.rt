@@ -1,6 +1,6 @@
-ghost use Rattle.std.specs.Prelude.{◌≡◌, ◌∷◌, [], IfOk, IfErr};
-ghost use Rattle.rip_cli.specs.Input.{IsContentOf};
-ghost use Rattle.rip_cli.specs.Steps.{Asked, CountsReading};
+ghost use Rattle.std.specs.Prelude.{◌≡◌, ◌∷◌, ◌⊎◌, [], IfOk, IfErr};
+ghost use Rattle.rip_cli.specs.Input.{IsContentOf, HasTrace};
+ghost use Rattle.rip_cli.specs.Steps.{Asked, CountsReading, AcceptsApp, AcceptsTrace, IsRefusedBy};
 
 use rip_app::{App, AppRefusal, load};
 use rip_outer::{Files, FilesError};
@@ -71,7 +71,13 @@ fn read_content<F: Files>(alloc: Global, files: &mut F, name: &str) -> Result<Co
 
 impl Input {
     /// Reads the three files, in order.
-    pub fn read<F: Files>(alloc: Global, files: &mut F, page: &str, app: &str, trace: &str) -> Result<Input, ReadStop>
+    pub fn read<F: Files>(
+        alloc: Global,
+        files: &mut F,
+        page: &str,
+        app: &str,
+        trace: &str,
+    ) -> Result<Input, ReadStop>
         ensures page { IfOk result (λ i. IsContentOf (F.held files.old) page.now i.page) }
         ensures app { IfOk result (λ i. IsContentOf (F.held files.old) app.now i.app) }
         ensures trace { IfOk result (λ i. IsContentOf (F.held files.old) trace.now i.trace) }
@@ -82,5 +88,47 @@ impl Input {
         let app = read_content(alloc, files, app)?;
         let trace = read_content(alloc, files, trace)?;
         Ok(Input { page, app, trace })
+    }
+}
+
+impl Refusal {
+    ghost use Rattle.rip_cli.specs.Steps.{refusal_line};
+
+    /// The line that says so; none for want of memory.
+    pub fn line(self) -> &'static [u8]
+        ensures { result.now ≡ refusal_line self }
+    {
+        match self {
+            Refusal::Page => b"refused page NotYet 0\n",
+            Refusal::App => b"refused app NotYet\n",
+            Refusal::Trace => b"refused trace NotYet\n",
+            Refusal::Memory => b"",
+        }
+    }
+}
+
+/// The application of a page and a manifest.
+pub fn load_app(alloc: Global, input: &Input) -> Result<App, Refusal>
+    ensures ok { IfOk result (λ app. AcceptsApp input.now app) }
+    ensures refused { IfErr result (λ refusal. IsRefusedBy input.now refusal) }
+{
+    match load(alloc, input.page.as_slice(), input.app.as_slice()) {
+        Ok(app) => Ok(app),
+        Err(AppRefusal::Page) => Err(Refusal::Page),
+        Err(AppRefusal::Manifest) => Err(Refusal::App),
+        Err(AppRefusal::Memory) => Err(Refusal::Memory),
+    }
+}
+
+/// The trace.
+pub fn load_trace(alloc: Global, input: &Input) -> Result<Trace, Refusal>
+    ensures ok { IfOk result (λ trace. AcceptsTrace input.now trace.batches) }
+    ensures refused { result ≡ Err Refusal.Trace → ¬ HasTrace input.now.trace }
+    ensures only { IfErr result (λ refusal. (refusal ≡ Refusal.Trace) ⊎ (refusal ≡ Refusal.Memory)) }
+{
+    match read_trace(alloc, input.trace.as_slice()) {
+        Ok(trace) => Ok(trace),
+        Err(TraceRefusal::Form) => Err(Refusal::Trace),
+        Err(TraceRefusal::Memory) => Err(Refusal::Memory),
     }
 }
