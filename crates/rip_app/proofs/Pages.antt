@@ -2,16 +2,11 @@ use Rattle.std.proofs.Common.{◌≡◌, ◌≢◌, ◌++◌, ◌∷◌, inl, in
 use Rattle.std.specs.List.{AllByRecursion}
 use Rattle.std.proofs.lemmas.List.{append_assoc, append-nil, append_cancel_left}
 use Rattle.rip_wire.specs.Call.{call_parts, IsCall}
-use Rattle.rip_wire.specs.Reader.{IsTextThen, IsOnlyText, BeginsWithNone, AreUpTo}
+use Rattle.rip_wire.specs.Reader.{IsTextThen, IsOnlyText, AreUpTo}
 use Rattle.rip_wire.specs.Texts.{CallPartsTellApart}
 use Rattle.rip_wire.specs.declared.call.Call.{Call}
 use Rattle.rip_app.specs.Page.{statements_text, page_text, IsTextOf, IsPage, IsSomePage, IsEnd, NoStatementFirst, PagesTellApart}
 use Rattle.rip_app.proofs.Statements.{four_parts, after_part}
-
--- a text, and an end behind it
-pub text_of_end : (bytes text rest : List ℕ) → bytes ≡ text ++ rest → IsEnd rest → IsTextOf bytes text
-text_of_end bytes text rest cut (inl e) = inl (cut ∙ ap (λ bs. text ++ bs) e ∙ append-nil text)
-text_of_end bytes text rest cut (inr e) = inr (cut ∙ ap (λ bs. text ++ bs) e)
 
 -- and the other way round
 pub end_of_text : (bytes text : List ℕ) → IsTextOf bytes text → (rest : List ℕ) × IsEnd rest × (bytes ≡ text ++ rest)
@@ -47,34 +42,10 @@ script_of_page page left calls cut h =
 pub refused_front : (page : List ℕ) → ((rest : List ℕ) → page ≢ codes "<html><head></head><body><script>\"use strict\";" ++ rest) → ¬ (IsSomePage page)
 refused_front page absent = λ h. let end = end_of_text page (page_text h.0) h.1.spelled in absent _ (end.2 ∙ three_parts (codes "<html><head></head><body><script>\"use strict\";") (statements_text h.0) (codes "</script></body></html>") end.0)
 
--- nor has a script that is no list of calls
-pub refused_script : (page left : List ℕ) → page ≡ codes "<html><head></head><body><script>\"use strict\";" ++ left → BeginsWithNone statements_text (AreUpTo 64 IsCall) NoStatementFirst left → ¬ (IsSomePage page)
-refused_script page left cut none = λ h. let s = script_of_page page left h.0 cut h.1 in none h.0 _ s.script
-
 -- nor another close behind its calls
 pub refused_close : (page left : List ℕ) (calls : List Call) (after : List ℕ) → page ≡ codes "<html><head></head><body><script>\"use strict\";" ++ left → IsOnlyText statements_text (AreUpTo 64 IsCall) NoStatementFirst left calls after → ((rest : List ℕ) → after ≢ codes "</script></body></html>" ++ rest) → ¬ (IsSomePage page)
 refused_close page left calls after cut only absent =
     λ h. let s = script_of_page page left h.0 cut h.1 in absent s.rest (sym (only h.0 _ s.script).1)
-
--- nor more than one line feed behind that
-pub refused_end : (page left : List ℕ) (calls : List Call) (after rest : List ℕ) → page ≡ codes "<html><head></head><body><script>\"use strict\";" ++ left → IsOnlyText statements_text (AreUpTo 64 IsCall) NoStatementFirst left calls after → after ≡ codes "</script></body></html>" ++ rest → ¬ (IsEnd rest) → ¬ (IsSomePage page)
-refused_end page left calls after rest cut only closed none =
-    λ h.
-    let s = script_of_page page left h.0 cut h.1 in
-    let same : rest ≡ s.rest = after_part after (codes "</script></body></html>") rest s.rest closed (sym (only h.0 _ s.script).1) in
-    none (by same s.end)
-  where
-    by : {r t : List ℕ} → r ≡ t → IsEnd t → IsEnd r
-    by e (inl f) = inl (e ∙ f)
-    by e (inr f) = inr (e ∙ f)
-
--- a page of these parts spells its calls
-pub page_of_script : (page left : List ℕ) (calls : List Call) (after rest : List ℕ) → page ≡ codes "<html><head></head><body><script>\"use strict\";" ++ left → IsTextThen statements_text (AreUpTo 64 IsCall) NoStatementFirst left calls after → after ≡ codes "</script></body></html>" ++ rest → IsEnd rest → IsPage page calls
-page_of_script page left calls after rest cut script closed end = record {
-  spelled = text_of_end page (page_text calls) rest (cut ∙ ap (λ bs. codes "<html><head></head><body><script>\"use strict\";" ++ bs) (script.is ∙ ap (λ bs. statements_text calls ++ bs) closed) ∙ sym (three_parts (codes "<html><head></head><body><script>\"use strict\";") (statements_text calls) (codes "</script></body></html>") rest)) end;
-  in_range = script.in_range.all;
-  few = script.in_range.few;
-}
 
 -- bytes that do not begin with a text are no spelling of it
 pub absent_no_text : (bytes text : List ℕ) → ((rest : List ℕ) → bytes ≢ text ++ rest) → ¬ (IsTextOf bytes text)

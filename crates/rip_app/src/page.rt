@@ -28,9 +28,14 @@ fn is_end(rest: &[u8]) -> bool
 
 /// Takes the statements that make calls, as many as there are.
 fn read_calls(reader: &mut Reader<'_>, alloc: Global) -> Result<List<Call>, ReadError>
-    ensures ok { IfOk result (λ calls. IsTextThen statements_text (AreUpTo 64 IsCall) NoStatementFirst reader.old calls reader.new) }
-    ensures only { IfOk result (λ calls. IsOnlyText statements_text (AreUpTo 64 IsCall) NoStatementFirst reader.old calls reader.new) }
-    ensures form { IsErrOf result ReadError.Form → BeginsWithNone statements_text (AreUpTo 64 IsCall) NoStatementFirst reader.old }
+    ensures ok { IfOk result
+        (λ calls.
+        IsTextThen statements_text (AreUpTo 64 IsCall) NoStatementFirst reader.old calls reader.new) }
+    ensures only { IfOk result
+        (λ calls.
+        IsOnlyText statements_text (AreUpTo 64 IsCall) NoStatementFirst reader.old calls reader.new) }
+    ensures form { IsErrOf result ReadError.Form
+        → BeginsWithNone statements_text (AreUpTo 64 IsCall) NoStatementFirst reader.old }
 {
     let mut calls = Vec::new(alloc);
     while reader.literal(b"ripley.call(") {

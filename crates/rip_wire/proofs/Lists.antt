@@ -16,15 +16,9 @@ pub record Front {X : Type 0} (text : X → List ℕ) (IsInRange : X → Type 0)
   pub all : AllByRecursion IsInRange more
   pub left : s ≡ behind_commas text more ++ r
 
--- steps over plain texts
+-- a comma is no bracket, and what is behind a byte or a text is what is behind it
 comma_no_bracket : (left others rest : List ℕ) → left ≡ 44 ∷ others → left ≡ 93 ∷ rest → ⊥
 comma_no_bracket left others rest e f = cc
-
-bracket_no_comma : (r s : List ℕ) → 93 ∷ r ≡ 44 ∷ s → ⊥
-bracket_no_comma r s e = cc
-
-bracket_tails : (r s : List ℕ) → 93 ∷ r ≡ 93 ∷ s → r ≡ s
-bracket_tails r s e = cc
 
 comma_tails : (left others a b rest : List ℕ) → left ≡ 44 ∷ others → left ≡ 44 ∷ ((a ++ b) ++ rest) → others ≡ a ++ (b ++ rest)
 comma_tails left others a b rest e f =
@@ -97,14 +91,6 @@ found_more text IsInRange most bytes left others items x after f room comma h on
   few = omega (arith, length-append items (x ∷ []));
   is = f.is ∙ ap (λ bs. 91 ∷ bs) (rw (comma, h.is, separated_push text items x f.some, append_assoc) refl);
   only = λ xs rest k. let g = f.only xs rest k in front_next text IsInRange left others items x after rest xs g.more comma only g.is g.all g.left;
-}
-
--- the closing bracket ends the list
-pub found_end : {X : Type 0} (text : X → List ℕ) (IsInRange : X → Type 0) (most : ℕ) (bytes left rest : List ℕ) (items : List X) → Found text IsInRange most bytes items left → left ≡ 93 ∷ rest → IsTextThen (list_text text) (AreUpTo most IsInRange) Anything bytes items rest
-found_end text IsInRange most bytes left rest items f closed = record {
-  in_range = record { all = f.all; few = f.few };
-  follows = tt;
-  is = f.is ∙ ap (λ bs. 91 ∷ bs) (rw closed (sym (append_assoc (separated text items) (93 ∷ []) rest)));
 }
 
 -- no list begins so if it is not empty and its first value is refused

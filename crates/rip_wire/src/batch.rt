@@ -132,8 +132,10 @@ impl Batch {
 
     /// Takes `{"batch":N,"items":[..]}`.
     pub fn read(reader: &mut Reader<'_>, alloc: Global) -> Result<Batch, ReadError>
-        ensures ok { IfOk result (λ b. IsTextThen batch_text IsBatch Anything reader.old b reader.new) }
-        ensures form { IsErrOf result ReadError.Form → BeginsWithNone batch_text IsBatch Anything reader.old }
+        ensures ok { IfOk result
+            (λ b. IsTextThen batch_text IsBatch Anything reader.old b reader.new) }
+        ensures form { IsErrOf result ReadError.Form
+            → BeginsWithNone batch_text IsBatch Anything reader.old }
     {
         reader.expect(b"{\"batch\":")?;
         let number = reader.number_within(1, MAX_BATCH_NUMBER)?;

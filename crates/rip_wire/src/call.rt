@@ -85,9 +85,12 @@ impl Call {
 
     /// Takes `"NAME",[ARGS]`.
     pub fn read_parts(reader: &mut Reader<'_>, alloc: Global) -> Result<Call, ReadError>
-        ensures ok { IfOk result (λ call. IsTextThen call_parts IsCall Anything reader.old call reader.new) }
-        ensures only { IfOk result (λ call. IsOnlyText call_parts IsCall Anything reader.old call reader.new) }
-        ensures form { IsErrOf result ReadError.Form → BeginsWithNone call_parts IsCall Anything reader.old }
+        ensures ok { IfOk result
+            (λ call. IsTextThen call_parts IsCall Anything reader.old call reader.new) }
+        ensures only { IfOk result
+            (λ call. IsOnlyText call_parts IsCall Anything reader.old call reader.new) }
+        ensures form { IsErrOf result ReadError.Form
+            → BeginsWithNone call_parts IsCall Anything reader.old }
     {
         let name = reader.name(alloc)?;
         reader.expect(b",")?;

@@ -16,8 +16,10 @@ pub trait Element: Sized {
     /// Takes the value's text.
     fn read(reader: &mut Reader<'_>, alloc: Global) -> Result<Self, ReadError>
         ensures ok { IfOk result (λ x. IsTextThen text in_range Anything reader.old x reader.new) }
-        ensures only { IfOk result (λ x. IsOnlyText text in_range NoDigitFirst reader.old x reader.new) }
-        ensures form { IsErrOf result ReadError.Form → BeginsWithNone text in_range NoDigitFirst reader.old };
+        ensures only { IfOk result
+            (λ x. IsOnlyText text in_range NoDigitFirst reader.old x reader.new) }
+        ensures form { IsErrOf result ReadError.Form
+            → BeginsWithNone text in_range NoDigitFirst reader.old };
 }
 
 impl Element for Whole {
@@ -40,8 +42,11 @@ pub fn read_list<T: Element + Drop>(
     most: usize,
 ) -> Result<List<T>, ReadError>
     requires { 1 ≤ most }
-    ensures ok { IfOk result (λ list. IsTextThen (list_text T.text) (AreUpTo most T.in_range) Anything reader.old list reader.new) }
-    ensures form { IsErrOf result ReadError.Form → BeginsWithNone (list_text T.text) (AreUpTo most T.in_range) Anything reader.old }
+    ensures ok { IfOk result
+        (λ list.
+        IsTextThen (list_text T.text) (AreUpTo most T.in_range) Anything reader.old list reader.new) }
+    ensures form { IsErrOf result ReadError.Form
+        → BeginsWithNone (list_text T.text) (AreUpTo most T.in_range) Anything reader.old }
 {
     reader.expect(b"[")?;
     if reader.literal(b"]") {

@@ -183,8 +183,10 @@ impl<'a> Reader<'a> {
 
     /// Takes a decimal numeral below 2^64, with no zero in front of its other digits.
     pub fn number(&mut self) -> Result<u64, ReadError>
-        ensures ok { IfOk result (λ n. IsTextThen decimal (λ m. m < 2 ^ 64) NoDigitFirst self.old n self.new) }
-        ensures form { OnErr result (BeginsWithNone decimal (λ m. m < 2 ^ 64) NoDigitFirst self.old) }
+        ensures ok { IfOk result
+            (λ n. IsTextThen decimal (λ m. m < 2 ^ 64) NoDigitFirst self.old n self.new) }
+        ensures form { OnErr result
+            (BeginsWithNone decimal (λ m. m < 2 ^ 64) NoDigitFirst self.old) }
         ensures only_form { IsOkUnless result ReadError.Form }
     {
         canonical_value(self.digits()).ok_or(ReadError::Form)
@@ -192,8 +194,10 @@ impl<'a> Reader<'a> {
 
     /// Takes a decimal numeral from `least` to `most`.
     pub fn number_within(&mut self, least: u64, most: u64) -> Result<u64, ReadError>
-        ensures ok { IfOk result (λ n. IsTextThen decimal (IsWithin least most) NoDigitFirst self.old n self.new) }
-        ensures form { OnErr result (BeginsWithNone decimal (IsWithin least most) NoDigitFirst self.old) }
+        ensures ok { IfOk result
+            (λ n. IsTextThen decimal (IsWithin least most) NoDigitFirst self.old n self.new) }
+        ensures form { OnErr result
+            (BeginsWithNone decimal (IsWithin least most) NoDigitFirst self.old) }
         ensures only_form { IsOkUnless result ReadError.Form }
     {
         let number = self.number()?;
@@ -206,7 +210,8 @@ impl<'a> Reader<'a> {
 
     /// Takes the decimal numeral of a whole number, with `-` in front of a negative one.
     pub fn whole(&mut self) -> Result<Whole, ReadError>
-        ensures ok { IfOk result (λ z. IsTextThen signed_decimal IsWhole NoDigitFirst self.old z self.new) }
+        ensures ok { IfOk result
+            (λ z. IsTextThen signed_decimal IsWhole NoDigitFirst self.old z self.new) }
         ensures form { OnErr result (BeginsWithNone signed_decimal IsWhole NoDigitFirst self.old) }
         ensures only_form { IsOkUnless result ReadError.Form }
     {
@@ -217,8 +222,10 @@ impl<'a> Reader<'a> {
 
     /// Takes a name in quotes.
     pub fn name(&mut self, alloc: Global) -> Result<Name, ReadError>
-        ensures ok { IfOk result (λ name. IsTextThen quoted IsName Anything self.old name self.new) }
-        ensures form { IsErrOf result ReadError.Form → BeginsWithNone quoted IsName Anything self.old }
+        ensures ok { IfOk result
+            (λ name. IsTextThen quoted IsName Anything self.old name self.new) }
+        ensures form { IsErrOf result ReadError.Form
+            → BeginsWithNone quoted IsName Anything self.old }
     {
         self.expect(b"\"")?;
         let bytes = self.name_bytes();

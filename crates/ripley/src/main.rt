@@ -14,7 +14,7 @@ use std::rt::Env;
 use std::{env, io};
 
 /// The words behind the program's name.
-fn words(rt: &impl Env, alloc: Global) -> io::Result<Vec<String>> {
+fn words(rt: &(impl Env + AllocGlobal), alloc: Global) -> io::Result<Vec<String>> {
     let mut words = Vec::new(alloc);
     for word in env::args(rt)?.skip(1) {
         words.push(word)?;
