@@ -30,10 +30,10 @@ fn read_file<R: rt::Files>(rt: &R, alloc: Global, name: &str) -> Result<Bytes, F
     let mut file = fs::open(rt, name).map_err(|_| FilesError::Failed)?;
     let mut bytes = Vec::new(alloc);
     let mut room = [0u8; ROOM];
-    for _ in 0..u64::MAX {
+    'reads: for _ in 0..u64::MAX {
         let count = match file.read(&mut room) {
             Ok(count) => count,
-            Err(error) if error.kind() == ErrorKind::Interrupted => continue,
+            Err(error) if error.kind() == ErrorKind::Interrupted => continue 'reads,
             Err(_) => return Err(FilesError::Failed),
         };
         if count == 0 {
