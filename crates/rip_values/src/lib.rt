@@ -3,8 +3,11 @@
 
 mod list;
 mod memory;
+mod text;
+mod value;
 mod whole;
 
 pub use list::{Bytes, List, NumberList, Units};
 pub use memory::NoMemory;
+pub use value::{Fault, Limit, Numeral, Refused, Span, TextError, Value};
 pub use whole::{MAX_WHOLE, Whole};
