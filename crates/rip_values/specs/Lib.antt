@@ -1,2 +1,5 @@
+pub mod Blank
+pub mod NumberScan
+pub mod Numbers
 pub mod Text
 pub mod Whole
