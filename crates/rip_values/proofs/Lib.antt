@@ -1,2 +1,4 @@
-pub mod TextLemmas
+pub mod DecimalLemmas
+pub mod NumberLaws
 pub mod NumberLemmas
+pub mod TextLemmas

@@ -329,3 +329,8 @@ IsNumberOf-decimal text literal negative r minus is e h =
     (inr (inr (IsNumeral-true 10 (without_leading_sign text) (ap (is_numeral 10) (sym is) ∙ e), refl)))
     (subst (λ ds. IsRanged (signed_value (starts_with_minus text) (digits_value 10 ds)) r) is
       (subst (λ b. IsRanged (signed_value b (digits_value 10 literal)) r) minus h))
+
+-- digits alone have neither point nor exponent
+pub is_fraction-digits : (digits : List ℕ) → AllDigits 10 digits → is_fraction digits ≡ false
+is_fraction-digits digits h =
+    ap is_fraction (sym (append-nil digits)) ∙ is_fraction-split digits [] h tt

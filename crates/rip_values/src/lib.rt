@@ -12,6 +12,6 @@ mod whole;
 pub use blank::{is_line_end, is_white_space};
 pub use list::{Bytes, List, NumberList, Units};
 pub use memory::NoMemory;
-pub use number::number_of_text;
+pub use number::{number_of_text, text_of_whole};
 pub use value::{Fault, Limit, Numeral, Refused, Span, TextError, Value};
 pub use whole::{MAX_WHOLE, Whole};

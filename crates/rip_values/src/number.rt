@@ -1,9 +1,11 @@
-ghost use Rattle.std.specs.Prelude.{◌≡◌, ◌≤◌, ◌↔◌, ◌^◌, ◌++◌, ℕ, ℤ, IsTrue, Result, Ok, codes, min, length, drop};
+ghost use Rattle.std.specs.Prelude.{◌≡◌, ◌≤◌, ◌↔◌, ◌^◌, ◌<◌, ◌++◌, ℕ, ℤ, IsTrue, Result, Ok, codes, min, length, take, drop, ◌+◌, unsigned_abs};
 ghost use Rattle.std.specs.Char.{digit_value};
+ghost use Rattle.std.specs.Int.{is_negative};
 ghost use Rattle.std.specs.List.{list_all};
 ghost use Rattle.std.specs.Fmt.{signed_decimal, decimal};
 ghost use Rattle.std.specs.Str.Parse.{digits_value, starts_with_minus, without_leading_sign};
 ghost use Rattle.rip_values.specs.declared.value.Numeral.{Numeral};
+ghost use Rattle.rip_values.specs.declared.value.Numeral.TheVariants.{Num};
 ghost use Rattle.rip_values.specs.declared.value.Fault.{Fault};
 ghost use Rattle.rip_values.specs.Blank.{trimmed};
 ghost use Rattle.rip_values.specs.Numbers.{IsNumberOf, SpellsWhole};
@@ -32,8 +34,53 @@ const INFINITY: [u16; 8] = [0x49, 0x6E, 0x66, 0x69, 0x6E, 0x69, 0x74, 0x79];
 /// The number that a text spells: ToNumber of a text (ECMA-262 9.3.1) where it is whole and in range.
 pub fn number_of_text(text: &[u16]) -> Result<Numeral, Fault>
     ensures value { IsNumberOf (trimmed text.now) result }
+    ensures only { (answer : Result Numeral Fault) → IsNumberOf (trimmed text.now) answer → answer ≡ result }
+    ensures written { (number : ℤ) → IsWhole number → text.now ≡ signed_decimal number → result ≡ Ok (Num number) }
 {
     number_of_trimmed(trim(text))
+}
+
+/// Writes the decimal numeral of the number (ECMA-262 9.8.1) at the start of the room, and gives its length.
+/// The rest of the room stays as it was.
+pub fn text_of_whole(w: Whole, room: &mut [u16; 17]) -> usize
+    ensures text { room.new ≡ signed_decimal w ++ drop result room.old }
+    ensures count { result ≡ length (signed_decimal w) }
+{
+    let magnitude = magnitude_of(w);
+    if is_negative(w) {
+        room[0] = MINUS;
+        write_decimal(magnitude, room, 1)
+    } else {
+        write_decimal(magnitude, room, 0)
+    }
+}
+
+fn magnitude_of(w: Whole) -> u64
+    ensures magnitude { result ≡ unsigned_abs w }
+    ensures range { result < 10 ^ 16 }
+{
+    w.get().unsigned_abs()
+}
+
+fn is_negative(w: Whole) -> bool
+    ensures { result ≡ is_negative w }
+{
+    w.get().is_negative()
+}
+
+// Writes the decimal digits of the number from the place `start` on, and gives the place behind them.
+fn write_decimal(number: u64, room: &mut [u16; 17], start: usize) -> usize
+    requires { start + length (decimal number) ≤ 17 }
+    ensures text { room.new ≡ take start room.old ++ decimal number ++ drop result room.old }
+    ensures end { result ≡ start + length (decimal number) }
+{
+    if number < 10 {
+        room[start] = ZERO + number as u16;
+        return start + 1;
+    }
+    let last = write_decimal(number / 10, room, start);
+    room[last] = ZERO + (number % 10) as u16;
+    last + 1
 }
 
 fn number_of_trimmed(text: &[u16]) -> Result<Numeral, Fault>
