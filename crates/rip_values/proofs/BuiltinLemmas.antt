@@ -1,5 +1,5 @@
 -- The numbers of built-ins are their places in the table.
-use Rattle.std.proofs.Common.{◌≡◌, ℕ, zero, suc, ◌+◌, Bool, true, false, ◌&&◌, ◌==◌, Option, None, Some, List, [], ◌∷◌, refl, ap, ◌∙◌, sym, subst, arith}
+use Rattle.std.proofs.Common.{◌≡◌, ℕ, zero, suc, ◌+◌, Bool, true, ◌&&◌, ◌==◌, Option, None, Some, List, [], ◌∷◌, refl, ◌∙◌, sym, subst, arith}
 use Rattle.std.specs.Prelude.{IfSome, slice_get}
 use Rattle.std.proofs.str.Laws.{both}
 use Rattle.std.proofs.lemmas.Bool.{eqb-true}

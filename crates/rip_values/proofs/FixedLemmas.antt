@@ -1,5 +1,5 @@
 -- Each fixed text is found by its spelling, and stands at its place.
-use Rattle.std.proofs.Common.{◌≡◌, ℕ, zero, suc, ◌+◌, ◌<◌, ◌≤◌, Bool, true, false, cond, ◌==◌, ◌&&◌, ◌⊎◌, inl, inr, Option, None, Some, List, [], ◌∷◌, length, refl, sym, ap, ◌∙◌, subst, filter, nat_le, arith}
+use Rattle.std.proofs.Common.{◌≡◌, ℕ, ◌+◌, ◌<◌, ◌≤◌, Bool, true, false, cond, ◌==◌, ◌&&◌, ◌⊎◌, inl, inr, Option, None, Some, List, [], ◌∷◌, length, refl, sym, ap, ◌∙◌, subst, filter, nat_le, arith}
 use Rattle.std.specs.Prelude.{IfSome, find, nat_eq, slice_range, take, drop, ◌-◌}
 use borrow.Author.Tests.{leb-true}
 use Rattle.std.proofs.lemmas.List.{drop-take, take-take}
@@ -7,7 +7,6 @@ use Rattle.std.specs.List.{list_all, zip}
 use Rattle.std.specs.Cmp.Lexicographic.{pointwise, same_text}
 use Rattle.std.proofs.str.Laws.{both}
 use Rattle.std.proofs.lemmas.Bool.Decides.{nat_tests}
-use Rattle.rip_values.specs.declared.value.Span.{Span}
 use Rattle.rip_values.specs.declared.fixed.FixedText.{FixedText}
 use Rattle.rip_values.specs.declared.fixed.FixedText.TheVariants.{Empty, Undefined, Null, True, False, NaN, Object, Boolean, Number, String, Function, Error, TypeError, RangeError, ReferenceError, HasOwnProperty, Constructor, ToString, ToLocaleString, ValueOf, IsPrototypeOf, PropertyIsEnumerable, Prototype, Call, Name, Message, Length, Push, Pop, Slice, IndexOf, Join, CharAt, CharCodeAt, Substring, Abs, Floor, Min, Max, Now, Random, GetElementById, CreateElement, CreateTextNode, Body, DocumentElement, NodeType, NodeName, TagName, NodeValue, ParentNode, FirstChild, LastChild, NextSibling, PreviousSibling, HasChildNodes, AppendChild, InsertBefore, ReplaceChild, RemoveChild, TextContent, GetAttribute, HasAttribute, SetAttribute, RemoveAttribute, Id, ClassName, Value, Checked, SelectedIndex, Disabled, AddEventListener, RemoveEventListener, Code, EventType, Target, CurrentTarget, EventPhase, Bubbles, Cancelable, StopPropagation, PreventDefault, Click, Submit, Input, Change, Focus, Blur, Load, TextName, CommentName, DocumentName, On}
 use Rattle.rip_values.specs.FixedTexts.{text_of, fixed_texts, fixed_units, span_among, fixed_span}
@@ -450,7 +449,8 @@ lies_within On = refl
 pub fixed_within : (fixed : FixedText) → start_of fixed + length (text_of fixed) ≤ 773
 fixed_within fixed = leb-true _ _ (lies_within fixed)
 
-range_within : (xs : List ℕ) (from to n : ℕ) → to ≤ n → slice_range (take n xs) from to ≡ slice_range xs from to
+-- a range that ends within a front is the range of the front
+pub range_within : (xs : List ℕ) (from to n : ℕ) → to ≤ n → slice_range (take n xs) from to ≡ slice_range xs from to
 range_within xs from to n h = by (search arith)
   where
     by : (from ≤ to) ⊎ (to ≤ from) → slice_range (take n xs) from to ≡ slice_range xs from to

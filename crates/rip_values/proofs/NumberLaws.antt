@@ -1,9 +1,8 @@
 -- No text spells two numbers, and the numeral of a whole number spells it.
-use Rattle.std.proofs.Common.{◌≡◌, ◌≢◌, ℕ, zero, suc, ℤ, pos, negsuc, neg_ℤ, ◌+◌, ◌-◌, ◌*◌, ◌/◌, ◌%◌, ◌^◌, ◌<◌, ◌≤◌, ◌≤ℤ◌, Bool, true, false, cond, ◌&&◌, ◌==◌, ◌⊎◌, inl, inr, List, [], ◌∷◌, ◌++◌, length, drop, Result, Ok, Err, refl, sym, ap, ◌∙◌, subst, arith, codes, reverse, append_assoc, nat_lt}
+use Rattle.std.proofs.Common.{◌≡◌, ℕ, zero, suc, ℤ, pos, negsuc, neg_ℤ, ◌+◌, ◌%◌, ◌^◌, ◌<◌, ◌≤◌, Bool, true, false, cond, ◌&&◌, ◌==◌, ◌⊎◌, inl, inr, List, [], ◌∷◌, ◌++◌, Result, Ok, Err, refl, sym, ap, ◌∙◌, subst, arith, codes, reverse, nat_lt}
 use Rattle.std.proofs.lemmas.List.{reverse-append, reverse-reverse}
-use Rattle.std.specs.List.{list_all}
 use Rattle.std.specs.Fmt.{decimal, signed_decimal}
-use Rattle.std.specs.Str.Parse.{AllDigits, IsNumeral, digits_value, without_leading_sign, signed_digits_value}
+use Rattle.std.specs.Str.Parse.{IsNumeral, digits_value, without_leading_sign, signed_digits_value}
 use Rattle.std.proofs.lemmas.Bool.{both_ways}
 use Rattle.std.proofs.lemmas.Bool.Decides.{nat_tests}
 use Rattle.std.proofs.lemmas.Fmt.{decimal_by_steps, decimal_is_IsNumeral}
@@ -14,8 +13,8 @@ use Rattle.rip_values.specs.declared.value.Fault.{Fault}
 use Rattle.rip_values.specs.declared.value.Fault.TheVariants.{NotWhole, Infinite, OutOfRange, Hole, NotInProfile, ObjectToPrimitive, BadArgument, LoneSurrogate, TextTooLong}
 use Rattle.rip_values.specs.Whole.{IsWhole}
 use Rattle.rip_values.specs.Blank.{is_blank, trimmed, trimmed_start, trimmed_end}
-use Rattle.rip_values.specs.Numbers.{IsHexadecimal, SpellsWhole, SpellsFraction, SpellsInfinity, SpellsNothing, IsNumberOf}
-use Rattle.rip_values.specs.NumberScan.{is_digit, is_numeral, is_exponent, is_fraction, digits_at_start, ends_after_point}
+use Rattle.rip_values.specs.Numbers.{SpellsWhole, SpellsFraction, SpellsInfinity, IsNumberOf}
+use Rattle.rip_values.specs.NumberScan.{is_numeral, is_exponent, is_fraction, digits_at_start}
 use Rattle.rip_values.proofs.NumberLemmas.{is_numeral-true, is_fraction-spelled, is_fraction-digits}
 
 no_numeral : (n : ℕ) (b : Bool) → b ≡ false → (nat_lt 0 n && b) ≡ false
@@ -79,7 +78,7 @@ starts_otherwise rest e = let first : ◌≡◌ {A = ℕ} 48 73 = cc in omega ar
 -- a whole number is not `Infinity`
 whole_infinity : (text : List ℕ) (z : ℤ) → SpellsWhole text z → SpellsInfinity text → ⊥
 whole_infinity text z (inl h) f = let e : [] ≡ codes "Infinity" = sym (ap without_leading_sign h.0) ∙ f in cc
-whole_infinity text z (inr (inl h)) f = 
+whole_infinity text z (inr (inl h)) f =
     starts_otherwise (h.mark ∷ h.digits) (sym (ap without_leading_sign h.spelled) ∙ f)
 whole_infinity text z (inr (inr h)) f = both_ways _ numeral_infinity (sym (ap (is_numeral 10) f) ∙ is_numeral-true 10 _ h.0)
 
@@ -244,8 +243,10 @@ signed_decimal-spells (pos n) w =
     let numeral = decimal_is_IsNumeral n small in
     let same = digits_unsigned (48 + p.first) p.rest (omega arith) in
     let kept : without_leading_sign (decimal n) ≡ decimal n = ap without_leading_sign p.starts ∙ same.0 ∙ sym p.starts in
-    inr (inr (subst (IsNumeral 10) (sym kept) numeral.0,
-        sym (ap (signed_digits_value 10) p.starts ∙ same.1 ∙ ap (λ t. pos (digits_value 10 t)) (sym p.starts) ∙ ap pos numeral.1)))
+    inr (inr (
+      subst (IsNumeral 10) (sym kept) numeral.0,
+      sym (ap (signed_digits_value 10) p.starts ∙ same.1 ∙ ap (λ t. pos (digits_value 10 t)) (sym p.starts) ∙ ap pos numeral.1),
+    ))
 signed_decimal-spells (negsuc n) w =
     let numeral = decimal_is_IsNumeral (suc n) (omega (arith, ints, w.0)) in
     inr (inr (numeral.0, sym (ap (λ v. neg_ℤ (pos v)) numeral.1)))

@@ -1,7 +1,6 @@
 -- The tests of specs/NumberScan.antt find the spellings of specs/Numbers.antt, and no text has two of them.
-use Rattle.std.proofs.Common.{◌≡◌, ◌≢◌, ℕ, zero, suc, ℤ, pos, negsuc, neg_ℤ, ◌+◌, ◌-◌, ◌*◌, ◌<◌, ◌≤◌, min, Bool, true, false, not, ◌&&◌, ◌||◌, cond, ◌⊎◌, inl, inr, List, [], ◌∷◌, ◌++◌, length, take, drop, Result, Ok, Err, refl, sym, ap, ◌∙◌, subst, arith, nat_lt, ◌==◌, codes}
+use Rattle.std.proofs.Common.{◌≡◌, ◌≢◌, ℕ, zero, suc, ℤ, pos, neg_ℤ, ◌+◌, ◌*◌, ◌<◌, ◌≤◌, min, Bool, true, false, ◌&&◌, ◌||◌, cond, ◌⊎◌, inl, inr, List, [], ◌∷◌, ◌++◌, length, take, drop, Result, Ok, Err, refl, sym, ap, ◌∙◌, subst, arith, nat_lt, ◌==◌, codes}
 use Rattle.std.specs.List.{list_all, prefix_len}
-use Rattle.std.specs.Char.{digit_value}
 use Rattle.std.specs.Str.Parse.{AllDigits, IsNumeral, digits_value, without_leading_sign, starts_with_minus, signed_digits_value}
 use Rattle.std.proofs.str.Laws.{both}
 use Rattle.std.proofs.lemmas.Bool.{eqb-true, eq-eqb, or_cases, both_ways}
@@ -15,7 +14,7 @@ use Rattle.rip_values.specs.declared.value.Numeral.TheVariants.{Num, NaN}
 use Rattle.rip_values.specs.declared.value.Fault.{Fault}
 use Rattle.rip_values.specs.declared.value.Fault.TheVariants.{NotWhole, Infinite, OutOfRange, Hole, NotInProfile, ObjectToPrimitive, BadArgument, LoneSurrogate, TextTooLong}
 use Rattle.rip_values.specs.Whole.{IsWhole}
-use Rattle.rip_values.specs.Numbers.{IsHexadecimal, IsExponent, IsPointed, IsScaled, SpellsWhole, SpellsFraction, SpellsInfinity, SpellsNothing, IsNumberOf}
+use Rattle.rip_values.specs.Numbers.{IsHexadecimal, IsExponent, IsPointed, IsScaled, SpellsWhole, SpellsFraction, SpellsNothing, IsNumberOf}
 use Rattle.rip_values.specs.NumberScan.{is_digit, signed_value, IsRanged, digits_at_start, is_numeral, is_hexadecimal, is_exponent, ends_after_point, ends_after_digits, is_fraction}
 
 -- tests on numbers
@@ -106,6 +105,7 @@ capped_step v base d m = by (search arith)
     more : (b : ℕ) → m ≤ v → min (m * b + d) m ≡ min (v * b + d) m
     more zero h = ap (λ x. min (x + d) m) (omega arith)
     more (suc b) h = omega arith
+
     by : (v ≤ m) ⊎ (m ≤ v) → min (min v m * base + d) m ≡ min (v * base + d) m
     by (inl h) = let e : min v m ≡ v = omega arith in ap (λ x. min (x * base + d) m) e
     by (inr h) = let e : min v m ≡ m = omega arith in ap (λ x. min (x * base + d) m) e ∙ more base h
@@ -328,7 +328,7 @@ IsNumberOf-decimal text literal negative r minus is e h =
     IsNumberOf-ranged text (signed_digits_value 10 text) r
     (inr (inr (IsNumeral-true 10 (without_leading_sign text) (ap (is_numeral 10) (sym is) ∙ e), refl)))
     (subst (λ ds. IsRanged (signed_value (starts_with_minus text) (digits_value 10 ds)) r) is
-      (subst (λ b. IsRanged (signed_value b (digits_value 10 literal)) r) minus h))
+    (subst (λ b. IsRanged (signed_value b (digits_value 10 literal)) r) minus h))
 
 -- digits alone have neither point nor exponent
 pub is_fraction-digits : (digits : List ℕ) → AllDigits 10 digits → is_fraction digits ≡ false

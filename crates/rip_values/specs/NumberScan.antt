@@ -1,4 +1,4 @@
-use Rattle.std.specs.Prelude.{◌≡◌, ℕ, ℤ, pos, neg_ℤ, Bool, true, false, List, [], ◌∷◌, length, drop, ◌==◌, ◌&&◌, ◌||◌, nat_lt, if◌then◌else◌, Result, Ok, Err}
+use Rattle.std.specs.Prelude.{◌≡◌, ℕ, ℤ, pos, neg_ℤ, Bool, false, List, [], ◌∷◌, length, drop, ◌==◌, ◌&&◌, ◌||◌, nat_lt, if◌then◌else◌, Result, Ok, Err}
 use Rattle.rip_values.specs.declared.value.Numeral.{Numeral}
 use Rattle.rip_values.specs.declared.value.Numeral.TheVariants.{Num, NaN}
 use Rattle.rip_values.specs.declared.value.Fault.{Fault}

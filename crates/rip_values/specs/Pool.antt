@@ -26,6 +26,10 @@ span_behind pool text = record { start = length pool.units; count = length text 
 abbrev pub with_text : Texts → List ℕ → ℕ → Texts
 with_text pool text charge = record pool { units = pool.units ++ text; used = pool.used + charge }
 
+-- the texts of two spans, one behind the other
+abbrev pub joined : Texts → Span → Span → List ℕ
+joined pool first second = text_at pool first ++ text_at pool second
+
 -- each span that lay in the old pool stands for the same text in the new one
 abbrev pub KeepsTexts : Texts → Texts → Type 0
 KeepsTexts old new = (span : Span) → IsSpan old span → text_at new span ≡ text_at old span

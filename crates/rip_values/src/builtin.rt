@@ -249,15 +249,42 @@ impl Builtin {
         ensures { result ≡ home_of self }
     {
         match self {
-            Builtin::Math | Builtin::Ripley | Builtin::ParseInt | Builtin::IsNaN | Builtin::String | Builtin::Number | Builtin::Error | Builtin::TypeError | Builtin::RangeError => BuiltinHome::Global,
-            Builtin::MathAbs | Builtin::MathFloor | Builtin::MathMin | Builtin::MathMax => BuiltinHome::Math,
+            Builtin::Math
+            | Builtin::Ripley
+            | Builtin::ParseInt
+            | Builtin::IsNaN
+            | Builtin::String
+            | Builtin::Number
+            | Builtin::Error
+            | Builtin::TypeError
+            | Builtin::RangeError => BuiltinHome::Global,
+            Builtin::MathAbs | Builtin::MathFloor | Builtin::MathMin | Builtin::MathMax =>
+                BuiltinHome::Math,
             Builtin::HasOwnProperty => BuiltinHome::Object,
             Builtin::FunctionCall => BuiltinHome::Function,
-            Builtin::ArrayPush | Builtin::ArrayPop | Builtin::ArraySlice | Builtin::ArrayIndexOf | Builtin::ArrayJoin => BuiltinHome::Array,
-            Builtin::TextCharAt | Builtin::TextCharCodeAt | Builtin::TextSubstring | Builtin::TextIndexOf => BuiltinHome::Text,
+            Builtin::ArrayPush
+            | Builtin::ArrayPop
+            | Builtin::ArraySlice
+            | Builtin::ArrayIndexOf
+            | Builtin::ArrayJoin => BuiltinHome::Array,
+            Builtin::TextCharAt
+            | Builtin::TextCharCodeAt
+            | Builtin::TextSubstring
+            | Builtin::TextIndexOf => BuiltinHome::Text,
             Builtin::RipleyCall | Builtin::RipleyNow | Builtin::RipleyRandom => BuiltinHome::Ripley,
-            Builtin::GetElementById | Builtin::CreateElement | Builtin::CreateTextNode => BuiltinHome::Document,
-            Builtin::HasChildNodes | Builtin::AppendChild | Builtin::InsertBefore | Builtin::ReplaceChild | Builtin::RemoveChild | Builtin::GetAttribute | Builtin::HasAttribute | Builtin::SetAttribute | Builtin::RemoveAttribute | Builtin::AddEventListener | Builtin::RemoveEventListener => BuiltinHome::Node,
+            Builtin::GetElementById | Builtin::CreateElement | Builtin::CreateTextNode =>
+                BuiltinHome::Document,
+            Builtin::HasChildNodes
+            | Builtin::AppendChild
+            | Builtin::InsertBefore
+            | Builtin::ReplaceChild
+            | Builtin::RemoveChild
+            | Builtin::GetAttribute
+            | Builtin::HasAttribute
+            | Builtin::SetAttribute
+            | Builtin::RemoveAttribute
+            | Builtin::AddEventListener
+            | Builtin::RemoveEventListener => BuiltinHome::Node,
             Builtin::StopPropagation | Builtin::PreventDefault => BuiltinHome::Event,
         }
     }

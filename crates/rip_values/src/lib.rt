@@ -4,11 +4,14 @@
 mod blank;
 mod builtin;
 mod fixed;
+mod fixed_lookup;
 mod limits;
 mod list;
 mod memory;
 mod number;
 mod pool;
+#[cfg(test)]
+mod tests;
 mod text;
 mod value;
 mod whole;

@@ -20,12 +20,19 @@ use crate::whole::Whole;
 const PAST_RANGE: u64 = 9_007_199_254_740_992;
 
 const ZERO: u16 = 0x30;
+
 const POINT: u16 = 0x2E;
+
 const PLUS: u16 = 0x2B;
+
 const MINUS: u16 = 0x2D;
+
 const CAPITAL_E: u16 = 0x45;
+
 const SMALL_E: u16 = 0x65;
+
 const CAPITAL_X: u16 = 0x58;
+
 const SMALL_X: u16 = 0x78;
 
 // `Infinity`
@@ -189,7 +196,9 @@ fn digits_at_start(text: &[u16]) -> usize
     ensures count { result ≡ digits_at_start text.now }
     ensures within { result ≤ length text.now }
 {
-    text.iter().take_while(|unit| digit_value(**unit) < 10).count()
+    text.iter()
+        .take_while(|unit| digit_value(**unit) < 10)
+        .count()
 }
 
 // Whether the text is a decimal literal with a point or an exponent.

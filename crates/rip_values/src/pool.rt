@@ -1,6 +1,6 @@
-ghost use Rattle.std.specs.Prelude.{◌≡◌, ◌↔◌, ℕ, ◌+◌, ◌-◌, ◌<◌, ◌≤◌, ◌++◌, [], length, OnOk, OnErr, IfOk, IfErr, IfSome, IsNone, vec_len, vec_capacity};
+ghost use Rattle.std.specs.Prelude.{◌≡◌, ◌↔◌, ℕ, ◌+◌, ◌-◌, ◌<◌, ◌≤◌, ◌++◌, [], length, OnOk, OnErr, IfOk, IfErr, IsErr, IfSome, IsNone, vec_len, vec_capacity, min};
 ghost use Rattle.std.specs.List.{flat_map};
-ghost use Rattle.rip_values.specs.Pool.{Texts, text_at, IsSpan, span_behind, with_text, KeepsTexts};
+ghost use Rattle.rip_values.specs.Pool.{Texts, text_at, IsSpan, span_behind, with_text, joined, KeepsTexts};
 ghost use Rattle.rip_values.specs.FixedTexts.{text_of, fixed_span, fixed_units};
 ghost use Rattle.rip_values.specs.declared.fixed.FixedText.{FixedText};
 
@@ -80,8 +80,7 @@ impl Pool {
     pub fn get(&self, s: Span) -> &[u16]
         ensures { result.now ≡ text_at self.now s }
     {
-        let end = (s.start as usize + s.count as usize).min(self.units.len());
-        let start = (s.start as usize).min(end);
+        let (start, end) = within(s, self.units.len());
         &self.units[start..end]
     }
 
@@ -141,6 +140,45 @@ impl Pool {
         self.used += span.count;
         Ok(span)
     }
+
+    /// Adds two texts of the pool joined to one, and charges its length. It takes no memory.
+    pub fn add_joined(&mut self, first: Span, second: Span) -> Result<Span, Limit>
+        ensures limit { IsErr result ↔ (self.old.limit < self.old.used + length (joined self.old first second)) }
+        ensures only_units { IfErr result (λ limit. limit ≡ Limit.Units) }
+        ensures span { IfOk result (λ span. span ≡ span_behind self.old (joined self.old first second)) }
+        ensures added { OnOk result (self.new ≡ with_text self.old (joined self.old first second) (length (joined self.old first second))) }
+        ensures stands { IfOk result (λ span. text_at self.new span ≡ joined self.old first second) }
+        ensures older { KeepsTexts self.old self.new }
+        ensures err { OnErr result (self.new ≡ self.old) }
+    {
+        let (first_start, first_end) = within(first, self.units.len());
+        let (second_start, second_end) = within(second, self.units.len());
+        let count = first_end - first_start + (second_end - second_start);
+        if count > (self.limit - self.used) as usize {
+            return Err(Limit::Units);
+        }
+        let span = Span {
+            start: self.units.len() as u32,
+            count: count as u32,
+        };
+        self.units
+            .extend_from_within(first_start..first_end)
+            .unwrap();
+        self.units
+            .extend_from_within(second_start..second_end)
+            .unwrap();
+        self.used += span.count;
+        Ok(span)
+    }
+}
+
+// The places from which and up to which the span lies within a pool of so many units.
+fn within(s: Span, length: usize) -> (usize, usize)
+    ensures start { result.0 ≡ min s.start result.1 }
+    ensures end { result.1 ≡ min (s.start + s.count) length }
+{
+    let end = (s.start as usize + s.count as usize).min(length);
+    ((s.start as usize).min(end), end)
 }
 
 // The units of all fixed texts, one after another.

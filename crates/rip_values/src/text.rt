@@ -32,8 +32,10 @@ impl List<u16> {
         ensures unpaired { has_unpaired_surrogate self.now ≡ true → ¬ (IsUtf16 self.now) }
         ensures encoded { result ≢ Err TextError.NotUtf8 }
     {
-        let read: Result<Result<String, FromUtf16Error>, AllocError> =
-            String::from_utf16(alloc, self.as_slice());
+        let read: Result<Result<String, FromUtf16Error>, AllocError> = String::from_utf16(
+            alloc,
+            self.as_slice(),
+        );
         match read {
             Ok(Ok(text)) => Ok(Bytes::from_vec(text.into_bytes())),
             Ok(Err(_)) => Err(TextError::LoneSurrogate),

@@ -1,4 +1,4 @@
-use Rattle.std.proofs.Common.{◌≡◌, Bool, true, false, ◌||◌, sym}
+use Rattle.std.proofs.Common.{◌≡◌, Bool, true, false, ◌||◌}
 use Rattle.rip_values.specs.Blank.{is_blank}
 use Rattle.rip_values.proofs.blank.is_blank.Goals as goal
 

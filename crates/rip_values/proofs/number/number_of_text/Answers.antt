@@ -1,4 +1,4 @@
-use Rattle.std.proofs.Common.{sym, ap, ◌∙◌, subst, Result, Ok}
+use Rattle.std.proofs.Common.{sym, subst, Ok}
 use Rattle.rip_values.specs.declared.value.Numeral.TheVariants.{Num}
 use Rattle.rip_values.specs.Blank.{trimmed}
 use Rattle.rip_values.specs.Numbers.{IsNumberOf}

@@ -1,4 +1,4 @@
-use Rattle.std.proofs.Common.{◌≡◌, ◌∙◌, ap, sym}
+use Rattle.std.proofs.Common.{◌∙◌, ap, sym}
 use Rattle.std.specs.Prelude.{slice_get}
 use Rattle.rip_values.specs.Builtins.{builtins}
 use Rattle.rip_values.proofs.BuiltinLemmas.{slice_get-number_of, IfSome-slice_get}

@@ -1,5 +1,4 @@
-use Rattle.std.proofs.Common.{◌≡◌, ◌∙◌, ap, sym, subst}
-use Rattle.rip_values.specs.FixedTexts.{text_of}
+use Rattle.std.proofs.Common.{◌∙◌, ap, sym}
 use Rattle.rip_values.specs.FixedSearch.{fixed_text}
 use Rattle.rip_values.proofs.FixedLemmas.{fixed_text-text_of, IfSome-fixed_text}
 use Rattle.rip_values.proofs.fixed.FixedText.of.Goals as goal

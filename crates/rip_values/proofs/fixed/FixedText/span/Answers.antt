@@ -1,7 +1,5 @@
-use Rattle.std.proofs.Common.{◌≡◌, ◌∙◌, Some, ap, ap₂, sym, length, ℕ}
-use Rattle.rip_values.specs.declared.value.Span.{Span}
+use Rattle.std.proofs.Common.{◌≡◌, ap, length}
 use Rattle.rip_values.specs.FixedTexts.{text_of}
-use Rattle.rip_values.specs.FixedSearch.{start_of}
 use Rattle.rip_values.proofs.FixedLemmas.{fixed_span-text_of}
 use Rattle.rip_values.proofs.fixed.FixedText.span.Goals as goal
 

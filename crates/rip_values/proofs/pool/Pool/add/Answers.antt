@@ -1,4 +1,4 @@
-use Rattle.std.proofs.Common.{◌≡◌, ◌∙◌, ◌++◌, ap, sym, length, vec_len, arith, rules}
+use Rattle.std.proofs.Common.{◌≡◌, ◌++◌, arith, rules}
 use Rattle.rip_values.proofs.PoolLemmas.{IsPool-more}
 use Rattle.rip_values.proofs.pool.Pool.add.Goals as goal
 

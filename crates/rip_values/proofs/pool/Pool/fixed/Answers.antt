@@ -1,4 +1,4 @@
-use Rattle.std.proofs.Common.{◌≡◌, ◌∙◌, ap, sym, take}
+use Rattle.std.proofs.Common.{◌≡◌, ◌∙◌, sym, take}
 use Rattle.rip_values.specs.FixedTexts.{fixed_units}
 use Rattle.rip_values.proofs.FixedLemmas.{fixed_span-none}
 use Rattle.rip_values.proofs.PoolLemmas.{fixed_at}

@@ -1,4 +1,4 @@
-use Rattle.std.proofs.Common.{◌≡◌, ◌≤◌, ◌+◌, ◌∙◌, ap, length, vec_len, arith}
+use Rattle.std.proofs.Common.{◌∙◌, ap, length, arith}
 use Rattle.rip_values.proofs.FixedLemmas.{length-fixed_units}
 use Rattle.rip_values.proofs.PoolLemmas.{IsPool-fixed}
 use Rattle.rip_values.proofs.pool.Pool.make.Goals as goal

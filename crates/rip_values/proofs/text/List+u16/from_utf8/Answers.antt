@@ -1,4 +1,4 @@
-use Rattle.std.proofs.Common.{◌≡◌, ◌∙◌, sym, ap}
+use Rattle.std.proofs.Common.{◌∙◌, sym, ap}
 use Rattle.std.specs.Str.{chars}
 use Rattle.rip_values.specs.Text.{encode_utf16_all}
 use Rattle.rip_values.proofs.TextLemmas.{IsSameText-chars, IsSameText-units}

@@ -1,5 +1,5 @@
-use Rattle.std.proofs.Common.{◌≡◌, ◌∙◌, sym, ap, subst}
-use Rattle.std.specs.String.{IsUtf16Of, string_bytes}
+use Rattle.std.proofs.Common.{◌≡◌, sym, subst}
+use Rattle.std.specs.String.{string_bytes}
 use Rattle.std.proofs.lemmas.Str.{IsUtf8-string_bytes}
 use Rattle.rip_values.specs.Text.{IsSameText}
 use Rattle.rip_values.proofs.TextLemmas.{IsSameText-read, IsSameText-bytes, no_surrogate_alone}

@@ -1,7 +1,7 @@
 use Rattle.std.proofs.Common.{◌∙◌, ◌==◌, ap}
 use Rattle.std.specs.List.{list_all, zip}
 use Rattle.rip_values.proofs.FixedLemmas.{pointwise-zip}
-use Rattle.rip_values.proofs.fixed.is_spelled.Goals as goal
+use Rattle.rip_values.proofs.fixed_lookup.is_spelled.Goals as goal
 
 pub returns-then-spelling-text : goal.returns-then-spelling-text
 returns-then-spelling-text c =
