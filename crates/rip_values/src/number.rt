@@ -52,6 +52,7 @@ pub fn number_of_text(text: &[u16]) -> Result<Numeral, Fault>
 pub fn text_of_whole(w: Whole, room: &mut [u16; 17]) -> usize
     ensures text { room.new ≡ signed_decimal w ++ drop result room.old }
     ensures count { result ≡ length (signed_decimal w) }
+    ensures fits { result ≤ 17 }
 {
     let magnitude = magnitude_of(w);
     if is_negative(w) {
