@@ -6,6 +6,8 @@
 
 mod input;
 mod status;
+#[cfg(test)]
+mod tests;
 mod top;
 
 pub use status::Status;
