@@ -1,3 +1,4 @@
 pub mod Ending
 pub mod Entry
+pub mod Range
 pub mod History

@@ -6,8 +6,10 @@
 
 mod ending;
 mod entry;
+mod law;
 mod write;
 
 pub use ending::{BadReport, Ending};
 pub use entry::{Entry, Reply};
+pub use law::logs_tell_apart;
 pub use write::{write_admitted, write_done, write_ended, write_entry, write_opened, write_served};
