@@ -2,3 +2,4 @@ pub mod Ending
 pub mod Entry
 pub mod Range
 pub mod History
+pub mod Turns

@@ -7,6 +7,8 @@
 mod ending;
 mod entry;
 mod law;
+#[cfg(test)]
+mod tests;
 mod write;
 
 pub use ending::{BadReport, Ending};
