@@ -4,3 +4,4 @@ pub mod RunLemmas
 pub mod MatchLemmas
 pub mod StandingLemmas
 pub mod CourseLemmas
+pub mod LawLemmas

@@ -1,0 +1,21 @@
+use Rattle.std.specs.Prelude.{◌≡◌, ℕ, ◌+◌, ◌≤◌, List, length, All}
+use Rattle.rip_wire.specs.declared.batch.Batch.{Batch}
+use Rattle.rip_log.specs.declared.entry.Entry.{Entry}
+use Rattle.rip_log.specs.Turns.{turn_of, IsInOrder}
+use Rattle.rip_server.specs.Course.{Course}
+
+-- each trace has a legal course
+abbrev pub CoursesAre : Type 0
+CoursesAre = (made : List (List ℕ)) (batches : List Batch) → (history : List Entry) × Course made batches history
+
+-- and one alone: two legal courses of a trace are equal
+abbrev pub CoursesAreOne : Type 0
+CoursesAreOne = (made : List (List ℕ)) (batches : List Batch) (g h : List Entry) → Course made batches g → Course made batches h → g ≡ h
+
+-- in a legal course the turns never fall
+abbrev pub CoursesAreInOrder : Type 0
+CoursesAreInOrder = (made : List (List ℕ)) (batches : List Batch) (history : List Entry) → Course made batches history → IsInOrder history
+
+-- and none is above the last, which comes after the turn of each batch
+abbrev pub CoursesEnd : Type 0
+CoursesEnd = (made : List (List ℕ)) (batches : List Batch) (history : List Entry) → Course made batches history → All (λ e. turn_of e ≤ length batches + 3) history
