@@ -9,6 +9,8 @@ mod law;
 mod log;
 mod opening;
 mod session;
+#[cfg(test)]
+mod tests;
 mod trace;
 
 pub use law::{courses_are_in_order, courses_are_one};
