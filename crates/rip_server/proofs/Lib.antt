@@ -5,3 +5,4 @@ pub mod MatchLemmas
 pub mod StandingLemmas
 pub mod CourseLemmas
 pub mod LawLemmas
+pub mod RangeLemmas

@@ -13,6 +13,6 @@ mod session;
 mod tests;
 mod trace;
 
-pub use law::{courses_are_in_order, courses_are_one};
+pub use law::{courses_are_in_order, courses_are_in_range, courses_are_one};
 pub use opening::identifier;
 pub use trace::{Stop, serve_trace};

@@ -100,5 +100,6 @@ fn traces_have_their_logs(rt: HostRuntime) -> Result<(), Fail> {
     }
     courses_are_one();
     courses_are_in_order();
+    courses_are_in_range();
     Ok(())
 }
