@@ -30,5 +30,8 @@ pub enum Ending {
         made: Option<Bytes>,
     },
     /// The item cannot have happened.
-    Report { item: u32, kind: BadReport },
+    Report {
+        item: u32,
+        kind: BadReport,
+    },
 }

@@ -21,7 +21,11 @@ pub enum Entry {
         time: u64,
     },
     /// A batch was admitted.
-    Admitted { turn: u64, session: u32, batch: Batch },
+    Admitted {
+        turn: u64,
+        session: u32,
+        batch: Batch,
+    },
     /// A reported call was served: the script made it in its place.
     Served {
         turn: u64,
@@ -40,5 +44,8 @@ pub enum Entry {
         ended: Option<Ending>,
     },
     /// The run is over.
-    Ended { turn: u64, status: u8 },
+    Ended {
+        turn: u64,
+        status: u8,
+    },
 }

@@ -6,8 +6,12 @@
 
 mod ending;
 mod entry;
+mod law;
+#[cfg(test)]
+mod tests;
 mod write;
 
 pub use ending::{BadReport, Ending};
 pub use entry::{Entry, Reply};
+pub use law::logs_tell_apart;
 pub use write::{write_admitted, write_done, write_ended, write_entry, write_opened, write_served};

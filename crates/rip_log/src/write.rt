@@ -57,7 +57,12 @@ pub fn write_opened(
 }
 
 /// Writes `batch T S N ITEMS`.
-pub fn write_admitted(out: &mut Writer, turn: u64, session: u32, batch: &Batch) -> Result<(), NoMemory>
+pub fn write_admitted(
+    out: &mut Writer,
+    turn: u64,
+    session: u32,
+    batch: &Batch,
+) -> Result<(), NoMemory>
     ensures { OnOk result (out.new ≡ out.old ++ entry_text (Entry.Admitted turn session batch.now)) }
 {
     begin(out, b"batch", turn, session)?;

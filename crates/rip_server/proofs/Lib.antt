@@ -4,3 +4,5 @@ pub mod RunLemmas
 pub mod MatchLemmas
 pub mod StandingLemmas
 pub mod CourseLemmas
+pub mod LawLemmas
+pub mod RangeLemmas

@@ -4,3 +4,4 @@ pub mod Course
 pub mod Steps
 pub mod Logged
 pub mod Stopped
+pub mod Laws

@@ -5,10 +5,14 @@
 //! the sink when it is made.
 #![tactic(auto)]
 
+mod law;
 mod log;
 mod opening;
 mod session;
+#[cfg(test)]
+mod tests;
 mod trace;
 
+pub use law::{courses_are_in_order, courses_are_in_range, courses_are_one};
 pub use opening::identifier;
 pub use trace::{Stop, serve_trace};

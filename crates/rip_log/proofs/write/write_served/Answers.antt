@@ -1,4 +1,4 @@
-use Rattle.std.proofs.Common.{◌≡◌, ℕ, List, [], ◌∷◌, ◌++◌, append_assoc, subst, sym, ap, ◌∙◌}
+use Rattle.std.proofs.Common.{◌≡◌, ℕ, List, [], ◌∷◌, ◌++◌, append_assoc, subst}
 use Rattle.std.specs.Prelude.{OnOk, codes, decimal}
 use Rattle.std.specs.List.{join_with_byte}
 use Rattle.rip_wire.specs.Call.{quoted, arguments_text}
