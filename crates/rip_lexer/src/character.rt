@@ -1,0 +1,102 @@
+ghost use Rattle.std.specs.Prelude.{◌≡◌, None, Some, length};
+ghost use Rattle.rip_lexer.specs.Text.{width, character_value};
+ghost use Rattle.rip_lexer.specs.View.{escape_of, first_character, hex_escape, unicode_escape};
+
+use crate::units::{begins_with_digit, digit_value, is_digit, is_hex_digit, is_line_end};
+
+const BACKSLASH: u16 = 0x5C;
+const ZERO: u16 = 0x30;
+const SMALL_U: u16 = 0x75;
+const SMALL_X: u16 = 0x78;
+const LINE_FEED: u16 = 10;
+const CARRIAGE_RETURN: u16 = 13;
+
+/// A character of a text, as it is spelled between the quotes (ECMA-262 7.8.4).
+#[derive(Clone, Copy, Debug, PartialEq, Eq)]
+pub(crate) enum Character {
+    /// A unit that stands for itself.
+    Plain(u16),
+    /// `\` and a unit of one letter, or one that stands for itself.
+    Escaped(u16),
+    /// `\0`.
+    Null,
+    /// `\x` and two hexadecimal digits.
+    Hexadecimal(u16, u16),
+    /// `\u` and four hexadecimal digits.
+    Unicode(u16, u16, u16, u16),
+    /// `\` and a line end, which stand for nothing.
+    Continuation(u16),
+    /// `\`, CR and LF.
+    ContinuationPair,
+    /// `\` and a unit with which it makes no escape.
+    Refused(u16),
+}
+
+impl Character {
+    /// How many units the character has.
+    pub(crate) fn width(self) -> usize
+        ensures { result ≡ width self }
+    {
+        match self {
+            Character::Plain(_) => 1,
+            Character::Escaped(_)
+            | Character::Null
+            | Character::Continuation(_)
+            | Character::Refused(_) => 2,
+            Character::ContinuationPair => 3,
+            Character::Hexadecimal(..) => 4,
+            Character::Unicode(..) => 6,
+        }
+    }
+}
+
+/// The character that the units begin with, in a text with this quote; none where the text ends or breaks off.
+pub(crate) fn first_character(quote: u16, units: &[u16]) -> Option<Character>
+    ensures { result ≡ first_character quote units.now }
+{
+    match units {
+        [unit, ..] if *unit == quote || is_line_end(*unit) => None,
+        [BACKSLASH, escaped, rest @ ..] => Some(escape_of(*escaped, rest)),
+        [] | [BACKSLASH] => None,
+        [unit, ..] => Some(Character::Plain(*unit)),
+    }
+}
+
+/// The escape that `\`, this unit and the rest begin with.
+fn escape_of(escaped: u16, rest: &[u16]) -> Character
+    ensures { result ≡ escape_of escaped rest.now }
+{
+    match escaped {
+        ZERO if !begins_with_digit(rest) => Character::Null,
+        SMALL_X => hex_escape(rest),
+        SMALL_U => unicode_escape(rest),
+        CARRIAGE_RETURN if matches!(rest, [LINE_FEED, ..]) => Character::ContinuationPair,
+        unit if is_digit(unit) => Character::Refused(unit),
+        unit if is_line_end(unit) => Character::Continuation(unit),
+        unit => Character::Escaped(unit),
+    }
+}
+
+/// The escape that `\x` and these units begin with.
+fn hex_escape(units: &[u16]) -> Character
+    ensures { result ≡ hex_escape units.now }
+{
+    match units {
+        [a, b, ..] if is_hex_digit(*a) && is_hex_digit(*b) => Character::Hexadecimal(*a, *b),
+        _ => Character::Refused(SMALL_X),
+    }
+}
+
+/// The escape that `\u` and these units begin with.
+fn unicode_escape(units: &[u16]) -> Character
+    ensures { result ≡ unicode_escape units.now }
+{
+    match units {
+        [a, b, c, d, ..]
+            if is_hex_digit(*a) && is_hex_digit(*b) && is_hex_digit(*c) && is_hex_digit(*d) =>
+        {
+            Character::Unicode(*a, *b, *c, *d)
+        }
+        _ => Character::Refused(SMALL_U),
+    }
+}

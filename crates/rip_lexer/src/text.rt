@@ -1,0 +1,66 @@
+ghost use Rattle.std.specs.Prelude.{◌≡◌, ◌≤◌, Some, length, IsTrue, IfNone};
+ghost use Rattle.rip_lexer.specs.Units.{begins, is_quote};
+ghost use Rattle.rip_lexer.specs.View.{ReadsEnd};
+
+use crate::character::{Character, first_character};
+use crate::refusal::{Fault, LexKind};
+
+/// How a text ends.
+#[derive(Clone, Copy, Debug, PartialEq, Eq)]
+pub(crate) struct TextEnd {
+    /// How many units it has with both quotes, where it is closed.
+    pub count: usize,
+    /// What is wrong with it.
+    pub fault: Option<Fault>,
+}
+
+/// The end of the text that the units begin with (ECMA-262 7.8.4).
+pub(crate) fn text_end(units: &[u16]) -> TextEnd
+    requires { IsTrue (begins is_quote units.now) }
+    ensures { ReadsEnd units.now result }
+{
+    let quote = units[0];
+    let mut rest = &units[1..];
+    let mut count: usize = 1;
+    let mut fault = None;
+    while let Some(character) = first_character(quote, rest) {
+        fault = first_fault(fault, count, character);
+        count += character.width();
+        rest = &rest[character.width()..];
+    }
+    if matches!(rest, [unit, ..] if *unit == quote) {
+        TextEnd {
+            count: count + 1,
+            fault,
+        }
+    } else {
+        TextEnd {
+            count: count + 1,
+            fault: Some(Fault {
+                offset: 0,
+                kind: LexKind::OpenText,
+            }),
+        }
+    }
+}
+
+/// The fault that was found before, or else that of a character which stands at this offset.
+fn first_fault(found: Option<Fault>, offset: usize, character: Character) -> Option<Fault> {
+    match (found, character) {
+        (None, Character::Refused(unit)) => Some(Fault {
+            offset,
+            kind: refused_kind(unit),
+        }),
+        _ => found,
+    }
+}
+
+/// Why `\` and this unit make no escape.
+fn refused_kind(unit: u16) -> LexKind
+    ensures { result ≡ refused_kind unit }
+{
+    match unit {
+        0x30..=0x37 => LexKind::OctalLiteral,
+        _ => LexKind::BadEscape,
+    }
+}
