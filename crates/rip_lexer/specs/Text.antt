@@ -95,11 +95,20 @@ abbrev pub AreCharacters : ℕ → List Character → List ℕ → Type 0
 AreCharacters quote [] rest = Unit {0}
 AreCharacters quote (c ∷ cs) rest = IsCharacter quote c (spell_all cs rest) × AreCharacters quote cs rest
 
--- the place of the first refused escape among characters that begin at this place, and why
+-- the fault of a character at this place
+abbrev pub fault_at : ℕ → Character → Option Fault
+fault_at place (Refused c) = Some (fault place (refused_kind c))
+fault_at place _ = None
+
+-- the first of two, where there is one
+abbrev pub option_or : {X : Type 0} → Option X → Option X → Option X
+option_or None second = second
+option_or (Some x) second = Some x
+
+-- the first fault among characters that begin at this place
 abbrev pub refused_in : ℕ → List Character → Option Fault
 refused_in place [] = None
-refused_in place (Refused c ∷ cs) = Some (fault place (refused_kind c))
-refused_in place (c ∷ cs) = refused_in (place + width c) cs
+refused_in place (c ∷ cs) = option_or (fault_at place c) (refused_in (place + width c) cs)
 
 -- the characters of a text end here: at its quote, at a line end, or because nothing follows but `\`
 abbrev pub ends_text : ℕ → List ℕ → Bool

@@ -42,13 +42,29 @@ is_blank_class White = true
 is_blank_class LineEnd = true
 is_blank_class _ = false
 
+abbrev pub is_name_start_class : UnitClass → Bool
+is_name_start_class NameStart = true
+is_name_start_class _ = false
+
 abbrev pub is_quote_class : UnitClass → Bool
 is_quote_class Quote = true
 is_quote_class _ = false
 
+abbrev pub is_mark_class : UnitClass → Bool
+is_mark_class Mark = true
+is_mark_class _ = false
+
 -- a decimal digit
 abbrev pub is_digit : ℕ → Bool
 is_digit c = is_digit_class (class_of c)
+
+-- a unit that may begin a name (7.6)
+abbrev pub is_name_start : ℕ → Bool
+is_name_start c = is_name_start_class (class_of c)
+
+-- a unit that may begin a punctuator (7.7)
+abbrev pub is_mark : ℕ → Bool
+is_mark c = is_mark_class (class_of c)
 
 -- a unit that a name may hold behind its first
 abbrev pub is_name_unit : ℕ → Bool

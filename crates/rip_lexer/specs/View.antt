@@ -1,6 +1,6 @@
 -- What some units begin with, as functions. The functions below `tokens` are stated by these; that they agree with
 -- the relations of the other files is proved, and no public clause cites them.
-use Rattle.std.specs.Prelude.{◌≡◌, ℕ, ◌+◌, Bool, true, false, not, ◌||◌, ◌&&◌, ◌==◌, if◌then◌else◌, List, [], ◌∷◌, ◌++◌, length, Option, Some, None, option_map, take_while}
+use Rattle.std.specs.Prelude.{◌≡◌, ℕ, ◌+◌, Bool, true, false, not, ◌||◌, ◌&&◌, ◌==◌, if◌then◌else◌, List, [], ◌∷◌, ◌++◌, length, Option, Some, None, option_map, take_while, filter}
 use Rattle.std.specs.List.{list_any, prefix_len}
 use Rattle.rip_lexer.specs.Units.{is_one_of, is_digit, is_line_end, is_blank, is_hex_digit, begins}
 use Rattle.rip_lexer.specs.Text.{ReadsText, text_fault}
@@ -63,14 +63,22 @@ abbrev pub unicode_escape : List ℕ → Character
 unicode_escape (a ∷ b ∷ c ∷ d ∷ rest) = if is_hex_digit a && is_hex_digit b && (is_hex_digit c && is_hex_digit d) then Unicode a b c d else Refused 117
 unicode_escape _ = Refused 117
 
+-- the escape that `\0` and these units begin with
+abbrev pub null_escape : List ℕ → Character
+null_escape rest = if begins is_digit rest then Refused 48 else Null
+
+-- the escape that `\`, this line end and the rest begin with
+abbrev pub continuation : ℕ → List ℕ → Character
+continuation c rest = if (c == 13) && begins (λ d. d == 10) rest then ContinuationPair else Continuation c
+
 -- the escape that `\`, this unit and the rest begin with
 abbrev pub escape_of : ℕ → List ℕ → Character
 escape_of c rest =
-    if c == 48 then (if begins is_digit rest then Refused c else Null)
+    if c == 48 then null_escape rest
     else (if c == 120 then hex_escape rest
     else (if c == 117 then unicode_escape rest
     else (if is_digit c then Refused c
-    else (if is_line_end c then (if (c == 13) && begins (λ d. d == 10) rest then ContinuationPair else Continuation c)
+    else (if is_line_end c then continuation c rest
     else Escaped c))))
 
 -- the character that the units begin with, in a text with this quote, where the text goes on
@@ -112,3 +120,7 @@ IsConstruct units C.Nothing = units ≡ []
 IsConstruct units (C.Token kind count) =
     (spelling : List ℕ) × (rest : List ℕ) × (units ≡ spelling ++ rest) × Begins kind spelling rest × (fault_of kind spelling rest ≡ None) × (count ≡ length spelling)
 IsConstruct units (C.Refused found) = Refuses units found.offset found.kind
+
+-- the spellings of this many units
+abbrev pub of_length : ℕ → List (List ℕ) → List (List ℕ)
+of_length n spellings = filter (λ s. length s == n) spellings

@@ -2,22 +2,16 @@
 use Rattle.std.specs.Prelude.{◌≡◌, ℕ, Bool, true, false, ◌&&◌, List, [], ◌∷◌, codes}
 use Rattle.std.specs.Str.{bytes_eq}
 use Rattle.std.specs.List.{list_any, list_all}
-use Rattle.rip_lexer.specs.Units.{class_of, is_name_class, is_name_unit}
-use Rattle.rip_lexer.specs.declared.units.UnitClass.{UnitClass}
-use Rattle.rip_lexer.specs.declared.units.UnitClass.TheVariants.{NameStart}
+use Rattle.rip_lexer.specs.Units.{is_name_start, is_name_unit}
 
 -- this spelling is in the list
 abbrev pub is_among : List (List ℕ) → List ℕ → Bool
 is_among spellings s = list_any (bytes_eq s) spellings
 
-abbrev pub is_name_start_class : UnitClass → Bool
-is_name_start_class NameStart = true
-is_name_start_class _ = false
-
 -- a letter, `$` or `_`, and then these and digits (7.6)
 abbrev pub is_word : List ℕ → Bool
 is_word [] = false
-is_word (c ∷ cs) = is_name_start_class (class_of c) && list_all is_name_unit cs
+is_word (c ∷ cs) = is_name_start c && list_all is_name_unit cs
 
 -- the reserved words (7.6.1), those of strict code and the three literals among them, by length
 unfoldable pub reserved_words : List (List ℕ)

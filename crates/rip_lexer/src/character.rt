@@ -1,14 +1,19 @@
-ghost use Rattle.std.specs.Prelude.{◌≡◌, None, Some, length};
-ghost use Rattle.rip_lexer.specs.Text.{width, character_value};
-ghost use Rattle.rip_lexer.specs.View.{escape_of, first_character, hex_escape, unicode_escape};
+ghost use Rattle.std.specs.Prelude.{◌≡◌, ◌+◌, ◌≤◌, length, IfSome};
+ghost use Rattle.rip_lexer.specs.Text.{width};
+ghost use Rattle.rip_lexer.specs.View.{escape_of, first_character, null_escape, continuation, hex_escape, unicode_escape};
 
-use crate::units::{begins_with_digit, digit_value, is_digit, is_hex_digit, is_line_end};
+use crate::units::{begins_with_digit, is_digit, is_hex_digit, is_line_end};
 
 const BACKSLASH: u16 = 0x5C;
+
 const ZERO: u16 = 0x30;
+
 const SMALL_U: u16 = 0x75;
+
 const SMALL_X: u16 = 0x78;
+
 const LINE_FEED: u16 = 10;
+
 const CARRIAGE_RETURN: u16 = 13;
 
 /// A character of a text, as it is spelled between the quotes (ECMA-262 7.8.4).
@@ -52,7 +57,8 @@ impl Character {
 
 /// The character that the units begin with, in a text with this quote; none where the text ends or breaks off.
 pub(crate) fn first_character(quote: u16, units: &[u16]) -> Option<Character>
-    ensures { result ≡ first_character quote units.now }
+    ensures value { result ≡ first_character quote units.now }
+    ensures bound { IfSome result (λ character. width character ≤ length units.now) }
 {
     match units {
         [unit, ..] if *unit == quote || is_line_end(*unit) => None,
@@ -64,22 +70,47 @@ pub(crate) fn first_character(quote: u16, units: &[u16]) -> Option<Character>
 
 /// The escape that `\`, this unit and the rest begin with.
 fn escape_of(escaped: u16, rest: &[u16]) -> Character
-    ensures { result ≡ escape_of escaped rest.now }
+    ensures value { result ≡ escape_of escaped rest.now }
+    ensures bound { width result ≤ length rest.now + 2 }
 {
     match escaped {
-        ZERO if !begins_with_digit(rest) => Character::Null,
+        ZERO => null_escape(rest),
         SMALL_X => hex_escape(rest),
         SMALL_U => unicode_escape(rest),
-        CARRIAGE_RETURN if matches!(rest, [LINE_FEED, ..]) => Character::ContinuationPair,
         unit if is_digit(unit) => Character::Refused(unit),
-        unit if is_line_end(unit) => Character::Continuation(unit),
+        unit if is_line_end(unit) => continuation(unit, rest),
         unit => Character::Escaped(unit),
+    }
+}
+
+/// The escape that `\0` and these units begin with.
+fn null_escape(units: &[u16]) -> Character
+    ensures value { result ≡ null_escape units.now }
+    ensures bound { width result ≤ length units.now + 2 }
+{
+    if begins_with_digit(units) {
+        Character::Refused(ZERO)
+    } else {
+        Character::Null
+    }
+}
+
+/// The continuation that `\`, this line end and these units begin with: CR and LF are one line end.
+fn continuation(line_end: u16, units: &[u16]) -> Character
+    ensures value { result ≡ continuation line_end units.now }
+    ensures bound { width result ≤ length units.now + 2 }
+{
+    if line_end == CARRIAGE_RETURN && matches!(units, [LINE_FEED, ..]) {
+        Character::ContinuationPair
+    } else {
+        Character::Continuation(line_end)
     }
 }
 
 /// The escape that `\x` and these units begin with.
 fn hex_escape(units: &[u16]) -> Character
-    ensures { result ≡ hex_escape units.now }
+    ensures value { result ≡ hex_escape units.now }
+    ensures bound { width result ≤ length units.now + 2 }
 {
     match units {
         [a, b, ..] if is_hex_digit(*a) && is_hex_digit(*b) => Character::Hexadecimal(*a, *b),
@@ -89,12 +120,12 @@ fn hex_escape(units: &[u16]) -> Character
 
 /// The escape that `\u` and these units begin with.
 fn unicode_escape(units: &[u16]) -> Character
-    ensures { result ≡ unicode_escape units.now }
+    ensures value { result ≡ unicode_escape units.now }
+    ensures bound { width result ≤ length units.now + 2 }
 {
     match units {
         [a, b, c, d, ..]
-            if is_hex_digit(*a) && is_hex_digit(*b) && is_hex_digit(*c) && is_hex_digit(*d) =>
-        {
+            if is_hex_digit(*a) && is_hex_digit(*b) && is_hex_digit(*c) && is_hex_digit(*d) => {
             Character::Unicode(*a, *b, *c, *d)
         }
         _ => Character::Refused(SMALL_U),

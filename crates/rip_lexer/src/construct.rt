@@ -1,5 +1,20 @@
-use crate::refusal::Fault;
+ghost use Rattle.std.specs.Prelude.{◌≡◌, None, IsTrue};
+ghost use Rattle.rip_lexer.specs.Units.{begins, is_digit, is_mark, is_name_start, is_quote};
+ghost use Rattle.rip_lexer.specs.View.{first_part, IsConstruct};
+
+use crate::numeral::{numeral_count, numeral_fault};
+use crate::punctuator::punctuator_count;
+use crate::refusal::{Fault, LexKind};
+use crate::text::text_end;
 use crate::token::TokenKind;
+use crate::units::{UnitClass, begins_with_digit, class_of, name_unit_count};
+use crate::words::is_reserved;
+
+const STAR: u16 = 0x2A;
+
+const POINT: u16 = 0x2E;
+
+const SLASH: u16 = 0x2F;
 
 /// What stands behind a gap.
 #[derive(Clone, Copy, Debug, PartialEq, Eq)]
@@ -7,10 +22,92 @@ pub(crate) enum Construct {
     /// The end of the script.
     Nothing,
     /// A token of so many units.
-    Token {
-        kind: TokenKind,
-        count: usize,
-    },
+    Token { kind: TokenKind, count: usize },
     /// What is refused.
     Refused(Fault),
+}
+
+/// What the units begin with, where no gap begins.
+pub(crate) fn first_construct(units: &[u16]) -> Construct
+    requires { first_part units.now ≡ None }
+    ensures { IsConstruct units.now result }
+{
+    let Some(first) = units.first() else {
+        return Construct::Nothing;
+    };
+    match class_of(*first) {
+        UnitClass::NameStart => word(units),
+        UnitClass::Digit => numeral(units),
+        UnitClass::Quote => text(units),
+        UnitClass::Mark => punctuator(units),
+        UnitClass::White | UnitClass::LineEnd | UnitClass::Other => refused(LexKind::BadCharacter),
+    }
+}
+
+/// A construct that is refused at its first unit.
+fn refused(kind: LexKind) -> Construct {
+    Construct::Refused(Fault { offset: 0, kind })
+}
+
+/// The name or reserved word that the units begin with.
+fn word(units: &[u16]) -> Construct
+    requires { IsTrue (begins is_name_start units.now) }
+    ensures { IsConstruct units.now result }
+{
+    let (word, _) = units.split_at(name_unit_count(units));
+    let kind = if is_reserved(word) {
+        TokenKind::Reserved
+    } else {
+        TokenKind::Name
+    };
+    Construct::Token {
+        kind,
+        count: word.len(),
+    }
+}
+
+/// The numeral that the units begin with.
+fn numeral(units: &[u16]) -> Construct
+    requires { IsTrue (begins is_digit units.now) }
+    ensures { IsConstruct units.now result }
+{
+    let (spelling, rest) = units.split_at(numeral_count(units));
+    match numeral_fault(spelling, rest) {
+        Some(fault) => Construct::Refused(fault),
+        None => Construct::Token {
+            kind: TokenKind::Numeral,
+            count: spelling.len(),
+        },
+    }
+}
+
+/// The text that the units begin with.
+fn text(units: &[u16]) -> Construct
+    requires { IsTrue (begins is_quote units.now) }
+    ensures { IsConstruct units.now result }
+{
+    let end = text_end(units);
+    match end.fault {
+        Some(fault) => Construct::Refused(fault),
+        None => Construct::Token {
+            kind: TokenKind::Text,
+            count: end.count,
+        },
+    }
+}
+
+/// The punctuator that the units begin with.
+fn punctuator(units: &[u16]) -> Construct
+    requires mark { IsTrue (begins is_mark units.now) }
+    requires no_gap { first_part units.now ≡ None }
+    ensures { IsConstruct units.now result }
+{
+    match units {
+        [SLASH, STAR, ..] => refused(LexKind::OpenComment),
+        [POINT, after @ ..] if begins_with_digit(after) => refused(LexKind::FractionLiteral),
+        _ => Construct::Token {
+            kind: TokenKind::Punctuator,
+            count: punctuator_count(units),
+        },
+    }
 }

@@ -1,9 +1,10 @@
-ghost use Rattle.std.specs.Prelude.{◌≡◌, ◌≤◌, None, drop, length, option_map};
+ghost use Rattle.std.specs.Prelude.{◌≡◌, ◌+◌, ◌<◌, ◌≤◌, ◌||◌, false, None, drop, length, option_map, IfSome};
 ghost use Rattle.rip_lexer.specs.View.{first_part, comment_of, before_close, shown, shown_body, ReadsGap};
 
 use crate::units::{is_blank, is_line_end, line_count};
 
 const SLASH: u16 = 0x2F;
+
 const STAR: u16 = 0x2A;
 
 /// A gap, or a part of one: how many units it has, and whether it holds a line end.
@@ -14,7 +15,7 @@ pub(crate) struct Gap {
 }
 
 /// The longest gap that the units begin with (ECMA-262 7.2, 7.3, 7.4).
-pub(crate) fn gap(units: &[u16]) -> Gap
+pub(crate) fn longest_gap(units: &[u16]) -> Gap
     ensures bound { result.count ≤ length units.now }
     ensures reads { ReadsGap units.now result.count result.holds_line_end (drop result.count units.now) }
     ensures longest { first_part (drop result.count units.now) ≡ None }
@@ -29,7 +30,7 @@ pub(crate) fn gap(units: &[u16]) -> Gap
             count: gap.count + part.count,
             holds_line_end: or(gap.holds_line_end, part.holds_line_end),
         };
-        rest = &rest[part.count..];
+        (_, rest) = rest.split_at(part.count);
     }
     gap
 }
@@ -43,7 +44,8 @@ fn or(first: bool, second: bool) -> bool
 
 /// The part of a gap that the units begin with.
 fn first_part(units: &[u16]) -> Option<Gap>
-    ensures { result ≡ option_map shown (first_part units.now) }
+    ensures part { result ≡ option_map shown (first_part units.now) }
+    ensures bound { IfSome result (λ part. (0 < part.count) × (part.count ≤ length units.now)) }
 {
     match units {
         [unit, ..] if is_blank(*unit) => Some(Gap {
@@ -57,7 +59,8 @@ fn first_part(units: &[u16]) -> Option<Gap>
 
 /// The comment that `/` and these units begin with.
 fn comment(units: &[u16]) -> Option<Gap>
-    ensures { result ≡ option_map shown (comment_of units.now) }
+    ensures part { result ≡ option_map shown (comment_of units.now) }
+    ensures bound { IfSome result (λ part. (0 < part.count) × (part.count ≤ length units.now + 1)) }
 {
     match units {
         [SLASH, body @ ..] => Some(Gap {
@@ -71,7 +74,8 @@ fn comment(units: &[u16]) -> Option<Gap>
 
 /// The comment that `/*` and these units begin with.
 fn block_comment(units: &[u16]) -> Option<Gap>
-    ensures { result ≡ option_map (shown_body 4 false) (before_close units.now) }
+    ensures part { result ≡ option_map (shown_body 4 false) (before_close units.now) }
+    ensures bound { IfSome result (λ part. (0 < part.count) × (part.count ≤ length units.now + 2)) }
 {
     let mut rest = units;
     let mut count: usize = 4;

@@ -4,10 +4,18 @@
 mod character;
 mod construct;
 mod gap;
+mod lexer;
+mod numeral;
+mod punctuator;
 mod refusal;
+#[cfg(test)]
+mod tests;
 mod text;
 mod token;
 mod units;
+mod words;
 
+pub use lexer::tokens;
+pub use numeral::numeral_value;
 pub use refusal::{LexKind, LexRefusal};
 pub use token::{Token, TokenKind, Tokens};

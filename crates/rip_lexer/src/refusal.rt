@@ -28,10 +28,7 @@ pub enum LexKind {
 pub enum LexRefusal {
     /// The place counts units of the script's text from 0. It is that of the first unit of a numeral, a text or a
     /// comment, that of the `\` of an escape, and that of the bad unit itself.
-    At {
-        place: u32,
-        kind: LexKind,
-    },
+    At { place: u32, kind: LexKind },
     Memory,
 }
 

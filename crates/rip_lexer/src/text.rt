@@ -1,5 +1,6 @@
 ghost use Rattle.std.specs.Prelude.{◌≡◌, ◌≤◌, Some, length, IsTrue, IfNone};
 ghost use Rattle.rip_lexer.specs.Units.{begins, is_quote};
+ghost use Rattle.rip_lexer.specs.Text.{refused_kind, fault_at, option_or};
 ghost use Rattle.rip_lexer.specs.View.{ReadsEnd};
 
 use crate::character::{Character, first_character};
@@ -20,13 +21,13 @@ pub(crate) fn text_end(units: &[u16]) -> TextEnd
     ensures { ReadsEnd units.now result }
 {
     let quote = units[0];
-    let mut rest = &units[1..];
+    let (_, mut rest) = units.split_at(1);
     let mut count: usize = 1;
     let mut fault = None;
     while let Some(character) = first_character(quote, rest) {
         fault = first_fault(fault, count, character);
         count += character.width();
-        rest = &rest[character.width()..];
+        (_, rest) = rest.split_at(character.width());
     }
     if matches!(rest, [unit, ..] if *unit == quote) {
         TextEnd {
@@ -45,7 +46,9 @@ pub(crate) fn text_end(units: &[u16]) -> TextEnd
 }
 
 /// The fault that was found before, or else that of a character which stands at this offset.
-fn first_fault(found: Option<Fault>, offset: usize, character: Character) -> Option<Fault> {
+fn first_fault(found: Option<Fault>, offset: usize, character: Character) -> Option<Fault>
+    ensures { result ≡ option_or found (fault_at offset character) }
+{
     match (found, character) {
         (None, Character::Refused(unit)) => Some(Fault {
             offset,

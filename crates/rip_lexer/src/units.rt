@@ -1,4 +1,4 @@
-ghost use Rattle.std.specs.Prelude.{◌≡◌, ◌<◌, not};
+ghost use Rattle.std.specs.Prelude.{◌≡◌, ◌<◌, ◌≤◌, length, not};
 ghost use Rattle.std.specs.List.{prefix_len};
 ghost use Rattle.rip_lexer.specs.Units.{class_of, is_hex_digit, is_digit, is_name_unit, is_line_end, is_blank, digit_value, begins};
 
@@ -27,27 +27,11 @@ pub(crate) fn class_of(unit: u16) -> UnitClass
         0x61..=0x7A | 0x41..=0x5A | 0x24 | 0x5F => UnitClass::NameStart,
         0x30..=0x39 => UnitClass::Digit,
         10 | 13 | 0x2028 | 0x2029 => UnitClass::LineEnd,
-        0x2000..=0x200A
-        | 9
-        | 11
-        | 12
-        | 32
-        | 0xA0
-        | 0x1680
-        | 0x202F
-        | 0x205F
-        | 0x3000
-        | 0xFEFF => UnitClass::White,
+        0x2000..=0x200A | 9 | 11 | 12 | 32 | 0xA0 | 0x1680 | 0x202F | 0x205F | 0x3000 | 0xFEFF =>
+            UnitClass::White,
         0x22 | 0x27 => UnitClass::Quote,
-        0x21
-        | 0x25
-        | 0x26
-        | 0x28..=0x2F
-        | 0x3A..=0x3F
-        | 0x5B
-        | 0x5D
-        | 0x5E
-        | 0x7B..=0x7E => UnitClass::Mark,
+        0x21 | 0x25 | 0x26 | 0x28..=0x2F | 0x3A..=0x3F | 0x5B | 0x5D | 0x5E | 0x7B..=0x7E =>
+            UnitClass::Mark,
         _ => UnitClass::Other,
     }
 }
@@ -118,28 +102,32 @@ pub(crate) fn begins_with_name_unit(units: &[u16]) -> bool
 
 /// How many decimal digits the units begin with.
 pub(crate) fn digit_count(units: &[u16]) -> usize
-    ensures { result ≡ prefix_len is_digit units.now }
+    ensures value { result ≡ prefix_len is_digit units.now }
+    ensures bound { result ≤ length units.now }
 {
     units.iter().take_while(|unit| is_digit(**unit)).count()
 }
 
 /// How many hexadecimal digits the units begin with.
 pub(crate) fn hex_digit_count(units: &[u16]) -> usize
-    ensures { result ≡ prefix_len is_hex_digit units.now }
+    ensures value { result ≡ prefix_len is_hex_digit units.now }
+    ensures bound { result ≤ length units.now }
 {
     units.iter().take_while(|unit| is_hex_digit(**unit)).count()
 }
 
 /// How many units that a name may hold the units begin with.
 pub(crate) fn name_unit_count(units: &[u16]) -> usize
-    ensures { result ≡ prefix_len is_name_unit units.now }
+    ensures value { result ≡ prefix_len is_name_unit units.now }
+    ensures bound { result ≤ length units.now }
 {
     units.iter().take_while(|unit| is_name_unit(**unit)).count()
 }
 
 /// How many units stand before the first line end.
 pub(crate) fn line_count(units: &[u16]) -> usize
-    ensures { result ≡ prefix_len (λ c. not (is_line_end c)) units.now }
+    ensures value { result ≡ prefix_len (λ c. not (is_line_end c)) units.now }
+    ensures bound { result ≤ length units.now }
 {
     units.iter().take_while(|unit| !is_line_end(**unit)).count()
 }
