@@ -1,5 +1,5 @@
 -- Texts, character by character, and the units that they stand for (ECMA-262 7.8.4).
-use Rattle.std.specs.Prelude.{◌≡◌, ℕ, ◌+◌, ◌*◌, Bool, true, false, not, ◌||◌, ◌&&◌, ◌==◌, if◌then◌else◌, List, [], ◌∷◌, ◌++◌, Option, Some, None, flat_map, ◌⊎◌}
+use Rattle.std.specs.Prelude.{◌≡◌, ℕ, zero, suc, ◌+◌, ◌*◌, Bool, true, false, not, ◌||◌, ◌&&◌, ◌==◌, if◌then◌else◌, List, [], ◌∷◌, ◌++◌, Option, Some, None, flat_map, ◌⊎◌}
 use Rattle.rip_lexer.specs.Units.{class_of, is_between, is_digit, is_line_end, is_hex_digit, digit_value, begins}
 use Rattle.rip_lexer.specs.declared.units.UnitClass.TheVariants.{Quote}
 use Rattle.rip_lexer.specs.declared.character.Character.{Character}
@@ -20,21 +20,18 @@ spell (Continuation c) rest = 92 ∷ c ∷ rest
 spell ContinuationPair rest = 92 ∷ 13 ∷ 10 ∷ rest
 spell (Refused c) rest = 92 ∷ c ∷ rest
 
--- the units begin with two, and with four hexadecimal digits
-abbrev pub begins_two_hex : List ℕ → Bool
-begins_two_hex (a ∷ b ∷ rest) = is_hex_digit a && is_hex_digit b
-begins_two_hex _ = false
-
-abbrev pub begins_four_hex : List ℕ → Bool
-begins_four_hex (a ∷ b ∷ c ∷ d ∷ rest) = is_hex_digit a && is_hex_digit b && (is_hex_digit c && is_hex_digit d)
-begins_four_hex _ = false
+-- the units begin with this many hexadecimal digits
+abbrev pub begins_hex : ℕ → List ℕ → Bool
+begins_hex zero units = true
+begins_hex (suc n) [] = false
+begins_hex (suc n) (c ∷ rest) = is_hex_digit c && begins_hex n rest
 
 -- `\` and this unit make no escape before this rest: octal digits, 8 and 9, and `x` or `u` without their digits
 abbrev pub is_refused : ℕ → List ℕ → Bool
 is_refused c rest =
     if c == 48 then begins is_digit rest
-    else (if c == 120 then not (begins_two_hex rest)
-    else (if c == 117 then not (begins_four_hex rest)
+    else (if c == 120 then not (begins_hex 2 rest)
+    else (if c == 117 then not (begins_hex 4 rest)
     else is_digit c))
 
 -- the character may stand in a text with this quote before this rest
@@ -42,8 +39,8 @@ abbrev pub IsCharacter : ℕ → Character → List ℕ → Type 0
 IsCharacter quote (Plain c) rest = (c == quote ≡ false) × (c == 92 ≡ false) × (is_line_end c ≡ false)
 IsCharacter quote (Escaped c) rest = (is_line_end c ≡ false) × (is_digit c ≡ false) × (c == 120 ≡ false) × (c == 117 ≡ false)
 IsCharacter quote Null rest = begins is_digit rest ≡ false
-IsCharacter quote (Hexadecimal a b) rest = begins_two_hex (a ∷ b ∷ []) ≡ true
-IsCharacter quote (Unicode a b c d) rest = begins_four_hex (a ∷ b ∷ c ∷ d ∷ []) ≡ true
+IsCharacter quote (Hexadecimal a b) rest = begins_hex 2 (a ∷ b ∷ []) ≡ true
+IsCharacter quote (Unicode a b c d) rest = begins_hex 4 (a ∷ b ∷ c ∷ d ∷ []) ≡ true
 IsCharacter quote (Continuation c) rest = (is_line_end c ≡ true) × ((c == 13) && begins (λ d. d == 10) rest ≡ false)
 IsCharacter quote ContinuationPair rest = Unit {0}
 IsCharacter quote (Refused c) rest = is_refused c rest ≡ true

@@ -3,7 +3,7 @@
 use Rattle.std.specs.Prelude.{◌≡◌, ℕ, ◌+◌, Bool, true, false, not, ◌||◌, ◌&&◌, ◌==◌, if◌then◌else◌, List, [], ◌∷◌, ◌++◌, length, Option, Some, None, option_map, take_while, filter}
 use Rattle.std.specs.List.{list_any, prefix_len}
 use Rattle.rip_lexer.specs.Units.{is_one_of, is_digit, is_line_end, is_blank, is_hex_digit, begins}
-use Rattle.rip_lexer.specs.Text.{ReadsText, text_fault}
+use Rattle.rip_lexer.specs.Text.{ReadsText, begins_hex, text_fault}
 use Rattle.rip_lexer.specs.Gap.{Part, Blank, LineComment, BlockComment, line_in, gap_text, IsGap}
 use Rattle.rip_lexer.specs.Tokens.{Begins, fault_of, Refuses}
 use Rattle.rip_lexer.specs.declared.character.Character.{Character}
@@ -55,12 +55,12 @@ pub record ReadsGap (units : List ℕ) (count : ℕ) (holds_line_end : Bool) (re
 
 -- the escape that `\x` and these units begin with
 abbrev pub hex_escape : List ℕ → Character
-hex_escape (a ∷ b ∷ rest) = if is_hex_digit a && is_hex_digit b then Hexadecimal a b else Refused 120
+hex_escape (a ∷ b ∷ rest) = if begins_hex 2 (a ∷ b ∷ []) then Hexadecimal a b else Refused 120
 hex_escape _ = Refused 120
 
 -- the escape that `\u` and these units begin with
 abbrev pub unicode_escape : List ℕ → Character
-unicode_escape (a ∷ b ∷ c ∷ d ∷ rest) = if is_hex_digit a && is_hex_digit b && (is_hex_digit c && is_hex_digit d) then Unicode a b c d else Refused 117
+unicode_escape (a ∷ b ∷ c ∷ d ∷ rest) = if begins_hex 4 (a ∷ b ∷ c ∷ d ∷ []) then Unicode a b c d else Refused 117
 unicode_escape _ = Refused 117
 
 -- the escape that `\0` and these units begin with

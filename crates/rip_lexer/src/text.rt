@@ -1,4 +1,4 @@
-ghost use Rattle.std.specs.Prelude.{◌≡◌, ◌≤◌, Some, length, IsTrue, IfNone};
+ghost use Rattle.std.specs.Prelude.{◌≡◌, ◌==◌, IsTrue};
 ghost use Rattle.rip_lexer.specs.Units.{begins, is_quote};
 ghost use Rattle.rip_lexer.specs.Text.{refused_kind, fault_at, option_or};
 ghost use Rattle.rip_lexer.specs.View.{ReadsEnd};
@@ -29,7 +29,7 @@ pub(crate) fn text_end(units: &[u16]) -> TextEnd
         count += character.width();
         (_, rest) = rest.split_at(character.width());
     }
-    if matches!(rest, [unit, ..] if *unit == quote) {
+    if begins_with(rest, quote) {
         TextEnd {
             count: count + 1,
             fault,
@@ -43,6 +43,13 @@ pub(crate) fn text_end(units: &[u16]) -> TextEnd
             }),
         }
     }
+}
+
+/// Whether the units begin with this one.
+fn begins_with(units: &[u16], first: u16) -> bool
+    ensures { result ≡ begins (λ c. c == first) units.now }
+{
+    matches!(units, [unit, ..] if *unit == first)
 }
 
 /// The fault that was found before, or else that of a character which stands at this offset.
