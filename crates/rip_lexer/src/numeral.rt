@@ -86,6 +86,7 @@ fn is_hexadecimal(spelling: &[u16]) -> bool
 }
 
 /// The whole number that a numeral stands for (ECMA-262 7.8.3), or none where it is above 2^53 - 1.
+#[tactic(auto, unfolding(crate::specs::Numeral::numeral_value))]
 pub fn numeral_value(spelling: &[u16]) -> Option<Whole>
     ensures some { IsSome result ↔ (numeral_value spelling.now ≤ 9007199254740991) }
     ensures value { IfSome result (λ whole. whole ≡ pos (numeral_value spelling.now)) }
@@ -112,7 +113,8 @@ fn whole_of(value: Option<u64>) -> Option<Whole>
 
 /// The number that digits stand for, or none where it is above [`MAX_VALUE`].
 fn digits_value(base: u64, digits: &[u16]) -> Option<u64>
-    requires { base ≤ 16 }
+    requires positive { 0 < base }
+    requires small { base ≤ 16 }
     ensures none { IfNone result (9007199254740991 < digits_value base digits.now) }
     ensures value { IfSome result (λ n. (n ≡ digits_value base digits.now) × (n ≤ 9007199254740991)) }
 {

@@ -127,13 +127,12 @@ fn is_reserved_of_ten(word: &[u16]) -> bool
 fn same(units: &[u16], ascii: &[u8]) -> bool
     ensures { result ≡ bytes_eq units.now ascii.now }
 {
-    if units.len() != ascii.len() {
-        return false;
-    }
-    for (unit, byte) in units.iter().zip(ascii) {
-        if *unit != u16::from(*byte) {
-            return false;
+    let mut rest = units;
+    for byte in ascii {
+        match rest {
+            [unit, after @ ..] if *unit == u16::from(*byte) => rest = after,
+            _ => return false,
         }
     }
-    true
+    rest.is_empty()
 }
