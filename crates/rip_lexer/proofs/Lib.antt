@@ -1,6 +1,8 @@
 pub mod Choice
 pub mod Classes
+pub mod Constructs
 pub mod Gaps
+pub mod Longest
 pub mod Numbers
 pub mod Runs
 pub mod Spellings

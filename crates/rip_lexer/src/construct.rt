@@ -1,4 +1,6 @@
-ghost use Rattle.std.specs.Prelude.{◌≡◌, None, IsTrue};
+ghost use Rattle.std.specs.Prelude.{◌≡◌, None, IsTrue, bytes_eq, codes};
+ghost use Rattle.rip_lexer.specs.Fault.{fault};
+ghost use Rattle.rip_lexer.specs.Gap.{begins_comment};
 ghost use Rattle.rip_lexer.specs.Units.{begins, is_digit, is_mark, is_name_start, is_quote};
 ghost use Rattle.rip_lexer.specs.View.{first_part, IsConstruct};
 
@@ -32,7 +34,7 @@ pub(crate) fn first_construct(units: &[u16]) -> Construct
     requires { first_part units.now ≡ None }
     ensures { IsConstruct units.now result }
 {
-    let Some(first) = units.first() else {
+    let [first, ..] = units else {
         return Construct::Nothing;
     };
     match class_of(*first) {
@@ -45,7 +47,9 @@ pub(crate) fn first_construct(units: &[u16]) -> Construct
 }
 
 /// A construct that is refused at its first unit.
-fn refused(kind: LexKind) -> Construct {
+fn refused(kind: LexKind) -> Construct
+    ensures { result ≡ Construct.Refused (fault 0 kind) }
+{
     Construct::Refused(Fault { offset: 0, kind })
 }
 
@@ -102,12 +106,30 @@ fn punctuator(units: &[u16]) -> Construct
     requires no_gap { first_part units.now ≡ None }
     ensures { IsConstruct units.now result }
 {
-    match units {
-        [SLASH, STAR, ..] => refused(LexKind::OpenComment),
-        [POINT, after @ ..] if begins_with_digit(after) => refused(LexKind::FractionLiteral),
-        _ => Construct::Token {
-            kind: TokenKind::Punctuator,
-            count: punctuator_count(units),
-        },
+    if begins_comment(units) {
+        return refused(LexKind::OpenComment);
     }
+    let (spelling, rest) = units.split_at(punctuator_count(units));
+    if is_point(spelling) && begins_with_digit(rest) {
+        refused(LexKind::FractionLiteral)
+    } else {
+        Construct::Token {
+            kind: TokenKind::Punctuator,
+            count: spelling.len(),
+        }
+    }
+}
+
+/// Whether a comment begins here.
+fn begins_comment(units: &[u16]) -> bool
+    ensures { result ≡ begins_comment units.now }
+{
+    matches!(units, [SLASH, SLASH | STAR, ..])
+}
+
+/// Whether the units are a `.`.
+fn is_point(units: &[u16]) -> bool
+    ensures { result ≡ bytes_eq units.now (codes ".") }
+{
+    matches!(units, [POINT])
 }
