@@ -12,6 +12,8 @@ use Rattle.rip_lexer.specs.Numeral.{is_decimal, has_prefix, is_hexadecimal, is_n
 use Rattle.rip_lexer.specs.Text.{spell, spell_all, AreCharacters, character_value, refused_in, ends_text, ReadsText, StandsFor, text_fault}
 use Rattle.rip_lexer.specs.Gap.{begins_comment, holds_close}
 use Rattle.rip_lexer.specs.Tokens.{IsSpelling, Begins}
+use Rattle.rip_lexer.specs.Fault.{fault}
+use Rattle.rip_lexer.specs.declared.refusal.LexKind.TheVariants.{OpenText}
 use Rattle.rip_lexer.specs.View.{numeral_count, begins_with, first_count}
 use Rattle.rip_lexer.specs.declared.units.UnitClass.{UnitClass}
 use Rattle.rip_lexer.specs.declared.units.UnitClass.TheVariants.{NameStart, Digit, LineEnd, White, Quote, Mark, Other}
@@ -344,3 +346,85 @@ begins_punctuator (c ∷ rest) n n-is fits mark no-comment =
         let among = punctuator_kind k other is-other same in
         subst (λ m. length other ≤ m) (sym (n-is ∙ ap (first_count punctuators) splits)) (count_bound punctuators other more sorted_punctuators among))
     no-comment
+
+-- texts
+
+spell-append : (character : Character) (rest more : List ℕ) → spell character rest ++ more ≡ spell character (rest ++ more)
+spell-append (Plain c) rest more = refl
+spell-append (Escaped c) rest more = refl
+spell-append Null rest more = refl
+spell-append (Hexadecimal a b) rest more = refl
+spell-append (Unicode a b c d) rest more = refl
+spell-append (Continuation c) rest more = refl
+spell-append ContinuationPair rest more = refl
+spell-append (Refused c) rest more = refl
+
+pub spell_all-append : (characters : List Character) (rest more : List ℕ) → spell_all characters rest ++ more ≡ spell_all characters (rest ++ more)
+spell_all-append [] rest more = refl
+spell_all-append (c ∷ cs) rest more = spell-append c (spell_all cs rest) more ∙ ap (λ u. spell c u) (spell_all-append cs rest more)
+
+quote_ends : (quote : ℕ) (rest : List ℕ) → ends_text quote (quote ∷ rest) ≡ true
+quote_ends quote [] = or_left _ _ (or_left _ _ (eq-eqb quote quote refl))
+quote_ends quote (d ∷ rest) = or_left _ _ (eq-eqb quote quote refl)
+
+-- a closed text in front of more units reads as it does alone
+pub reads_on : (spelling : List ℕ) (quote : ℕ) (characters : List Character) (more : List ℕ) → ReadsText spelling quote characters (quote ∷ []) → ReadsText (spelling ++ more) quote characters (quote ∷ more)
+reads_on spelling quote characters more reads = record {
+  is_quote = reads.is_quote;
+  spelled = ap (λ u. u ++ more) reads.spelled ∙ ap (λ u. quote ∷ u) (spell_all-append characters (quote ∷ []) more);
+  each = any_rest quote reads.is_quote [] more characters reads.each;
+  ends = quote_ends quote more;
+}
+
+-- the units have one reading as a text
+pub one_reading_of_text : (units : List ℕ) (q r : ℕ) (cs ds : List Character) (rest more : List ℕ) → ReadsText units q cs rest → ReadsText units r ds more → (q ≡ r) × (cs ≡ ds) × (rest ≡ more)
+one_reading_of_text units q r cs ds rest more a b =
+    let both : q ∷ spell_all cs rest ≡ r ∷ spell_all ds more = sym a.spelled ∙ b.spelled in
+    let quotes : q ≡ r = cc in
+    let tails : spell_all cs rest ≡ spell_all ds more = cc in
+    let each = subst (λ x. AreCharacters x ds more) (sym quotes) b.each in
+    let ends = subst (λ x. ends_text x more ≡ true) (sym quotes) b.ends in
+    let one = one_text q a.is_quote cs ds rest more tails a.each each (ends_none q a.is_quote rest a.ends) (ends_none q a.is_quote more ends) in
+    (quotes, one.0, one.1)
+
+-- a text that is closed and has no fault
+pub record Closed (units : List ℕ) (quote : ℕ) (characters : List Character) (rest : List ℕ) : Type 0 where
+  pub tail : List ℕ
+  pub rest-is : rest ≡ quote ∷ tail
+  pub right : refused_in 1 characters ≡ None
+
+pub closed : (units : List ℕ) (quote : ℕ) (characters : List Character) (rest : List ℕ) → text_fault quote characters rest ≡ None → Closed units quote characters rest
+closed units quote characters [] none = absurd (none-some (fault 0 OpenText) (sym none))
+closed units quote characters (c ∷ tail) none =
+    ⊎_elim
+    (λ here. let same = eqb-true c quote here.0 in record { tail = tail; rest-is = ap (λ x. x ∷ tail) same; right = here.1 })
+    (λ other. absurd (none-some (fault 0 OpenText) (sym other.1)))
+    (chosen (c == quote) _ _ None none)
+
+text_no_comment : (units : List ℕ) (quote : ℕ) (rest : List ℕ) → class_of quote ≡ Quote → units ≡ quote ∷ rest → begins_comment units ≡ false
+text_no_comment units quote rest is-quote splits = ap begins_comment splits ∙ no_comment_at quote rest (λ mark. false≢true (sym (ap is_mark_class is-quote) ∙ ap is_mark_class mark))
+
+pub begins_text : (units : List ℕ) (quote : ℕ) (characters : List Character) (rest tail : List ℕ) (n : ℕ) → ReadsText units quote characters rest → rest ≡ quote ∷ tail → refused_in 1 characters ≡ None → length units + 1 ≡ n + length rest → (n ≤ length units) × Begins Text (take n units) (drop n units)
+begins_text units quote characters rest tail n reads rest-is right count-is =
+    let spelling = quote ∷ spell_all characters (quote ∷ []) in
+    let splits : units ≡ spelling ++ tail = reads.spelled ∙ ap (λ u. quote ∷ spell_all characters u) rest-is ∙ ap (λ u. quote ∷ u) (sym (spell_all-append characters (quote ∷ []) tail)) in
+    let long : length units ≡ length spelling + length tail = ap length splits ∙ length-append spelling tail in
+    let tail-long : length rest ≡ suc (length tail) = ap length rest-is in
+    let n-is : length spelling ≡ n = omega arith in
+    let fits : n ≤ length units = omega arith in
+    let front : take n units ≡ spelling = ap (λ u. take n u) splits ∙ take_at spelling tail n n-is in
+    let stands : StandsFor spelling (flat_map character_value characters) = record {
+      quote = quote;
+      characters = characters;
+      reads = record { is_quote = reads.is_quote; spelled = refl; each = any_rest quote reads.is_quote tail [] characters (subst (λ u. AreCharacters quote characters u) rest-is reads.each); ends = quote_ends quote [] };
+      right = right;
+      value = refl;
+    } in
+    (fits, begins_from Text units n fits (subst (λ s. (u : List ℕ) × StandsFor s u) (sym front) (flat_map character_value characters, stands))
+    (λ other more k e is-other same.
+        let text = text_kind k other is-other same in
+        let there = reads_on other text.1.quote text.1.characters more text.1.reads in
+        let one = one_reading_of_text units quote text.1.quote characters text.1.characters rest (text.1.quote ∷ more) reads (subst (λ u. ReadsText u text.1.quote text.1.characters (text.1.quote ∷ more)) (sym e) there) in
+        let rests = ap length one.2 in
+        omega (arith, ap length e, length-append other more))
+    (text_no_comment units quote (spell_all characters rest) reads.is_quote reads.spelled))
