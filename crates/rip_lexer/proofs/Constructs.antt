@@ -1,8 +1,8 @@
 -- What the code shows is what the units begin with.
-use Rattle.std.proofs.Common.{◌≡◌, ℕ, Bool, true, false, not, ◌||◌, ◌&&◌, ◌==◌, List, [], ◌∷◌, ◌++◌, length, take, drop, take_while, Option, None, Some, option_map, refl, sym, ap, ◌∙◌, ⊎_elim, take-append-drop, length-take-le, eqb-true}
+use Rattle.std.proofs.Common.{◌≡◌, ℕ, ◌≤◌, arith, get_or, ◌⊎◌, inl, inr, Bool, true, false, not, ◌||◌, ◌&&◌, ◌==◌, List, [], ◌∷◌, ◌++◌, length, take, drop, take_while, Option, None, Some, option_map, refl, sym, ap, ◌∙◌, ⊎_elim, take-append-drop, length-take-le, eqb-true}
 use Rattle.std.proofs.lemmas.Bool.{and_parts, or_from, cond-true, both_ways, false≢true}
 use Rattle.std.proofs.lemmas.Option.{none-some}
-use Rattle.rip_lexer.specs.Units.{is_line_end, is_blank, begins}
+use Rattle.rip_lexer.specs.Units.{class_of, is_line_end, is_blank, is_blank_class, begins}
 use Rattle.rip_lexer.specs.Gap.{Blank, LineComment, BlockComment, holds_close, begins_comment}
 use Rattle.rip_lexer.specs.Tokens.{Begins, fault_of, Refuses, Spelling, InText, InComment, AtUnit}
 use Rattle.rip_lexer.specs.View.{IsConstruct, ReadsEnd, before_close, comment_of, first_part}
@@ -10,7 +10,9 @@ use Rattle.rip_lexer.specs.declared.construct.Construct.{Construct}
 use Rattle.rip_lexer.specs.declared.construct.Construct.TheVariants as C
 use Rattle.rip_lexer.specs.declared.text.TextEnd.{TextEnd}
 use Rattle.rip_lexer.specs.declared.refusal.Fault.{Fault}
-use Rattle.rip_lexer.specs.declared.refusal.LexKind.TheVariants.{OpenComment}
+use Rattle.rip_lexer.specs.declared.refusal.LexKind.TheVariants.{BadCharacter, OpenComment}
+use Rattle.rip_lexer.specs.declared.units.UnitClass.{UnitClass}
+use Rattle.rip_lexer.specs.declared.units.UnitClass.TheVariants.{White, LineEnd, Other}
 use Rattle.rip_lexer.specs.declared.token.TokenKind.{TokenKind}
 use Rattle.rip_lexer.specs.declared.token.TokenKind.TheVariants.{Text}
 use Rattle.rip_lexer.proofs.Choice.{chosen, mapped_none}
@@ -72,3 +74,14 @@ comment_refused (c ∷ rest) none test =
 pub not_blank : (c : ℕ) (rest : List ℕ) → first_part (c ∷ rest) ≡ None → is_blank c ≡ false
 not_blank c rest none =
     ⊎_elim (λ blank. absurd (none-some (Blank c) (sym blank.1))) (λ other. other.0) (chosen (is_blank c) (Some (Blank c)) _ None none)
+
+not_name : (k : UnitClass) → (k ≡ White) ⊎ ((k ≡ LineEnd) ⊎ (k ≡ Other)) → is_blank_class k ≡ false → k ≡ Other
+not_name k (inl white) other = absurd (false≢true (sym other ∙ ap is_blank_class white))
+not_name k (inr (inl line)) other = absurd (false≢true (sym other ∙ ap is_blank_class line))
+not_name k (inr (inr rest)) other = rest
+
+-- a unit that begins nothing
+pub unit_refused : (units : List ℕ) (k : UnitClass) → 1 ≤ length units → first_part units ≡ None → k ≡ class_of (get_or units 0 0) → (k ≡ White) ⊎ ((k ≡ LineEnd) ⊎ (k ≡ Other)) → Refuses units 0 BadCharacter
+unit_refused [] k some none class which = absurd (omega arith)
+unit_refused (c ∷ rest) k some none class which =
+    AtUnit c rest refl (sym class ∙ not_name k which (ap is_blank_class class ∙ not_blank c rest none)) refl refl

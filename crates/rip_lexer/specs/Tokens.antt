@@ -33,10 +33,14 @@ pub record Begins (kind : TokenKind) (spelling rest : List ℕ) : Type 0 where
   pub longest : (other more : List ℕ) (k : TokenKind) → spelling ++ rest ≡ other ++ more → IsSpelling k other → length other ≤ length spelling
   pub no_comment : begins_comment (spelling ++ rest) ≡ false
 
--- where a spelling with this rest is refused, counted from its first unit, and why: a `.` before a digit is a fraction
+-- where a punctuator with this rest is refused, counted from its first unit, and why: a `.` before a digit is a fraction
+abbrev pub punctuator_fault : List ℕ → List ℕ → Option Fault
+punctuator_fault s rest = if bytes_eq s (codes ".") && begins is_digit rest then Some (fault 0 FractionLiteral) else None
+
+-- where a spelling with this rest is refused, counted from its first unit, and why
 abbrev pub fault_of : TokenKind → List ℕ → List ℕ → Option Fault
 fault_of Numeral s rest = numeral_fault s rest
-fault_of Punctuator s rest = if bytes_eq s (codes ".") && begins is_digit rest then Some (fault 0 FractionLiteral) else None
+fault_of Punctuator s rest = punctuator_fault s rest
 fault_of _ s rest = None
 
 -- the units begin with what is refused, at this offset and for this cause

@@ -1,6 +1,6 @@
 -- What some units begin with, as functions. The functions below `tokens` are stated by these; that they agree with
 -- the relations of the other files is proved, and no public clause cites them.
-use Rattle.std.specs.Prelude.{◌≡◌, ℕ, ◌+◌, Bool, true, false, not, ◌||◌, ◌&&◌, ◌==◌, if◌then◌else◌, List, [], ◌∷◌, ◌++◌, length, Option, Some, None, option_map, take_while, filter}
+use Rattle.std.specs.Prelude.{◌≡◌, ℕ, ◌+◌, ◌≤◌, Bool, true, false, not, ◌||◌, ◌&&◌, ◌==◌, if◌then◌else◌, List, [], ◌∷◌, ◌++◌, length, Option, Some, None, option_map, take_while, filter}
 use Rattle.std.specs.List.{list_any, prefix_len}
 use Rattle.rip_lexer.specs.Units.{is_one_of, is_digit, is_line_end, is_blank, is_hex_digit, begins}
 use Rattle.rip_lexer.specs.Text.{ReadsText, begins_hex, text_fault}
@@ -124,3 +124,8 @@ IsConstruct units (C.Refused found) = Refuses units found.offset found.kind
 -- the spellings of this many units
 abbrev pub of_length : ℕ → List (List ℕ) → List (List ℕ)
 of_length n spellings = filter (λ s. length s == n) spellings
+
+-- what is refused is refused within so many units
+abbrev pub OffsetWithin : ℕ → Construct → Type 0
+OffsetWithin count (C.Refused found) = found.offset ≤ count
+OffsetWithin count _ = Unit {0}

@@ -1,8 +1,9 @@
-ghost use Rattle.std.specs.Prelude.{◌≡◌, None, IsTrue, bytes_eq, codes};
+ghost use Rattle.std.specs.Prelude.{◌≡◌, ◌≤◌, None, IsTrue, IfSome, bytes_eq, codes, length};
 ghost use Rattle.rip_lexer.specs.Fault.{fault};
 ghost use Rattle.rip_lexer.specs.Gap.{begins_comment};
 ghost use Rattle.rip_lexer.specs.Units.{begins, is_digit, is_mark, is_name_start, is_quote};
-ghost use Rattle.rip_lexer.specs.View.{first_part, IsConstruct};
+ghost use Rattle.rip_lexer.specs.Tokens.{punctuator_fault};
+ghost use Rattle.rip_lexer.specs.View.{first_part, IsConstruct, OffsetWithin};
 
 use crate::numeral::{numeral_count, numeral_fault};
 use crate::punctuator::punctuator_count;
@@ -32,7 +33,8 @@ pub(crate) enum Construct {
 /// What the units begin with, where no gap begins.
 pub(crate) fn first_construct(units: &[u16]) -> Construct
     requires { first_part units.now ≡ None }
-    ensures { IsConstruct units.now result }
+    ensures construct { IsConstruct units.now result }
+    ensures bound { OffsetWithin (length units.now) result }
 {
     let [first, ..] = units else {
         return Construct::Nothing;
@@ -56,7 +58,8 @@ fn refused(kind: LexKind) -> Construct
 /// The name or reserved word that the units begin with.
 fn word(units: &[u16]) -> Construct
     requires { IsTrue (begins is_name_start units.now) }
-    ensures { IsConstruct units.now result }
+    ensures construct { IsConstruct units.now result }
+    ensures bound { OffsetWithin (length units.now) result }
 {
     let (word, _) = units.split_at(name_unit_count(units));
     let kind = if is_reserved(word) {
@@ -73,7 +76,8 @@ fn word(units: &[u16]) -> Construct
 /// The numeral that the units begin with.
 fn numeral(units: &[u16]) -> Construct
     requires { IsTrue (begins is_digit units.now) }
-    ensures { IsConstruct units.now result }
+    ensures construct { IsConstruct units.now result }
+    ensures bound { OffsetWithin (length units.now) result }
 {
     let (spelling, rest) = units.split_at(numeral_count(units));
     match numeral_fault(spelling, rest) {
@@ -88,7 +92,8 @@ fn numeral(units: &[u16]) -> Construct
 /// The text that the units begin with.
 fn text(units: &[u16]) -> Construct
     requires { IsTrue (begins is_quote units.now) }
-    ensures { IsConstruct units.now result }
+    ensures construct { IsConstruct units.now result }
+    ensures bound { OffsetWithin (length units.now) result }
 {
     let end = text_end(units);
     match end.fault {
@@ -104,19 +109,34 @@ fn text(units: &[u16]) -> Construct
 fn punctuator(units: &[u16]) -> Construct
     requires mark { IsTrue (begins is_mark units.now) }
     requires no_gap { first_part units.now ≡ None }
-    ensures { IsConstruct units.now result }
+    ensures construct { IsConstruct units.now result }
+    ensures bound { OffsetWithin (length units.now) result }
 {
     if begins_comment(units) {
         return refused(LexKind::OpenComment);
     }
     let (spelling, rest) = units.split_at(punctuator_count(units));
-    if is_point(spelling) && begins_with_digit(rest) {
-        refused(LexKind::FractionLiteral)
-    } else {
-        Construct::Token {
+    match punctuator_fault(spelling, rest) {
+        Some(fault) => Construct::Refused(fault),
+        None => Construct::Token {
             kind: TokenKind::Punctuator,
             count: spelling.len(),
-        }
+        },
+    }
+}
+
+/// What is wrong with a punctuator that this rest follows: a `.` before a digit begins a fraction.
+fn punctuator_fault(spelling: &[u16], rest: &[u16]) -> Option<Fault>
+    ensures value { result ≡ punctuator_fault spelling.now rest.now }
+    ensures bound { IfSome result (λ found. found.offset ≤ length spelling.now) }
+{
+    if is_point(spelling) && begins_with_digit(rest) {
+        Some(Fault {
+            offset: 0,
+            kind: LexKind::FractionLiteral,
+        })
+    } else {
+        None
     }
 }
 

@@ -43,7 +43,8 @@ pub(crate) fn numeral_count(units: &[u16]) -> usize
 /// What is wrong with a numeral that this rest follows.
 #[tactic(auto, unfolding(crate::specs::Numeral::numeral_fault))]
 pub(crate) fn numeral_fault(spelling: &[u16], rest: &[u16]) -> Option<Fault>
-    ensures { result ≡ numeral_fault spelling.now rest.now }
+    ensures value { result ≡ numeral_fault spelling.now rest.now }
+    ensures bound { IfSome result (λ found. found.offset ≤ length spelling.now) }
 {
     let (_, after_digits) = rest.split_at(digit_count(rest));
     if !is_hexadecimal(spelling) && begins_fraction(after_digits) {

@@ -1,4 +1,4 @@
-ghost use Rattle.std.specs.Prelude.{◌≡◌, ◌==◌, IsTrue};
+ghost use Rattle.std.specs.Prelude.{◌≡◌, ◌==◌, ◌≤◌, IfSome, IsTrue, length};
 ghost use Rattle.rip_lexer.specs.Units.{begins, is_quote};
 ghost use Rattle.rip_lexer.specs.Text.{refused_kind, fault_at, option_or};
 ghost use Rattle.rip_lexer.specs.View.{ReadsEnd};
@@ -18,7 +18,8 @@ pub(crate) struct TextEnd {
 /// The end of the text that the units begin with (ECMA-262 7.8.4).
 pub(crate) fn text_end(units: &[u16]) -> TextEnd
     requires { IsTrue (begins is_quote units.now) }
-    ensures { ReadsEnd units.now result }
+    ensures reads { ReadsEnd units.now result }
+    ensures bound { IfSome result.fault (λ found. found.offset ≤ length units.now) }
 {
     let quote = units[0];
     let (_, mut rest) = units.split_at(1);
@@ -54,7 +55,9 @@ fn begins_with(units: &[u16], first: u16) -> bool
 
 /// The fault that was found before, or else that of a character which stands at this offset.
 fn first_fault(found: Option<Fault>, offset: usize, character: Character) -> Option<Fault>
-    ensures { result ≡ option_or found (fault_at offset character) }
+    ensures value { result ≡ option_or found (fault_at offset character) }
+    ensures bound { IfSome found (λ before. before.offset ≤ offset)
+        → IfSome result (λ fault. fault.offset ≤ offset) }
 {
     match (found, character) {
         (None, Character::Refused(unit)) => Some(Fault {

@@ -1,10 +1,11 @@
-use Rattle.std.proofs.Common.{◌≡◌, List, length, ◌+◌}
+use Rattle.std.proofs.Common.{◌≡◌, ◌≤◌, IfSome, length, ◌+◌}
 use Rattle.rip_lexer.proofs.Texts.{Reads}
 use Rattle.rip_lexer.proofs.text.text_end.Given as goal
 
 abbrev pub invariant-loop-character : goal.invariant-loop-character
 invariant-loop-character l = record {
   bound : l.count + length l.rest ≡ length l.units;
+  fault : IfSome l.fault (λ found. found.offset ≤ l.count);
   reads : Reads l.units l.quote l.rest l.count l.fault;
 }
 
