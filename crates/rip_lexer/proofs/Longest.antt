@@ -100,7 +100,7 @@ first_unit kind s rest c units spelled e =
 pub not_empty : (kind : TokenKind) (s : List ℕ) → IsSpelling kind s → 0 < length s
 not_empty kind s spelled = let st = starts kind s spelled in omega (arith, ap length st.splits)
 
-no_comment_at : (c : ℕ) (units : List ℕ) → class_of c ≢ Mark → begins_comment (c ∷ units) ≡ false
+pub no_comment_at : (c : ℕ) (units : List ℕ) → class_of c ≢ Mark → begins_comment (c ∷ units) ≡ false
 no_comment_at c units other = and_left (c == 47) _ (differs c 47 (λ same. other (same ∙ slash_class)))
 
 -- the first n units are a spelling, and no other of its class is longer

@@ -26,7 +26,7 @@ pub fn tokens(alloc: Global, text: &[u16]) -> Result<Tokens, LexRefusal>
     let mut tokens = Vec::new(alloc);
     let mut place: usize = 0;
     let mut rest = text;
-    loop {
+    'script: loop {
         let gap = longest_gap(rest);
         let (_, behind) = rest.split_at(gap.count);
         place += gap.count;
