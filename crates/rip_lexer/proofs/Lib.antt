@@ -9,3 +9,4 @@ pub mod Runs
 pub mod Spellings
 pub mod Texts
 pub mod Unique
+pub mod Values

@@ -1,5 +1,5 @@
 -- What the units begin with, spelling by spelling, and that no longer spelling begins there.
-use Rattle.std.proofs.Common.{◌≡◌, ◌≢◌, ℕ, zero, suc, ◌+◌, ◌<◌, ◌≤◌, Bool, true, false, not, ◌||◌, ◌&&◌, ◌==◌, nat_le, cond, List, [], ◌∷◌, ◌++◌, length, take, drop, codes, bytes_eq, Option, Some, None, flat_map, refl, sym, ap, ◌∙◌, subst, ⊎_elim, arith, append_assoc, take-append-drop, length-take-le, length-append, eqb-true, eq-eqb, leb-true, le_trans}
+use Rattle.std.proofs.Common.{◌≡◌, ◌≢◌, ℕ, zero, suc, ◌+◌, ◌<◌, ◌≤◌, Bool, true, false, not, ◌||◌, ◌&&◌, ◌==◌, nat_le, cond, List, [], ◌∷◌, ◌++◌, length, take, drop, codes, bytes_eq, Option, Some, None, filter_map, refl, sym, ap, ◌∙◌, subst, ⊎_elim, arith, append_assoc, take-append-drop, length-take-le, length-append, eqb-true, eq-eqb, leb-true, le_trans}
 use Rattle.std.specs.List.{list_any, list_all, prefix_len}
 use Rattle.std.specs.Cmp.Lexicographic.{bytes_decides}
 use Rattle.std.proofs.lemmas.Bool.{and_parts, and_from, and_left, or_parts, or_from, or_left, or_right, or_cases, cond-true, cond-false, cases_Bool, false≢true}
@@ -363,7 +363,7 @@ pub spell_all-append : (characters : List Character) (rest more : List ℕ) → 
 spell_all-append [] rest more = refl
 spell_all-append (c ∷ cs) rest more = spell-append c (spell_all cs rest) more ∙ ap (λ u. spell c u) (spell_all-append cs rest more)
 
-quote_ends : (quote : ℕ) (rest : List ℕ) → ends_text quote (quote ∷ rest) ≡ true
+pub quote_ends : (quote : ℕ) (rest : List ℕ) → ends_text quote (quote ∷ rest) ≡ true
 quote_ends quote [] = or_left _ _ (or_left _ _ (eq-eqb quote quote refl))
 quote_ends quote (d ∷ rest) = or_left _ _ (eq-eqb quote quote refl)
 
@@ -413,14 +413,14 @@ begins_text units quote characters rest tail n reads rest-is right count-is =
     let n-is : length spelling ≡ n = omega arith in
     let fits : n ≤ length units = omega arith in
     let front : take n units ≡ spelling = ap (λ u. take n u) splits ∙ take_at spelling tail n n-is in
-    let stands : StandsFor spelling (flat_map character_value characters) = record {
+    let stands : StandsFor spelling (filter_map character_value characters) = record {
       quote = quote;
       characters = characters;
       reads = record { is_quote = reads.is_quote; spelled = refl; each = any_rest quote reads.is_quote tail [] characters (subst (λ u. AreCharacters quote characters u) rest-is reads.each); ends = quote_ends quote [] };
       right = right;
       value = refl;
     } in
-    (fits, begins_from Text units n fits (subst (λ s. (u : List ℕ) × StandsFor s u) (sym front) (flat_map character_value characters, stands))
+    (fits, begins_from Text units n fits (subst (λ s. (u : List ℕ) × StandsFor s u) (sym front) (filter_map character_value characters, stands))
     (λ other more k e is-other same.
         let text = text_kind k other is-other same in
         let there = reads_on other text.1.quote text.1.characters more text.1.reads in

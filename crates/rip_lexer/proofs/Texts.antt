@@ -183,7 +183,7 @@ refused_seen c rest refused =
         (chosen _ _ _ _ not-zero.1))
     (chosen _ _ _ _ refused)
 
-spell_cancels : (character : Character) (rest more : List ℕ) → spell character rest ≡ spell character more → rest ≡ more
+pub spell_cancels : (character : Character) (rest more : List ℕ) → spell character rest ≡ spell character more → rest ≡ more
 spell_cancels (Plain c) rest more e = cc
 spell_cancels (Escaped c) rest more e = cc
 spell_cancels Null rest more e = cc

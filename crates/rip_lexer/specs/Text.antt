@@ -1,5 +1,5 @@
 -- Texts, character by character, and the units that they stand for (ECMA-262 7.8.4).
-use Rattle.std.specs.Prelude.{◌≡◌, ℕ, zero, suc, ◌+◌, ◌*◌, Bool, true, false, not, ◌||◌, ◌&&◌, ◌==◌, if◌then◌else◌, List, [], ◌∷◌, ◌++◌, Option, Some, None, flat_map, ◌⊎◌}
+use Rattle.std.specs.Prelude.{◌≡◌, ℕ, zero, suc, ◌+◌, ◌*◌, Bool, true, false, not, ◌||◌, ◌&&◌, ◌==◌, if◌then◌else◌, List, [], ◌∷◌, ◌++◌, Option, Some, None, filter_map, ◌⊎◌}
 use Rattle.rip_lexer.specs.Units.{class_of, is_between, is_digit, is_line_end, is_hex_digit, digit_value, begins}
 use Rattle.rip_lexer.specs.declared.units.UnitClass.TheVariants.{Quote}
 use Rattle.rip_lexer.specs.declared.character.Character.{Character}
@@ -56,16 +56,16 @@ escape_value c =
     else (if c == 114 then 13
     else c)))))
 
--- the units that a character stands for
-abbrev pub character_value : Character → List ℕ
-character_value (Plain c) = c ∷ []
-character_value (Escaped c) = escape_value c ∷ []
-character_value Null = 0 ∷ []
-character_value (Hexadecimal a b) = (digit_value a * 16 + digit_value b) ∷ []
-character_value (Unicode a b c d) = (((digit_value a * 16 + digit_value b) * 16 + digit_value c) * 16 + digit_value d) ∷ []
-character_value (Continuation c) = []
-character_value ContinuationPair = []
-character_value (Refused c) = []
+-- the unit that a character stands for, if it stands for one
+abbrev pub character_value : Character → Option ℕ
+character_value (Plain c) = Some c
+character_value (Escaped c) = Some (escape_value c)
+character_value Null = Some 0
+character_value (Hexadecimal a b) = Some (digit_value a * 16 + digit_value b)
+character_value (Unicode a b c d) = Some (((digit_value a * 16 + digit_value b) * 16 + digit_value c) * 16 + digit_value d)
+character_value (Continuation c) = None
+character_value ContinuationPair = None
+character_value (Refused c) = None
 
 -- how many units a character has
 abbrev pub width : Character → ℕ
@@ -131,4 +131,4 @@ pub record StandsFor (spelling : List ℕ) (units : List ℕ) : Type 0 where
   pub characters : List Character
   pub reads : ReadsText spelling quote characters (quote ∷ [])
   pub right : refused_in 1 characters ≡ None
-  pub value : units ≡ flat_map character_value characters
+  pub value : units ≡ filter_map character_value characters

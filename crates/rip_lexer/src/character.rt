@@ -1,14 +1,20 @@
 ghost use Rattle.std.specs.Prelude.{◌≡◌, ◌+◌, ◌≤◌, length, IfSome};
-ghost use Rattle.rip_lexer.specs.Text.{width};
+ghost use Rattle.rip_lexer.specs.Text.{character_value, escape_value, width};
 ghost use Rattle.rip_lexer.specs.View.{escape_of, first_character, null_escape, continuation, hex_escape, unicode_escape};
 
-use crate::units::{begins_with_digit, is_digit, is_hex_digit, is_line_end};
+use crate::units::{begins_with_digit, digit_value, is_digit, is_hex_digit, is_line_end};
 
 const BACKSLASH: u16 = 0x5C;
 
 const ZERO: u16 = 0x30;
 
+const SMALL_B: u16 = 0x62;
+const SMALL_F: u16 = 0x66;
+const SMALL_N: u16 = 0x6E;
+const SMALL_R: u16 = 0x72;
+const SMALL_T: u16 = 0x74;
 const SMALL_U: u16 = 0x75;
+const SMALL_V: u16 = 0x76;
 
 const SMALL_X: u16 = 0x78;
 
@@ -52,6 +58,39 @@ impl Character {
             Character::Hexadecimal(..) => 4,
             Character::Unicode(..) => 6,
         }
+    }
+
+    /// The unit that the character stands for, if it stands for one.
+    pub(crate) fn value(self) -> Option<u16>
+        ensures { result ≡ character_value self }
+    {
+        match self {
+            Character::Plain(unit) => Some(unit),
+            Character::Escaped(unit) => Some(escape_value(unit)),
+            Character::Null => Some(0),
+            Character::Hexadecimal(a, b) => Some(digit_value(a) * 16 + digit_value(b)),
+            Character::Unicode(a, b, c, d) => Some(
+                ((digit_value(a) * 16 + digit_value(b)) * 16 + digit_value(c)) * 16 + digit_value(d),
+            ),
+            Character::Continuation(_) | Character::ContinuationPair | Character::Refused(_) => {
+                None
+            }
+        }
+    }
+}
+
+/// What `\` and a unit of one letter stand for; any other unit stands for itself.
+fn escape_value(unit: u16) -> u16
+    ensures { result ≡ escape_value unit }
+{
+    match unit {
+        SMALL_B => 8,
+        SMALL_T => 9,
+        SMALL_N => 10,
+        SMALL_V => 11,
+        SMALL_F => 12,
+        SMALL_R => 13,
+        _ => unit,
     }
 }
 

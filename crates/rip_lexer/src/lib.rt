@@ -18,4 +18,5 @@ mod words;
 pub use lexer::tokens;
 pub use numeral::numeral_value;
 pub use refusal::{LexKind, LexRefusal};
+pub use text::text_value;
 pub use token::{Token, TokenKind, Tokens};

@@ -1,10 +1,11 @@
-ghost use Rattle.std.specs.Prelude.{◌≡◌, ◌==◌, ◌≤◌, IfSome, IsTrue, length};
+ghost use Rattle.std.specs.Prelude.{◌≡◌, ◌==◌, ◌≤◌, ◌++◌, ℕ, List, IfSome, IsTrue, OnOk, OnErr, length, option_to_list};
 ghost use Rattle.rip_lexer.specs.Units.{begins, is_quote};
-ghost use Rattle.rip_lexer.specs.Text.{refused_kind, fault_at, option_or};
+ghost use Rattle.rip_lexer.specs.Text.{refused_kind, fault_at, option_or, StandsFor};
 ghost use Rattle.rip_lexer.specs.View.{ReadsEnd};
 
 use crate::character::{Character, first_character};
 use crate::refusal::{Fault, LexKind};
+use rip_values::NoMemory;
 
 /// How a text ends.
 #[derive(Clone, Copy, Debug, PartialEq, Eq)]
@@ -43,6 +44,49 @@ pub(crate) fn text_end(units: &[u16]) -> TextEnd
                 kind: LexKind::OpenText,
             }),
         }
+    }
+}
+
+/// Puts the units that a text with its quotes stands for behind those of `out` (ECMA-262 7.8.4). Where memory runs
+/// out, `out` is as it was.
+pub fn text_value(out: &mut Vec<u16>, spelling: &[u16]) -> Result<(), NoMemory>
+    requires { (units : List ℕ) × StandsFor spelling.now units }
+    ensures ok { OnOk result
+        ((units : List ℕ) → StandsFor spelling.now units → out.new.items ≡ out.old.items ++ units) }
+    ensures err { OnErr result (out.new.items ≡ out.old.items) }
+{
+    let before = out.len();
+    let pushed = push_value(out, spelling);
+    if pushed.is_err() {
+        out.truncate(before);
+    }
+    pushed
+}
+
+/// Does the work of [`text_value`], but leaves a part of the units where memory runs out.
+fn push_value(out: &mut Vec<u16>, spelling: &[u16]) -> Result<(), NoMemory>
+    requires { (units : List ℕ) × StandsFor spelling.now units }
+    ensures ok { OnOk result
+        ((units : List ℕ) → StandsFor spelling.now units → out.new.items ≡ out.old.items ++ units) }
+    ensures kept { (added : List ℕ) × (out.new.items ≡ out.old.items ++ added) }
+{
+    let quote = spelling[0];
+    let (_, mut rest) = spelling.split_at(1);
+    while let Some(character) = first_character(quote, rest) {
+        push_unit(out, character.value())?;
+        (_, rest) = rest.split_at(character.width());
+    }
+    Ok(())
+}
+
+/// Puts a unit behind those of `out`, where there is one.
+fn push_unit(out: &mut Vec<u16>, unit: Option<u16>) -> Result<(), NoMemory>
+    ensures ok { OnOk result (out.new.items ≡ out.old.items ++ option_to_list unit) }
+    ensures err { OnErr result (out.new.items ≡ out.old.items) }
+{
+    match unit {
+        Some(unit) => Ok(out.push(unit)?),
+        None => Ok(()),
     }
 }
 
