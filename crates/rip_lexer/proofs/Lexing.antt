@@ -60,6 +60,12 @@ token_read text rest place count line behind tokens kind n goes gap it more outc
     subst (λ ts. Lexes 0 text ts outcome) (sym (append_assoc tokens (t ∷ []) more))
     (goes (t ∷ more) outcome (after, leads, subst (λ u. Lexes (place + count + n) u more outcome) tail lexes))
 
+-- a turn of the loop over constructs
+pub token_goes_on : (text rest : List ℕ) (place count : ℕ) (line : Bool) (behind after : List ℕ) (tokens next : List Token) (kind : TokenKind) (n : ℕ) → Goes text place rest tokens → ReadsGap rest count line behind → IsConstruct behind (C.Token kind n) → after ≡ drop n behind → next ≡ tokens ++ (record { kind = kind; start = place + count; count = n; line_before = line } ∷ []) → Goes text (place + count + n) after next
+token_goes_on text rest place count line behind after tokens next kind n goes gap it after-is next-is =
+    subst (λ u. Goes text (place + count + n) u next) (sym after-is)
+    (subst (λ ts. Goes text (place + count + n) (drop n behind) ts) (sym next-is) (token_read text rest place count line behind tokens kind n goes gap it))
+
 pub same_tokens : (text : List ℕ) (ts us : List Token) → IsTokens text ts → IsTokens text us → ts ≡ us
 same_tokens text ts us a b = (one_reading 0 text ts us Whole Whole a b).0
 

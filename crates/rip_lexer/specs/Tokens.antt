@@ -1,5 +1,5 @@
 -- The tokens of a script, or its first refusal, as relations on its whole text (ECMA-262 7).
-use Rattle.std.specs.Prelude.{◌≡◌, ℕ, ◌+◌, ◌≤◌, Bool, true, false, ◌&&◌, if◌then◌else◌, List, [], ◌∷◌, ◌++◌, length, Option, Some, None, codes}
+use Rattle.std.specs.Prelude.{◌≡◌, ℕ, ◌+◌, ◌≤◌, Bool, true, false, ◌&&◌, if◌then◌else◌, List, [], ◌∷◌, ◌++◌, length, Option, Some, None, Result, Ok, Err, ◌⊎◌, codes}
 use Rattle.std.specs.Str.{bytes_eq}
 use Rattle.std.specs.List.{list_any}
 use Rattle.rip_lexer.specs.Units.{class_of, is_digit, begins}
@@ -102,3 +102,27 @@ IsFirstRefusal text place cause = (tokens : List Token) × Lexes 0 text tokens (
 abbrev pub IsRefusal : List ℕ → LexRefusal → Type 0
 IsRefusal text (At place cause) = IsFirstRefusal text place cause
 IsRefusal text Memory = Unit {0}
+
+-- whatever list of tokens the script has, the answer is that list, or memory ran out
+abbrev pub GivesTokens : List ℕ → Result (List Token) LexRefusal → Type 0
+GivesTokens text answer = (tokens : List Token) → IsTokens text tokens → (answer ≡ Ok tokens) ⊎ (answer ≡ Err Memory)
+
+-- whichever construct of the script is the first one refused, the answer names it, or memory ran out
+abbrev pub GivesRefusal : List ℕ → Result (List Token) LexRefusal → Type 0
+GivesRefusal text answer = (place : ℕ) (cause : LexKind) → IsFirstRefusal text place cause → (answer ≡ Err (At place cause)) ⊎ (answer ≡ Err Memory)
+
+-- two lists of tokens of one script are one
+abbrev pub HaveOneList : Type 0
+HaveOneList = (text : List ℕ) (tokens others : List Token) → IsTokens text tokens → IsTokens text others → tokens ≡ others
+
+-- two first refusals of one script are one
+abbrev pub HaveOneRefusal : Type 0
+HaveOneRefusal = (text : List ℕ) (place other : ℕ) (cause why : LexKind) → IsFirstRefusal text place cause → IsFirstRefusal text other why → (place ≡ other) × (cause ≡ why)
+
+-- no script has both a list of tokens and a first refusal
+abbrev pub HaveNotBoth : Type 0
+HaveNotBoth = (text : List ℕ) (tokens : List Token) (place : ℕ) (cause : LexKind) → IsTokens text tokens → IsFirstRefusal text place cause → ⊥
+
+-- a text stands for one list of units
+abbrev pub TextsHaveOneValue : Type 0
+TextsHaveOneValue = (spelling units others : List ℕ) → StandsFor spelling units → StandsFor spelling others → units ≡ others

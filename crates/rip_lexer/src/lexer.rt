@@ -1,7 +1,5 @@
-ghost use Rattle.std.specs.Prelude.{◌≡◌, ◌^◌, ◌<◌, ◌⊎◌, ℕ, List as Items, Err, Ok, IfErr, IfOk, length};
-ghost use Rattle.rip_lexer.specs.declared.refusal.LexKind.{LexKind as Kind};
-ghost use Rattle.rip_lexer.specs.declared.token.Token.{Token as Item};
-ghost use Rattle.rip_lexer.specs.Tokens.{IsFirstRefusal, IsRefusal, IsTokens};
+ghost use Rattle.std.specs.Prelude.{◌^◌, ◌<◌, IfErr, IfOk, length};
+ghost use Rattle.rip_lexer.specs.Tokens.{GivesRefusal, GivesTokens, HaveNotBoth, HaveOneList, HaveOneRefusal, IsRefusal, IsTokens, TextsHaveOneValue};
 
 use crate::construct::{Construct, first_construct};
 use crate::gap::longest_gap;
@@ -13,15 +11,14 @@ use std::alloc::Global;
 /// The tokens of a script, or the first construct of it that is refused (ECMA-262 7).
 pub fn tokens(alloc: Global, text: &[u16]) -> Result<Tokens, LexRefusal>
     requires { length text.now < 2 ^ 32 }
+
+    // What is answered is so.
     ensures found { IfOk result (IsTokens text.now) }
     ensures refused { IfErr result (IsRefusal text.now) }
 
-    // The list is read wherever there is one, unless memory runs out.
-    ensures all { (list : Items Item) → IsTokens text.now list
-        → (result ≡ Ok list) ⊎ (result ≡ Err LexRefusal.Memory) }
-    // The first refusal is told wherever there is one, unless memory runs out.
-    ensures first { (place : ℕ) (cause : Kind) → IsFirstRefusal text.now place cause
-        → (result ≡ Err (LexRefusal.At place cause)) ⊎ (result ≡ Err LexRefusal.Memory) }
+    // What is so is answered, unless memory runs out.
+    ensures all { GivesTokens text.now result }
+    ensures first { GivesRefusal text.now result }
 {
     let mut tokens = Vec::new(alloc);
     let mut place: usize = 0;
@@ -50,4 +47,13 @@ pub fn tokens(alloc: Global, text: &[u16]) -> Result<Tokens, LexRefusal>
             }
         }
     }
+}
+
+/// A script has one list of tokens or one first refusal, and not both; a text stands for one list of units.
+pub fn readings_are_one()
+    ensures tokens { HaveOneList }
+    ensures refusals { HaveOneRefusal }
+    ensures apart { HaveNotBoth }
+    ensures texts { TextsHaveOneValue }
+{
 }

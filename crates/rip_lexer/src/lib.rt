@@ -15,7 +15,7 @@ mod token;
 mod units;
 mod words;
 
-pub use lexer::tokens;
+pub use lexer::{readings_are_one, tokens};
 pub use numeral::numeral_value;
 pub use refusal::{LexKind, LexRefusal};
 pub use text::text_value;
