@@ -8,8 +8,8 @@ mod lexer;
 mod numeral;
 mod punctuator;
 mod refusal;
-//#[cfg(test)]
-//mod tests;
+#[cfg(test)]
+mod tests;
 mod text;
 mod token;
 mod units;
