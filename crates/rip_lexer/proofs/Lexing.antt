@@ -1,9 +1,17 @@
 -- The loop over the constructs of a script.
-use Rattle.std.proofs.Common.{◌≡◌, ℕ, ◌+◌, ◌<◌, ◌≤◌, Bool, true, false, List, [], ◌∷◌, ◌++◌, length, drop, refl, sym, ap, ◌∙◌, subst, arith, append_assoc, append-nil, length-append}
+use Rattle.std.proofs.Common.{◌≡◌, ℕ, ◌+◌, ◌<◌, ◌≤◌, Bool, true, false, List, [], ◌∷◌, ◌++◌, length, take, drop, Some, None, All, refl, sym, ap, ◌∙◌, subst, arith, append_assoc, append-nil, length-append, length-drop, drop-drop, take_at, ltb-false}
 use Rattle.std.proofs.lemmas.Bool.{false≢true}
+use Rattle.std.specs.List.{AllByRecursion}
 use Rattle.std.proofs.lemmas.List.{drop_at}
-use Rattle.rip_lexer.specs.Gap.{gap_text, IsGap}
-use Rattle.rip_lexer.specs.Tokens.{Refuses, Leads, Outcome, Whole, RefusedAt, IsEnd, Ends, Lexes, IsTokens, IsFirstRefusal}
+use Rattle.std.proofs.lemmas.List.Elements.{All-from_recursion}
+use Rattle.std.proofs.lemmas.Option.{none-some}
+use Rattle.rip_lexer.specs.Fault.{fault}
+use Rattle.rip_lexer.specs.Numeral.{numeral_fault, numeral_value}
+use Rattle.rip_lexer.specs.declared.token.TokenKind.TheVariants.{Name, Reserved, Numeral, Text, Punctuator}
+use Rattle.rip_lexer.specs.declared.refusal.LexKind.TheVariants.{FractionLiteral, OctalLiteral, LiteralTooLarge}
+use Rattle.rip_lexer.proofs.Choice.{not_first}
+use Rattle.rip_lexer.specs.Gap.{Part, Blank, LineComment, BlockComment, gap_text, IsGap}
+use Rattle.rip_lexer.specs.Tokens.{IsSpelling, fault_of, units_of, IsTokenOf, Refuses, Leads, Outcome, Whole, RefusedAt, IsEnd, Ends, Lexes, IsTokens, IsFirstRefusal}
 use Rattle.rip_lexer.specs.View.{ReadsGap, IsConstruct}
 use Rattle.rip_lexer.specs.declared.construct.Construct.{Construct}
 use Rattle.rip_lexer.specs.declared.construct.Construct.TheVariants as C
@@ -89,3 +97,53 @@ pub same_refusals : (text : List ℕ) (p q : ℕ) (k j : LexKind) → IsFirstRef
 same_refusals text p q k j a b =
     let one = (one_reading 0 text a.0 b.0 (RefusedAt p k) (RefusedAt q j) a.1 b.1).1 in
     (ap place_of one, ap (cause_of k) one)
+
+-- the tokens of a script can be read at their places
+
+gap_text-append : (gap : List Part) (rest : List ℕ) → gap_text gap rest ≡ gap_text gap [] ++ rest
+gap_text-append [] rest = refl
+gap_text-append (Blank c ∷ gap) rest = ap (λ u. c ∷ u) (gap_text-append gap rest)
+gap_text-append (LineComment body ∷ gap) rest = ap (λ u. 47 ∷ 47 ∷ (body ++ u)) (gap_text-append gap rest) ∙ ap (λ u. 47 ∷ 47 ∷ u) (sym (append_assoc body (gap_text gap []) rest))
+gap_text-append (BlockComment body ∷ gap) rest = ap (λ u. 47 ∷ 42 ∷ (body ++ (42 ∷ 47 ∷ u))) (gap_text-append gap rest) ∙ ap (λ u. 47 ∷ 42 ∷ u) (sym (append_assoc body (42 ∷ 47 ∷ gap_text gap []) rest))
+
+-- a numeral without a fault isn't too large
+not_large : (s rest : List ℕ) → numeral_fault s rest ≡ None → numeral_value s ≤ 9007199254740991
+unfolding numeral_fault
+not_large s rest right =
+    let a = not_first _ (Some (fault 0 FractionLiteral)) _ None right (λ e. none-some _ (sym e)) in
+    let b = not_first _ (Some (fault 0 OctalLiteral)) _ None a.1 (λ e. none-some _ (sym e)) in
+    let d = not_first _ (Some (fault 0 LiteralTooLarge)) _ None b.1 (λ e. none-some _ (sym e)) in
+    ltb-false 9007199254740991 (numeral_value s) d.0
+
+numeral_right : (kind : TokenKind) (s rest : List ℕ) → fault_of kind s rest ≡ None → kind ≡ Numeral → numeral_value s ≤ 9007199254740991
+numeral_right Numeral s rest right is-numeral = not_large s rest right
+numeral_right Name s rest right is-numeral = cc
+numeral_right Reserved s rest right is-numeral = cc
+numeral_right Text s rest right is-numeral = cc
+numeral_right Punctuator s rest right is-numeral = cc
+
+token_stands : (at : ℕ) (text script : List ℕ) (t : Token) (rest : List ℕ) → text ≡ drop at script → at ≤ length script → Leads at text t rest → IsTokenOf script t × (rest ≡ drop (t.start + t.count) script) × (t.start + t.count ≤ length script)
+token_stands at text script t rest text-is within leads =
+    let before = gap_text leads.gap [] in
+    let splits : drop at script ≡ before ++ (leads.spelling ++ rest) = sym text-is ∙ leads.splits ∙ gap_text-append leads.gap (leads.spelling ++ rest) in
+    let behind : drop t.start script ≡ leads.spelling ++ rest = ap (λ n. drop n script) leads.start ∙ sym (drop-drop (length before) at script) ∙ ap (drop (length before)) splits ∙ drop_at before (leads.spelling ++ rest) (length before) refl in
+    let units : units_of script t ≡ leads.spelling = ap (take t.count) behind ∙ take_at leads.spelling rest t.count (sym leads.count) in
+    let long : length (drop at script) ≡ length before + length (leads.spelling ++ rest) = ap length splits ∙ length-append before (leads.spelling ++ rest) in
+    let inside : t.start + t.count ≤ length script = omega (arith, long, length-drop at script, length-append leads.spelling rest, leads.start, leads.count) in
+    (record {
+      inside = inside;
+      not_empty = subst (λ n. 0 < n) (sym leads.count) (not_empty t.kind leads.spelling leads.begins_token.spelled);
+      spelled = subst (λ u. IsSpelling t.kind u) (sym units) leads.begins_token.spelled;
+      whole = λ is-numeral. subst (λ u. numeral_value u ≤ 9007199254740991) (sym units) (numeral_right t.kind leads.spelling rest leads.no_fault is-numeral);
+    },
+    sym (sym (drop-drop t.count t.start script) ∙ ap (drop t.count) behind ∙ drop_at leads.spelling rest t.count (sym leads.count)),
+    inside)
+
+stand_from : (at : ℕ) (text script : List ℕ) (ts : List Token) (outcome : Outcome) → text ≡ drop at script → at ≤ length script → Lexes at text ts outcome → AllByRecursion (IsTokenOf script) ts
+stand_from at text script [] outcome text-is within lexes = tt
+stand_from at text script (t ∷ ts) outcome text-is within lexes =
+    let here = token_stands at text script t lexes.0 text-is within lexes.1 in
+    (here.0, stand_from (t.start + t.count) lexes.0 script ts outcome here.1 here.2 lexes.2)
+
+pub tokens_stand : (script : List ℕ) (ts : List Token) → IsTokens script ts → All (IsTokenOf script) ts
+tokens_stand script ts tokens = All-from_recursion (IsTokenOf script) ts (stand_from 0 script script ts Whole refl (omega arith) tokens)

@@ -1,10 +1,10 @@
 -- The tokens of a script, or its first refusal, as relations on its whole text (ECMA-262 7).
-use Rattle.std.specs.Prelude.{◌≡◌, ℕ, ◌+◌, ◌≤◌, Bool, true, false, ◌&&◌, if◌then◌else◌, List, [], ◌∷◌, ◌++◌, length, Option, Some, None, Result, Ok, Err, ◌⊎◌, codes}
+use Rattle.std.specs.Prelude.{◌≡◌, ℕ, ◌+◌, ◌<◌, ◌≤◌, Bool, true, false, ◌&&◌, if◌then◌else◌, List, [], ◌∷◌, ◌++◌, length, take, drop, Option, Some, None, Result, Ok, Err, ◌⊎◌, codes}
 use Rattle.std.specs.Str.{bytes_eq}
 use Rattle.std.specs.List.{list_any}
 use Rattle.rip_lexer.specs.Units.{class_of, is_digit, begins}
 use Rattle.rip_lexer.specs.Words.{is_word, is_among, reserved_words, punctuators}
-use Rattle.rip_lexer.specs.Numeral.{is_numeral, numeral_fault}
+use Rattle.rip_lexer.specs.Numeral.{is_numeral, numeral_fault, numeral_value}
 use Rattle.rip_lexer.specs.Text.{ReadsText, StandsFor, text_fault}
 use Rattle.rip_lexer.specs.Gap.{Part, line_in, gap_text, IsGap, begins_comment, holds_close}
 use Rattle.rip_lexer.specs.declared.units.UnitClass.TheVariants.{Other}
@@ -102,6 +102,18 @@ IsFirstRefusal text place cause = (tokens : List Token) × Lexes 0 text tokens (
 abbrev pub IsRefusal : List ℕ → LexRefusal → Type 0
 IsRefusal text (At place cause) = IsFirstRefusal text place cause
 IsRefusal text Memory = Unit {0}
+
+-- the units of a token of a script
+abbrev pub units_of : List ℕ → Token → List ℕ
+units_of text token = take token.count (drop token.start text)
+
+-- The token stands within the script, and its units spell a token of its kind. The value of a numeral is at most
+-- 2 ^ 53 - 1.
+pub record IsTokenOf (text : List ℕ) (token : Token) : Type 0 where
+  pub inside : token.start + token.count ≤ length text
+  pub not_empty : 0 < token.count
+  pub spelled : IsSpelling token.kind (units_of text token)
+  pub whole : token.kind ≡ Numeral → numeral_value (units_of text token) ≤ 9007199254740991
 
 -- whatever list of tokens the script has, the answer is that list, or memory ran out
 abbrev pub GivesTokens : List ℕ → Result (List Token) LexRefusal → Type 0

@@ -1,5 +1,5 @@
-ghost use Rattle.std.specs.Prelude.{◌^◌, ◌<◌, IfErr, IfOk, length};
-ghost use Rattle.rip_lexer.specs.Tokens.{GivesRefusal, GivesTokens, HaveNotBoth, HaveOneList, HaveOneRefusal, IsRefusal, IsTokens, TextsHaveOneValue};
+ghost use Rattle.std.specs.Prelude.{◌^◌, ◌<◌, All, IfErr, IfOk, length};
+ghost use Rattle.rip_lexer.specs.Tokens.{GivesRefusal, GivesTokens, HaveNotBoth, HaveOneList, HaveOneRefusal, IsRefusal, IsTokenOf, IsTokens, TextsHaveOneValue};
 
 use crate::construct::{Construct, first_construct};
 use crate::gap::longest_gap;
@@ -15,6 +15,9 @@ pub fn tokens(alloc: Global, text: &[u16]) -> Result<Tokens, LexRefusal>
     // What is answered is so.
     ensures found { IfOk result (IsTokens text.now) }
     ensures refused { IfErr result (IsRefusal text.now) }
+
+    // Each token can be read at its place.
+    ensures spelled { IfOk result (All (IsTokenOf text.now)) }
 
     // What is so is answered, unless memory runs out.
     ensures all { GivesTokens text.now result }

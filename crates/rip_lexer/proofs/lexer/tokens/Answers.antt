@@ -1,8 +1,8 @@
-use Rattle.std.proofs.Common.{◌≡◌, ◌+◌, ◌<◌, ◌≤◌, Ok, Err, inl, inr, sym, ap, ◌∙◌, subst, length, drop, arith}
+use Rattle.std.proofs.Common.{◌≡◌, All, ◌+◌, ◌<◌, ◌≤◌, Ok, Err, inl, inr, sym, ap, ◌∙◌, subst, length, drop, arith}
 use Rattle.rip_lexer.specs.View.{ReadsGap}
-use Rattle.rip_lexer.specs.Tokens.{IsTokens, IsFirstRefusal}
+use Rattle.rip_lexer.specs.Tokens.{IsTokens, IsTokenOf, IsFirstRefusal}
 use Rattle.rip_lexer.specs.declared.refusal.LexRefusal.TheVariants.{At}
-use Rattle.rip_lexer.proofs.Lexing.{whole_script, refused_script, token_fits, token_goes_on, same_tokens, not_both_ways, same_refusals}
+use Rattle.rip_lexer.proofs.Lexing.{tokens_stand, whole_script, refused_script, token_fits, token_goes_on, same_tokens, not_both_ways, same_refusals}
 use Rattle.rip_lexer.proofs.lexer.tokens.Goals as goal
 use Rattle.rip_lexer.proofs.lexer.tokens.Goals.{After-split_at, In-Nothing, In-Refused}
 
@@ -25,6 +25,10 @@ at-refusal c =
 pub returns-in-Nothing-clause-found : goal.returns-in-Nothing-clause-found
 returns-in-Nothing-clause-found c =
     subst (λ ts. IsTokens c.args.text.now ts) (sym c.from_vec.ensures) (at-end (goal.at.returns-in-Nothing-clause-found c).In-Nothing)
+
+pub returns-in-Nothing-clause-spelled : goal.returns-in-Nothing-clause-spelled
+returns-in-Nothing-clause-spelled c =
+    subst (λ ts. All (IsTokenOf c.args.text.now) ts) (sym c.from_vec.ensures) (tokens_stand c.args.text.now c.script.tokens.items (at-end (goal.at.returns-in-Nothing-clause-spelled c).In-Nothing))
 
 pub returns-in-Nothing-clause-all : goal.returns-in-Nothing-clause-all
 returns-in-Nothing-clause-all c = λ list is-list.
