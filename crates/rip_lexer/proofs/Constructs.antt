@@ -49,10 +49,10 @@ comment_open (d ∷ body) none test =
     ⊎_elim
     (λ line. absurd (none-some _ (sym line.1)))
     (λ other.
-        ⊎_elim
-        (λ block. (body, ap (λ x. x ∷ body) (eqb-true d 42 block.0), none_closes body (mapped_none (λ b. BlockComment b) (before_close body) block.1)))
-        (λ neither. absurd (both_ways ((d == 47) || (d == 42)) (or_from _ _ other.0 neither.0) test))
-        (chosen (d == 42) (option_map (λ b. BlockComment b) (before_close body)) None None other.1))
+    ⊎_elim
+    (λ block. (body, ap (λ x. x ∷ body) (eqb-true d 42 block.0), none_closes body (mapped_none (λ b. BlockComment b) (before_close body) block.1)))
+    (λ neither. absurd (both_ways ((d == 47) || (d == 42)) (or_from _ _ other.0 neither.0) test))
+    (chosen (d == 42) (option_map (λ b. BlockComment b) (before_close body)) None None other.1))
     (chosen (d == 47) (Some (LineComment (take_while (λ c. not (is_line_end c)) body))) _ None none)
 
 -- a comment that begins where no part of a gap does isn't closed
@@ -64,10 +64,10 @@ comment_refused (c ∷ rest) none test =
     ⊎_elim
     (λ blank. absurd (none-some (Blank c) (sym blank.1)))
     (λ other.
-        let comment : comment_of rest ≡ None = sym (cond-true (c == 47) _ _ parts.0) ∙ other.1 in
-        let open-one = comment_open rest comment parts.1 in
-        let second = open-one.1 in
-        InComment open-one.0 (λ i. slash i ∷ second i) open-one.2 refl refl)
+    let comment : comment_of rest ≡ None = sym (cond-true (c == 47) _ _ parts.0) ∙ other.1 in
+    let open-one = comment_open rest comment parts.1 in
+    let second = open-one.1 in
+    InComment open-one.0 (λ i. slash i ∷ second i) open-one.2 refl refl)
     (chosen (is_blank c) (Some (Blank c)) _ None none)
 
 -- where no part of a gap begins stands no white space and no line end

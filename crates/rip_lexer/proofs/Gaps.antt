@@ -44,14 +44,14 @@ closes (c ∷ units) body e =
     ⊎_elim
     (λ here. subst (λ b. Closes (c ∷ units) b) (same_Some _ _ here.1) (close_here c units here.0))
     (λ later.
-        let m = mapped (λ b. c ∷ b) (before_close units) body later.1 in
-        let below = closes units m.0 m.1 in
-        subst (λ b. Closes (c ∷ units) b) (sym m.2) (record {
-          rest = below.rest;
-          splits = ap (λ u. c ∷ u) below.splits;
-          inside = or_from ((c == 42) && begins (λ d. d == 47) m.0) _ (sym (none_here c m.0 below.rest) ∙ ap (λ u. (c == 42) && begins (λ d. d == 47) u) (sym below.splits) ∙ later.0) below.inside;
-          rest-is = below.rest-is ∙ sym (drop_suc (length m.0) c units);
-        }))
+    let m = mapped (λ b. c ∷ b) (before_close units) body later.1 in
+    let below = closes units m.0 m.1 in
+    subst (λ b. Closes (c ∷ units) b) (sym m.2) (record {
+      rest = below.rest;
+      splits = ap (λ u. c ∷ u) below.splits;
+      inside = or_from ((c == 42) && begins (λ d. d == 47) m.0) _ (sym (none_here c m.0 below.rest) ∙ ap (λ u. (c == 42) && begins (λ d. d == 47) u) (sym below.splits) ∙ later.0) below.inside;
+      rest-is = below.rest-is ∙ sym (drop_suc (length m.0) c units);
+    }))
     (chosen _ _ _ _ e)
 
 -- the first `*/` behind a body that holds none is the one behind it
@@ -91,16 +91,16 @@ comment_stands [] part e = absurd (cc)
 comment_stands (d ∷ rest) part e =
     ⊎_elim
     (λ line.
-        let slash : d ≡ 47 = eqb-true d 47 line.0 in
-        subst (λ x. Stands (47 ∷ x ∷ rest) part) (sym slash) (subst (λ q. Stands (47 ∷ 47 ∷ rest) q) (same_Some _ _ line.1) (line_stands rest)))
+    let slash : d ≡ 47 = eqb-true d 47 line.0 in
+    subst (λ x. Stands (47 ∷ x ∷ rest) part) (sym slash) (subst (λ q. Stands (47 ∷ 47 ∷ rest) q) (same_Some _ _ line.1) (line_stands rest)))
     (λ other.
-        ⊎_elim
-        (λ block.
-            let star : d ≡ 42 = eqb-true d 42 block.0 in
-            let m = mapped (λ b. BlockComment b) (before_close rest) part block.1 in
-            subst (λ x. Stands (47 ∷ x ∷ rest) part) (sym star) (subst (λ q. Stands (47 ∷ 42 ∷ rest) q) (sym m.2) (block_stands rest m.0 (closes rest m.0 m.1))))
-        (λ none. absurd (none-some part none.1))
-        (chosen _ _ _ _ other.1))
+    ⊎_elim
+    (λ block.
+    let star : d ≡ 42 = eqb-true d 42 block.0 in
+    let m = mapped (λ b. BlockComment b) (before_close rest) part block.1 in
+    subst (λ x. Stands (47 ∷ x ∷ rest) part) (sym star) (subst (λ q. Stands (47 ∷ 42 ∷ rest) q) (sym m.2) (block_stands rest m.0 (closes rest m.0 m.1))))
+    (λ none. absurd (none-some part none.1))
+    (chosen _ _ _ _ other.1))
     (chosen _ _ _ _ e)
 
 -- what is found first stands there
@@ -110,12 +110,12 @@ part_stands (c ∷ rest) part e =
     ⊎_elim
     (λ blank. subst (λ q. Stands (c ∷ rest) q) (same_Some _ _ blank.1) (record { rest = rest; splits = refl; fits = blank.0; rest-is = refl }))
     (λ other.
-        ⊎_elim
-        (λ comment.
-            let slash : c ≡ 47 = eqb-true c 47 comment.0 in
-            subst (λ x. Stands (x ∷ rest) part) (sym slash) (comment_stands rest part comment.1))
-        (λ none. absurd (none-some part none.1))
-        (chosen _ _ _ _ other.1))
+    ⊎_elim
+    (λ comment.
+    let slash : c ≡ 47 = eqb-true c 47 comment.0 in
+    subst (λ x. Stands (x ∷ rest) part) (sym slash) (comment_stands rest part comment.1))
+    (λ none. absurd (none-some part none.1))
+    (chosen _ _ _ _ other.1))
     (chosen _ _ _ _ e)
 
 pub slash_not_blank : is_blank 47 ≡ false

@@ -129,15 +129,16 @@ token_stands at text script t rest text-is within leads =
     let behind : drop t.start script ≡ leads.spelling ++ rest = ap (λ n. drop n script) leads.start ∙ sym (drop-drop (length before) at script) ∙ ap (drop (length before)) splits ∙ drop_at before (leads.spelling ++ rest) (length before) refl in
     let units : units_of script t ≡ leads.spelling = ap (take t.count) behind ∙ take_at leads.spelling rest t.count (sym leads.count) in
     let long : length (drop at script) ≡ length before + length (leads.spelling ++ rest) = ap length splits ∙ length-append before (leads.spelling ++ rest) in
-    let inside : t.start + t.count ≤ length script = omega (arith, long, length-drop at script, length-append leads.spelling rest, leads.start, leads.count) in
-    (record {
-      inside = inside;
-      not_empty = subst (λ n. 0 < n) (sym leads.count) (not_empty t.kind leads.spelling leads.begins_token.spelled);
-      spelled = subst (λ u. IsSpelling t.kind u) (sym units) leads.begins_token.spelled;
-      whole = λ is-numeral. subst (λ u. numeral_value u ≤ 9007199254740991) (sym units) (numeral_right t.kind leads.spelling rest leads.no_fault is-numeral);
-    },
-    sym (sym (drop-drop t.count t.start script) ∙ ap (drop t.count) behind ∙ drop_at leads.spelling rest t.count (sym leads.count)),
-    inside)
+    let inside : t.start + t.count ≤ length script = omega (arith, long, length-drop at script, length-append leads.spelling rest, leads.start, leads.count) in (
+      record {
+        inside = inside;
+        not_empty = subst (λ n. 0 < n) (sym leads.count) (not_empty t.kind leads.spelling leads.begins_token.spelled);
+        spelled = subst (λ u. IsSpelling t.kind u) (sym units) leads.begins_token.spelled;
+        whole = λ is-numeral. subst (λ u. numeral_value u ≤ 9007199254740991) (sym units) (numeral_right t.kind leads.spelling rest leads.no_fault is-numeral);
+      },
+      sym (sym (drop-drop t.count t.start script) ∙ ap (drop t.count) behind ∙ drop_at leads.spelling rest t.count (sym leads.count)),
+      inside,
+    )
 
 stand_from : (at : ℕ) (text script : List ℕ) (ts : List Token) (outcome : Outcome) → text ≡ drop at script → at ≤ length script → Lexes at text ts outcome → AllByRecursion (IsTokenOf script) ts
 stand_from at text script [] outcome text-is within lexes = tt

@@ -172,8 +172,8 @@ pub begins_word : (units : List ℕ) (n : ℕ) → n ≡ prefix_len is_name_unit
 begins_word units n n-is starts-name kind class spelled =
     begins_from kind units n (subst (λ m. m ≤ length units) (sym n-is) (prefix_len-le-length is_name_unit units)) spelled
     (λ other more k splits is-other same.
-        let all = word_units other (word_kind k other is-other (same ∙ class)) in
-        subst (λ m. length other ≤ m) (sym (n-is ∙ ap (prefix_len is_name_unit) splits)) (run_bound is_name_unit other more all))
+    let all = word_units other (word_kind k other is-other (same ∙ class)) in
+    subst (λ m. length other ≤ m) (sym (n-is ∙ ap (prefix_len is_name_unit) splits)) (run_bound is_name_unit other more all))
     (starts_no_comment units (name_not_mark units starts-name))
 
 pub word_front : (units : List ℕ) (n : ℕ) → n ≡ prefix_len is_name_unit units → begins is_name_start units ≡ true → is_word (take n units) ≡ true
@@ -222,6 +222,7 @@ count_some c (x ∷ hs) digit =
     inner : (b : Bool) → 0 < cond b (prefix_len is_hex_digit hs + 2) 1
     inner true = omega arith
     inner false = omega arith
+
     by : (b : Bool) → (c == 48) ≡ b → 0 < cond b (cond (is_one_of (120 ∷ 88 ∷ []) x && begins is_hex_digit hs) (prefix_len is_hex_digit hs + 2) 1) (prefix_len is_digit (c ∷ x ∷ hs))
     by true is-zero = inner (is_one_of (120 ∷ 88 ∷ []) x && begins is_hex_digit hs)
     by false other = omega (arith, run_more is_digit c (x ∷ hs) digit)
@@ -233,11 +234,11 @@ numeral_bound c rest (z ∷ x ∷ os) more digit splits numeral =
     subst (λ u. length (z ∷ x ∷ os) ≤ numeral_count u) (sym splits)
     (⊎_elim
     (λ decimal.
-        let all = decimal_all z x os decimal in
-        subst (λ m. length (z ∷ x ∷ os) ≤ m) (sym (cond-false _ _ _ all.0)) (run_bound is_digit (z ∷ x ∷ os) more all.1))
+    let all = decimal_all z x os decimal in
+    subst (λ m. length (z ∷ x ∷ os) ≤ m) (sym (cond-false _ _ _ all.0)) (run_bound is_digit (z ∷ x ∷ os) more all.1))
     (λ hex.
-        let parts = hex_parts z x os hex in
-        omega (arith, hex_count z x (os ++ more) parts.is_zero parts.is_x (begins-append is_hex_digit os more parts.digit), run_bound is_hex_digit os more parts.digits))
+    let parts = hex_parts z x os hex in
+    omega (arith, hex_count z x (os ++ more) parts.is_zero parts.is_x (begins-append is_hex_digit os more parts.digit), run_bound is_hex_digit os more parts.digits))
     (or_cases (is_decimal (z ∷ x ∷ os)) _ numeral))
 
 decimal_front : (z : ℕ) (hs : List ℕ) → (z == 48) ≡ false → is_digit z ≡ true → is_numeral (take (prefix_len is_digit (z ∷ hs)) (z ∷ hs)) ≡ true
@@ -265,12 +266,12 @@ numeral_front c (x ∷ []) digit =
 numeral_front c (x ∷ h ∷ hs) digit =
     ⊎_elim
     (λ is-zero.
-        ⊎_elim
-        (λ hex.
-            let parts = and_parts (is_one_of (120 ∷ 88 ∷ []) x) (is_hex_digit h) hex in
-            ap (λ n. is_numeral (take n (c ∷ x ∷ h ∷ hs))) (hex_count c x (h ∷ hs) is-zero parts.0 parts.1) ∙ hex_front c x h hs is-zero parts.0 parts.1)
-        (λ short. ap (λ n. is_numeral (take n (c ∷ x ∷ h ∷ hs))) (cond-true _ _ _ is-zero ∙ cond-false _ _ _ short) ∙ one_digit c digit)
-        (cases_Bool (is_one_of (120 ∷ 88 ∷ []) x && is_hex_digit h)))
+    ⊎_elim
+    (λ hex.
+    let parts = and_parts (is_one_of (120 ∷ 88 ∷ []) x) (is_hex_digit h) hex in
+    ap (λ n. is_numeral (take n (c ∷ x ∷ h ∷ hs))) (hex_count c x (h ∷ hs) is-zero parts.0 parts.1) ∙ hex_front c x h hs is-zero parts.0 parts.1)
+    (λ short. ap (λ n. is_numeral (take n (c ∷ x ∷ h ∷ hs))) (cond-true _ _ _ is-zero ∙ cond-false _ _ _ short) ∙ one_digit c digit)
+    (cases_Bool (is_one_of (120 ∷ 88 ∷ []) x && is_hex_digit h)))
     (λ other. ap (λ n. is_numeral (take n (c ∷ x ∷ h ∷ hs))) (cond-false _ _ _ other) ∙ decimal_front c (x ∷ h ∷ hs) other digit)
     (cases_Bool (c == 48))
 
@@ -310,11 +311,11 @@ count_bound (s ∷ spellings) other more sorted among =
     let parts = and_parts (list_all (λ w. nat_le (length w) (length s)) spellings) _ sorted in
     ⊎_elim
     (λ here.
-        let same = (bytes_decides other s).0 here in
-        subst (λ m. length other ≤ m) (sym (cond-true (begins_with s (other ++ more)) _ _ (ap (λ w. begins_with w (other ++ more)) (sym same) ∙ begins_with_itself other more))) (let e = ap length same in omega arith))
+    let same = (bytes_decides other s).0 here in
+    subst (λ m. length other ≤ m) (sym (cond-true (begins_with s (other ++ more)) _ _ (ap (λ w. begins_with w (other ++ more)) (sym same) ∙ begins_with_itself other more))) (let e = ap length same in omega arith))
     (λ later.
-        let short = leb-true (length other) (length s) (among_all spellings (λ w. nat_le (length w) (length s)) other later parts.0) in
-        by (begins_with s (other ++ more)) short (count_bound spellings other more parts.1 later))
+    let short = leb-true (length other) (length s) (among_all spellings (λ w. nat_le (length w) (length s)) other later parts.0) in
+    by (begins_with s (other ++ more)) short (count_bound spellings other more parts.1 later))
     (or_cases (bytes_eq other s) _ among)
   where
     by : (b : Bool) → length other ≤ length s → length other ≤ first_count spellings (other ++ more) → length other ≤ cond b (length s) (first_count spellings (other ++ more))
@@ -343,8 +344,8 @@ begins_punctuator (c ∷ rest) n n-is fits mark no-comment =
     let single : 1 ≤ first_count punctuators (c ∷ rest) = count_bound punctuators (c ∷ []) rest sorted_punctuators (mark_is_punctuator c (class_from_mark _ mark)) in
     begins_from Punctuator (c ∷ rest) n fits (ap (λ m. is_among punctuators (take m (c ∷ rest))) n-is ∙ count_among punctuators (c ∷ rest) single)
     (λ other more k splits is-other same.
-        let among = punctuator_kind k other is-other same in
-        subst (λ m. length other ≤ m) (sym (n-is ∙ ap (first_count punctuators) splits)) (count_bound punctuators other more sorted_punctuators among))
+    let among = punctuator_kind k other is-other same in
+    subst (λ m. length other ≤ m) (sym (n-is ∙ ap (first_count punctuators) splits)) (count_bound punctuators other more sorted_punctuators among))
     no-comment
 
 -- texts
@@ -419,12 +420,14 @@ begins_text units quote characters rest tail n reads rest-is right count-is =
       reads = record { is_quote = reads.is_quote; spelled = refl; each = any_rest quote reads.is_quote tail [] characters (subst (λ u. AreCharacters quote characters u) rest-is reads.each); ends = quote_ends quote [] };
       right = right;
       value = refl;
-    } in
-    (fits, begins_from Text units n fits (subst (λ s. (u : List ℕ) × StandsFor s u) (sym front) (filter_map character_value characters, stands))
-    (λ other more k e is-other same.
-        let text = text_kind k other is-other same in
-        let there = reads_on other text.1.quote text.1.characters more text.1.reads in
-        let one = one_reading_of_text units quote text.1.quote characters text.1.characters rest (text.1.quote ∷ more) reads (subst (λ u. ReadsText u text.1.quote text.1.characters (text.1.quote ∷ more)) (sym e) there) in
-        let rests = ap length one.2 in
-        omega (arith, ap length e, length-append other more))
-    (text_no_comment units quote (spell_all characters rest) reads.is_quote reads.spelled))
+    } in (
+      fits,
+      begins_from Text units n fits (subst (λ s. (u : List ℕ) × StandsFor s u) (sym front) (filter_map character_value characters, stands))
+          (λ other more k e is-other same.
+          let text = text_kind k other is-other same in
+          let there = reads_on other text.1.quote text.1.characters more text.1.reads in
+          let one = one_reading_of_text units quote text.1.quote characters text.1.characters rest (text.1.quote ∷ more) reads (subst (λ u. ReadsText u text.1.quote text.1.characters (text.1.quote ∷ more)) (sym e) there) in
+          let rests = ap length one.2 in
+          omega (arith, ap length e, length-append other more))
+          (text_no_comment units quote (spell_all characters rest) reads.is_quote reads.spelled),
+    )

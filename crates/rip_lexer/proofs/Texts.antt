@@ -64,10 +64,10 @@ continuation_stands : (quote c : ℕ) (rest : List ℕ) → is_line_end c ≡ tr
 continuation_stands quote c rest line =
     cond_both ((c == 13) && begins (λ d. d == 10) rest) ContinuationPair (Continuation c) (λ (x : Character). Spells quote (92 ∷ c ∷ rest) x)
     (λ pair.
-        let p = line_feed_is c rest pair in
-        let first = p.0 in
-        let second = p.2 in
-        record { rest = p.1; splits = (λ i. 92 ∷ first i ∷ second i); fits = tt; rest-is = sym (ap (λ u. drop 1 u) second) })
+    let p = line_feed_is c rest pair in
+    let first = p.0 in
+    let second = p.2 in
+    record { rest = p.1; splits = (λ i. 92 ∷ first i ∷ second i); fits = tt; rest-is = sym (ap (λ u. drop 1 u) second) })
     (λ other. record { rest = rest; splits = refl; fits = (line, other); rest-is = refl })
 
 escape_stands : (quote c : ℕ) (rest : List ℕ) → Spells quote (92 ∷ c ∷ rest) (escape_of c rest)
@@ -76,18 +76,18 @@ escape_stands quote c rest =
     cond_both (c == 48) _ _ P
     (λ zero-is. subst (λ d. Spells quote (92 ∷ d ∷ rest) (null_escape rest)) (sym (eqb-true c 48 zero-is)) (null_stands quote rest))
     (λ not-zero.
-        cond_both (c == 120) _ _ P
-        (λ x-is. subst (λ d. Spells quote (92 ∷ d ∷ rest) (hex_escape rest)) (sym (eqb-true c 120 x-is)) (hex_stands quote rest))
-        (λ not-x.
-            cond_both (c == 117) _ _ P
-            (λ u-is. subst (λ d. Spells quote (92 ∷ d ∷ rest) (unicode_escape rest)) (sym (eqb-true c 117 u-is)) (unicode_stands quote rest))
-            (λ not-u.
-                cond_both (is_digit c) _ _ P
-                (λ digit. record { rest = rest; splits = refl; fits = cond-false _ _ _ not-zero ∙ (cond-false _ _ _ not-x ∙ (cond-false _ _ _ not-u ∙ digit)); rest-is = refl })
-                (λ not-digit.
-                    cond_both (is_line_end c) _ _ P
-                    (λ line. continuation_stands quote c rest line)
-                    (λ not-line. record { rest = rest; splits = refl; fits = (not-line, not-digit, not-x, not-u); rest-is = refl })))))
+    cond_both (c == 120) _ _ P
+    (λ x-is. subst (λ d. Spells quote (92 ∷ d ∷ rest) (hex_escape rest)) (sym (eqb-true c 120 x-is)) (hex_stands quote rest))
+    (λ not-x.
+    cond_both (c == 117) _ _ P
+    (λ u-is. subst (λ d. Spells quote (92 ∷ d ∷ rest) (unicode_escape rest)) (sym (eqb-true c 117 u-is)) (unicode_stands quote rest))
+    (λ not-u.
+    cond_both (is_digit c) _ _ P
+    (λ digit. record { rest = rest; splits = refl; fits = cond-false _ _ _ not-zero ∙ (cond-false _ _ _ not-x ∙ (cond-false _ _ _ not-u ∙ digit)); rest-is = refl })
+    (λ not-digit.
+    cond_both (is_line_end c) _ _ P
+    (λ line. continuation_stands quote c rest line)
+    (λ not-line. record { rest = rest; splits = refl; fits = (not-line, not-digit, not-x, not-u); rest-is = refl })))))
 
 -- what is found first stands there
 pub character_stands : (quote : ℕ) (units : List ℕ) (character : Character) → first_character quote units ≡ Some character → Spells quote units character
@@ -102,8 +102,8 @@ character_stands quote (c ∷ d ∷ rest) character e =
     let parts = or_parts (c == quote) (is_line_end c) a.0 in
     ⊎_elim
     (λ back.
-        let escape = subst (λ (x : Character). Spells quote (92 ∷ d ∷ rest) x) (same_Some (escape_of d rest) character back.1) (escape_stands quote d rest) in
-        subst (λ b. Spells quote (b ∷ d ∷ rest) character) (sym (eqb-true c 92 back.0)) escape)
+    let escape = subst (λ (x : Character). Spells quote (92 ∷ d ∷ rest) x) (same_Some (escape_of d rest) character back.1) (escape_stands quote d rest) in
+    subst (λ b. Spells quote (b ∷ d ∷ rest) character) (sym (eqb-true c 92 back.0)) escape)
     (λ plain. subst (λ (x : Character). Spells quote (c ∷ d ∷ rest) x) (same_Some (Plain c) character plain.1) (record { rest = d ∷ rest; splits = refl; fits = (parts.0, plain.0, parts.1); rest-is = refl }))
     (chosen _ _ _ _ a.1)
 
@@ -168,19 +168,19 @@ refused_seen : (c : ℕ) (rest : List ℕ) → is_refused c rest ≡ true → es
 refused_seen c rest refused =
     ⊎_elim
     (λ zero-is.
-        let e = eqb-true c 48 zero-is.0 in
-        cond-true _ _ _ zero-is.0 ∙ cond-true _ _ _ zero-is.1 ∙ ap (λ x. Refused x) (sym e))
+    let e = eqb-true c 48 zero-is.0 in
+    cond-true _ _ _ zero-is.0 ∙ cond-true _ _ _ zero-is.1 ∙ ap (λ x. Refused x) (sym e))
     (λ not-zero.
-        cond-false _ _ _ not-zero.0
-        ∙ ⊎_elim
-        (λ x-is. cond-true _ _ _ x-is.0 ∙ hex_refused rest (not-true _ x-is.1) ∙ ap (λ x. Refused x) (sym (eqb-true c 120 x-is.0)))
-        (λ not-x.
-            cond-false _ _ _ not-x.0
-            ∙ ⊎_elim
-            (λ u-is. cond-true _ _ _ u-is.0 ∙ unicode_refused rest (not-true _ u-is.1) ∙ ap (λ x. Refused x) (sym (eqb-true c 117 u-is.0)))
-            (λ digit. cond-false _ _ _ digit.0 ∙ cond-true _ _ _ digit.1)
-            (chosen _ _ _ _ not-x.1))
-        (chosen _ _ _ _ not-zero.1))
+    cond-false _ _ _ not-zero.0
+    ∙ ⊎_elim
+    (λ x-is. cond-true _ _ _ x-is.0 ∙ hex_refused rest (not-true _ x-is.1) ∙ ap (λ x. Refused x) (sym (eqb-true c 120 x-is.0)))
+    (λ not-x.
+    cond-false _ _ _ not-x.0
+    ∙ ⊎_elim
+    (λ u-is. cond-true _ _ _ u-is.0 ∙ unicode_refused rest (not-true _ u-is.1) ∙ ap (λ x. Refused x) (sym (eqb-true c 117 u-is.0)))
+    (λ digit. cond-false _ _ _ digit.0 ∙ cond-true _ _ _ digit.1)
+    (chosen _ _ _ _ not-x.1))
+    (chosen _ _ _ _ not-zero.1))
     (chosen _ _ _ _ refused)
 
 pub spell_cancels : (character : Character) (rest more : List ℕ) → spell character rest ≡ spell character more → rest ≡ more

@@ -78,9 +78,10 @@ refuses_alone units offset cause (AtUnit c rest splits class at why) = ap first_
 -- one spelling is the longest
 
 split_same : (s r o m : List ℕ) → s ++ r ≡ o ++ m → length s ≡ length o → (s ≡ o) × (r ≡ m)
-split_same s r o m e long =
-    (sym (take_at s r (length s) refl) ∙ ap (take (length s)) e ∙ take_at o m (length s) (sym long),
-    sym (drop_at s r (length s) refl) ∙ ap (drop (length s)) e ∙ drop_at o m (length s) (sym long))
+split_same s r o m e long = (
+  sym (take_at s r (length s) refl) ∙ ap (take (length s)) e ∙ take_at o m (length s) (sym long),
+  sym (drop_at s r (length s) refl) ∙ ap (drop (length s)) e ∙ drop_at o m (length s) (sym long),
+)
 
 one_kind : (k j : TokenKind) (s : List ℕ) → class_for k ≡ class_for j → IsSpelling k s → IsSpelling j s → k ≡ j
 one_kind Name Name s same a b = refl
@@ -263,6 +264,6 @@ one_reading at text (t ∷ ts) (u ∷ us) o p a b =
     let tokens = one.0 in
     let rests = one.1 in
     let below = one_reading (t.start + t.count) a.0 ts us o p a.2
-        (subst (λ r. Lexes (t.start + t.count) r us p) (sym rests) (subst (λ (x : Token). Lexes (x.start + x.count) b.0 us p) (sym tokens) b.2)) in
+    (subst (λ r. Lexes (t.start + t.count) r us p) (sym rests) (subst (λ (x : Token). Lexes (x.start + x.count) b.0 us p) (sym tokens) b.2)) in
     let tails = below.0 in
     ((λ i. tokens i ∷ tails i), below.1)

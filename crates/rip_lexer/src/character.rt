@@ -9,11 +9,17 @@ const BACKSLASH: u16 = 0x5C;
 const ZERO: u16 = 0x30;
 
 const SMALL_B: u16 = 0x62;
+
 const SMALL_F: u16 = 0x66;
+
 const SMALL_N: u16 = 0x6E;
+
 const SMALL_R: u16 = 0x72;
+
 const SMALL_T: u16 = 0x74;
+
 const SMALL_U: u16 = 0x75;
+
 const SMALL_V: u16 = 0x76;
 
 const SMALL_X: u16 = 0x78;
@@ -70,7 +76,8 @@ impl Character {
             Character::Null => Some(0),
             Character::Hexadecimal(a, b) => Some(digit_value(a) * 16 + digit_value(b)),
             Character::Unicode(a, b, c, d) => Some(
-                ((digit_value(a) * 16 + digit_value(b)) * 16 + digit_value(c)) * 16 + digit_value(d),
+                ((digit_value(a) * 16 + digit_value(b)) * 16 + digit_value(c)) * 16
+                    + digit_value(d),
             ),
             Character::Continuation(_) | Character::ContinuationPair | Character::Refused(_) => {
                 None

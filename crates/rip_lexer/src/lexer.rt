@@ -58,5 +58,4 @@ pub fn readings_are_one()
     ensures refusals { HaveOneRefusal }
     ensures apart { HaveNotBoth }
     ensures texts { TextsHaveOneValue }
-{
-}
+{}
