@@ -1,8 +1,8 @@
 -- What the class of a unit tells of it.
-use Rattle.std.proofs.Common.{◌≡◌, ℕ, Bool, true, false, ◌==◌, ◌||◌, List, [], ◌∷◌, codes, ◌⊎◌, inl, inr, ⊎_elim, refl, sym, ap, ◌∙◌, eqb-true, ne_eqb}
-use Rattle.std.specs.List.{list_any, list_all}
+use Rattle.std.proofs.Common.{◌≡◌, ℕ, Bool, true, false, ◌==◌, List, [], ◌∷◌, codes, ◌⊎◌, inl, inr, ⊎_elim, refl, ap, ◌∙◌, eqb-true, ne_eqb}
+use Rattle.std.specs.List.{list_all}
 use Rattle.std.proofs.lemmas.Bool.{and_parts, or_cases, false≢true}
-use Rattle.rip_lexer.specs.Units.{class_of, is_one_of, is_digit, is_digit_class, is_name_unit, is_name_class, is_name_start, is_name_start_class, is_line_end, is_line_end_class, is_blank, is_blank_class, is_quote, is_quote_class, is_mark, is_mark_class, is_hex_digit}
+use Rattle.rip_lexer.specs.Units.{class_of, is_one_of, is_digit_class, is_name_start_class, is_line_end_class, is_quote_class, is_mark_class, is_hex_digit}
 use Rattle.rip_lexer.specs.declared.units.UnitClass.{UnitClass}
 use Rattle.rip_lexer.specs.declared.units.UnitClass.TheVariants.{NameStart, Digit, LineEnd, White, Quote, Mark, Other}
 use Rattle.rip_lexer.proofs.Choice.{not_first, chosen}

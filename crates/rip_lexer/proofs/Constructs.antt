@@ -1,12 +1,11 @@
 -- What the code shows is what the units begin with.
-use Rattle.std.proofs.Common.{◌≡◌, ℕ, ◌≤◌, arith, get_or, ◌⊎◌, inl, inr, Bool, true, false, not, ◌||◌, ◌&&◌, ◌==◌, List, [], ◌∷◌, ◌++◌, length, take, drop, take_while, Option, None, Some, option_map, refl, sym, ap, ◌∙◌, ⊎_elim, take-append-drop, length-take-le, eqb-true}
+use Rattle.std.proofs.Common.{◌≡◌, ℕ, ◌≤◌, arith, get_or, ◌⊎◌, inl, inr, true, false, not, ◌||◌, ◌&&◌, ◌==◌, List, [], ◌∷◌, length, take, drop, take_while, None, Some, option_map, refl, sym, ap, ◌∙◌, ⊎_elim, take-append-drop, length-take-le, eqb-true}
 use Rattle.std.proofs.lemmas.Bool.{and_parts, or_from, cond-true, both_ways, false≢true}
 use Rattle.std.proofs.lemmas.Option.{none-some}
 use Rattle.rip_lexer.specs.Units.{class_of, is_line_end, is_blank, is_blank_class, begins}
 use Rattle.rip_lexer.specs.Gap.{Blank, LineComment, BlockComment, holds_close, begins_comment}
 use Rattle.rip_lexer.specs.Tokens.{Begins, fault_of, Refuses, Spelling, InText, InComment, AtUnit}
 use Rattle.rip_lexer.specs.View.{IsConstruct, ReadsEnd, before_close, comment_of, first_part}
-use Rattle.rip_lexer.specs.declared.construct.Construct.{Construct}
 use Rattle.rip_lexer.specs.declared.construct.Construct.TheVariants as C
 use Rattle.rip_lexer.specs.declared.text.TextEnd.{TextEnd}
 use Rattle.rip_lexer.specs.declared.refusal.Fault.{Fault}

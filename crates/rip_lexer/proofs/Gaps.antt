@@ -1,14 +1,14 @@
 -- The parts of a gap: which one comes first, that there is one way to read a gap, and the loop over its parts.
-use Rattle.std.proofs.Common.{◌≡◌, ℕ, suc, ◌+◌, ◌≤◌, Bool, true, false, not, ◌||◌, ◌&&◌, ◌==◌, cond, List, [], ◌∷◌, ◌++◌, length, take, drop, take_while, Option, Some, None, option_map, refl, sym, ap, ◌∙◌, subst, ⊎_elim, arith, append_assoc, add_assoc, take-append-drop, eqb-true, length-append}
-use Rattle.std.specs.List.{list_any, list_all, prefix_len}
+use Rattle.std.proofs.Common.{◌≡◌, ℕ, suc, ◌+◌, Bool, true, false, not, ◌||◌, ◌&&◌, ◌==◌, List, [], ◌∷◌, ◌++◌, length, drop, take_while, Some, None, option_map, refl, sym, ap, ◌∙◌, subst, ⊎_elim, arith, take-append-drop, eqb-true, length-append}
+use Rattle.std.specs.List.{prefix_len}
 use Rattle.std.proofs.lemmas.Bool.{and_parts, or_parts, or_from, cond-true, cond-false}
 use Rattle.std.proofs.lemmas.List.{append_cancel_left}
 use Rattle.std.proofs.lemmas.Option.{none-some, same_Some}
 use Rattle.rip_lexer.specs.Units.{class_of, is_line_end, is_blank, begins}
-use Rattle.rip_lexer.specs.Gap.{Part, Blank, LineComment, BlockComment, holds_close, ends_line, part_text, IsPart, line_in, gap_text, IsGap}
+use Rattle.rip_lexer.specs.Gap.{Part, Blank, LineComment, BlockComment, holds_close, part_text, IsPart, line_in, gap_text, IsGap}
 use Rattle.rip_lexer.specs.View.{before_close, comment_of, first_part, part_count, shown, ReadsGap}
 use Rattle.rip_lexer.specs.declared.gap.Gap.{Gap}
-use Rattle.rip_lexer.proofs.Choice.{chosen, not_first, mapped, or_assoc}
+use Rattle.rip_lexer.proofs.Choice.{chosen, mapped, or_assoc}
 use Rattle.rip_lexer.proofs.Runs.{run_all, length_run, line_is, line_ends}
 
 -- the units are a body, `*/` and a rest

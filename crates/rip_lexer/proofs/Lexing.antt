@@ -13,7 +13,6 @@ use Rattle.rip_lexer.proofs.Choice.{not_first}
 use Rattle.rip_lexer.specs.Gap.{Part, Blank, LineComment, BlockComment, gap_text, IsGap}
 use Rattle.rip_lexer.specs.Tokens.{IsSpelling, fault_of, units_of, IsTokenOf, Refuses, Leads, Outcome, Whole, RefusedAt, IsEnd, Ends, Lexes, IsTokens, IsFirstRefusal}
 use Rattle.rip_lexer.specs.View.{ReadsGap, IsConstruct}
-use Rattle.rip_lexer.specs.declared.construct.Construct.{Construct}
 use Rattle.rip_lexer.specs.declared.construct.Construct.TheVariants as C
 use Rattle.rip_lexer.specs.declared.token.Token.{Token}
 use Rattle.rip_lexer.specs.declared.token.TokenKind.{TokenKind}

@@ -1,29 +1,29 @@
 -- What the units begin with, spelling by spelling, and that no longer spelling begins there.
-use Rattle.std.proofs.Common.{◌≡◌, ◌≢◌, ℕ, zero, suc, ◌+◌, ◌<◌, ◌≤◌, Bool, true, false, not, ◌||◌, ◌&&◌, ◌==◌, nat_le, cond, List, [], ◌∷◌, ◌++◌, length, take, drop, codes, bytes_eq, Option, Some, None, filter_map, refl, sym, ap, ◌∙◌, subst, ⊎_elim, arith, append_assoc, take-append-drop, length-take-le, length-append, eqb-true, eq-eqb, leb-true, le_trans}
-use Rattle.std.specs.List.{list_any, list_all, prefix_len}
+use Rattle.std.proofs.Common.{◌≡◌, ◌≢◌, ℕ, suc, ◌+◌, ◌<◌, ◌≤◌, Bool, true, false, ◌&&◌, ◌==◌, nat_le, cond, List, [], ◌∷◌, ◌++◌, length, take, drop, bytes_eq, None, filter_map, refl, sym, ap, ◌∙◌, subst, ⊎_elim, arith, take-append-drop, length-take-le, length-append, eqb-true, eq-eqb, leb-true}
+use Rattle.std.specs.List.{list_all, prefix_len}
 use Rattle.std.specs.Cmp.Lexicographic.{bytes_decides}
-use Rattle.std.proofs.lemmas.Bool.{and_parts, and_from, and_left, or_parts, or_from, or_left, or_right, or_cases, cond-true, cond-false, cases_Bool, false≢true}
-use Rattle.std.proofs.lemmas.List.{take_at, drop_at}
+use Rattle.std.proofs.lemmas.Bool.{and_parts, and_from, and_left, or_left, or_right, or_cases, cond-true, cond-false, cases_Bool, false≢true}
+use Rattle.std.proofs.lemmas.List.{take_at}
 use Rattle.std.proofs.lemmas.List.Sums.{prefix_len-le-length}
-use Rattle.std.proofs.lemmas.Option.{none-some, same_Some}
-use Rattle.rip_lexer.specs.Units.{class_of, is_one_of, is_digit, is_digit_class, is_name_unit, is_name_class, is_name_start, is_name_start_class, is_line_end, is_line_end_class, is_blank, is_blank_class, is_quote, is_quote_class, is_mark, is_mark_class, is_hex_digit, begins}
+use Rattle.std.proofs.lemmas.Option.{none-some}
+use Rattle.rip_lexer.specs.Units.{class_of, is_one_of, is_digit, is_digit_class, is_name_unit, is_name_class, is_name_start, is_name_start_class, is_quote_class, is_mark, is_mark_class, is_hex_digit, begins}
 use Rattle.rip_lexer.specs.Words.{is_word, is_among, reserved_words, punctuators}
 use Rattle.rip_lexer.specs.Numeral.{is_decimal, has_prefix, is_hexadecimal, is_numeral}
 use Rattle.rip_lexer.specs.Text.{spell, spell_all, AreCharacters, character_value, refused_in, ends_text, ReadsText, StandsFor, text_fault}
-use Rattle.rip_lexer.specs.Gap.{begins_comment, holds_close}
+use Rattle.rip_lexer.specs.Gap.{begins_comment}
 use Rattle.rip_lexer.specs.Tokens.{IsSpelling, Begins}
 use Rattle.rip_lexer.specs.Fault.{fault}
 use Rattle.rip_lexer.specs.declared.refusal.LexKind.TheVariants.{OpenText}
 use Rattle.rip_lexer.specs.View.{numeral_count, begins_with, first_count}
 use Rattle.rip_lexer.specs.declared.units.UnitClass.{UnitClass}
-use Rattle.rip_lexer.specs.declared.units.UnitClass.TheVariants.{NameStart, Digit, LineEnd, White, Quote, Mark, Other}
+use Rattle.rip_lexer.specs.declared.units.UnitClass.TheVariants.{NameStart, Digit, Quote, Mark}
 use Rattle.rip_lexer.specs.declared.character.Character.{Character}
 use Rattle.rip_lexer.specs.declared.character.Character.TheVariants.{Plain, Escaped, Null, Hexadecimal, Unicode, Continuation, ContinuationPair, Refused}
 use Rattle.rip_lexer.specs.declared.token.TokenKind.{TokenKind}
 use Rattle.rip_lexer.specs.declared.token.TokenKind.TheVariants.{Name, Reserved, Numeral, Text, Punctuator}
 use Rattle.rip_lexer.proofs.Choice.{chosen}
-use Rattle.rip_lexer.proofs.Classes.{class_from_digit, class_from_name_start, class_from_quote, class_from_mark, mark_is, marks, one_of_all, slash_class, zero_class, differs}
-use Rattle.rip_lexer.proofs.Runs.{run_more, run_none, run_all, run_bound}
+use Rattle.rip_lexer.proofs.Classes.{class_from_digit, class_from_name_start, class_from_mark, mark_is, marks, one_of_all, slash_class, zero_class, differs}
+use Rattle.rip_lexer.proofs.Runs.{run_more, run_all, run_bound}
 use Rattle.rip_lexer.proofs.Spellings.{among_all}
 use Rattle.rip_lexer.proofs.Texts.{one_text, any_rest, ends_none}
 

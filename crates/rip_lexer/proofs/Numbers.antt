@@ -1,5 +1,5 @@
 -- The values of digits, and of numerals that are too large.
-use Rattle.std.proofs.Common.{◌≡◌, ℕ, ◌+◌, ◌*◌, ◌<◌, ◌≤◌, List, [], ◌∷◌, ◌++◌, length, take, drop, fold, refl, sym, ap, ◌∙◌, subst, arith, take-append-drop, mul-le-mul_left, le_trans}
+use Rattle.std.proofs.Common.{ℕ, ◌+◌, ◌*◌, ◌<◌, ◌≤◌, List, [], ◌∷◌, take, drop, fold, sym, subst, arith, take-append-drop, mul-le-mul_left, le_trans}
 use Rattle.std.proofs.lemmas.Grind.{fold-append}
 use Rattle.rip_lexer.specs.Units.{digit_value}
 use Rattle.rip_lexer.specs.Numeral.{digits_value}

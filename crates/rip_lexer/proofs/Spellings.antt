@@ -1,7 +1,7 @@
 -- Spellings in a list.
-use Rattle.std.proofs.Common.{◌≡◌, ℕ, Bool, true, false, ◌==◌, ◌||◌, cond, List, [], ◌∷◌, length, filter, bytes_eq, refl, sym, ap, ◌∙◌, ◌&&◌, ◌≤◌, nat_le, leb-true, eqb-true, eq-eqb, ⊎_elim}
-use Rattle.std.specs.List.{list_any, list_all}
-use Rattle.std.proofs.lemmas.Bool.{and_parts, or_cases, cond-true, cond-false, false≢true, both_ways, false_from_ne_true}
+use Rattle.std.proofs.Common.{◌≡◌, ℕ, Bool, true, false, ◌==◌, ◌||◌, cond, List, [], ◌∷◌, length, bytes_eq, refl, sym, ap, ◌∙◌, ◌&&◌, ◌≤◌, nat_le, leb-true, eq-eqb, ⊎_elim}
+use Rattle.std.specs.List.{list_all}
+use Rattle.std.proofs.lemmas.Bool.{and_parts, or_cases, false≢true, both_ways, false_from_ne_true}
 use Rattle.std.specs.Cmp.Lexicographic.{as_long, bytes_decides}
 use Rattle.rip_lexer.specs.Words.{is_among, reserved_words}
 use Rattle.rip_lexer.specs.View.{of_length}

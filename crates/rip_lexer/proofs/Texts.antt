@@ -1,19 +1,18 @@
 -- The characters of a text: which one comes first, that there is one way to read a text, and the loop over them.
-use Rattle.std.proofs.Common.{◌≡◌, ◌≢◌, get_or, ℕ, zero, suc, ◌+◌, ◌≤◌, Bool, true, false, not, ◌||◌, ◌&&◌, ◌==◌, cond, List, [], ◌∷◌, ◌++◌, length, drop, Option, Some, None, refl, sym, ap, ◌∙◌, subst, ⊎_elim, arith, eqb-true}
-use Rattle.std.proofs.lemmas.Bool.{and_parts, and_left, or_parts, or_from, or_left, or_right, or_cases, not-true, cond-true, cond-false, cond_both, false≢true}
+use Rattle.std.proofs.Common.{◌≡◌, ◌≢◌, get_or, ℕ, zero, suc, ◌+◌, Bool, true, false, not, ◌||◌, ◌&&◌, ◌==◌, cond, List, [], ◌∷◌, length, drop, Option, Some, None, refl, sym, ap, ◌∙◌, subst, ⊎_elim, arith, eqb-true}
+use Rattle.std.proofs.lemmas.Bool.{and_parts, and_left, or_parts, or_from, or_cases, not-true, cond-true, cond-false, cond_both, false≢true}
 use Rattle.std.proofs.lemmas.Option.{none-some, same_Some}
 use Rattle.rip_lexer.specs.Units.{class_of, is_quote, is_digit, is_digit_class, is_line_end, is_line_end_class, is_hex_digit, begins}
-use Rattle.rip_lexer.specs.Text.{spell, begins_hex, is_refused, IsCharacter, width, fault_at, option_or, refused_in, spell_all, AreCharacters, ends_text, ReadsText, text_fault}
+use Rattle.rip_lexer.specs.Text.{spell, begins_hex, is_refused, IsCharacter, width, fault_at, option_or, refused_in, spell_all, AreCharacters, ends_text}
 use Rattle.rip_lexer.specs.Fault.{fault}
 use Rattle.rip_lexer.specs.declared.refusal.LexKind.TheVariants.{OpenText}
 use Rattle.rip_lexer.specs.View.{ReadsEnd, hex_escape, unicode_escape, null_escape, continuation, escape_of, first_character}
-use Rattle.rip_lexer.specs.declared.units.UnitClass.{UnitClass}
 use Rattle.rip_lexer.specs.declared.units.UnitClass.TheVariants.{NameStart, Digit, LineEnd, Quote, Other}
 use Rattle.rip_lexer.specs.declared.refusal.Fault.{Fault}
 use Rattle.rip_lexer.specs.declared.character.Character.{Character}
 use Rattle.rip_lexer.specs.declared.character.Character.TheVariants.{Plain, Escaped, Null, Hexadecimal, Unicode, Continuation, ContinuationPair, Refused}
 use Rattle.rip_lexer.proofs.Choice.{chosen, not_first}
-use Rattle.rip_lexer.proofs.Classes.{class_from_quote, class_from_line_end, class_from_digit, backslash_class, zero_class, small_x_class, small_u_class, return_class, differs, backslash_not_hex, quote_not_hex}
+use Rattle.rip_lexer.proofs.Classes.{class_from_quote, class_from_line_end, backslash_class, zero_class, small_x_class, small_u_class, return_class, differs, backslash_not_hex, quote_not_hex}
 
 -- the units are a character and a rest
 pub record Spells (quote : ℕ) (units : List ℕ) (character : Character) : Type 0 where

@@ -1,18 +1,17 @@
 -- A script has one reading: one list of tokens, or one first refusal, and not both.
-use Rattle.std.proofs.Common.{◌≡◌, ◌≢◌, ℕ, ◌+◌, ◌≤◌, Bool, true, false, ◌||◌, ◌&&◌, ◌==◌, cond, List, [], ◌∷◌, ◌++◌, length, take, drop, Option, Some, None, option_map, ◌⊎◌, refl, sym, ap, ◌∙◌, subst, ⊎_elim, arith, length-append, eqb-true, eq-eqb}
+use Rattle.std.proofs.Common.{◌≡◌, ◌≢◌, ℕ, ◌+◌, Bool, true, false, ◌||◌, ◌&&◌, ◌==◌, cond, List, [], ◌∷◌, ◌++◌, length, take, drop, Some, None, option_map, refl, sym, ap, ◌∙◌, subst, arith, length-append, eq-eqb}
 use Rattle.std.specs.List.{list_any}
-use Rattle.std.proofs.lemmas.Bool.{and_parts, and_from, or_parts, cond-true, cond-false, cases_Bool, false≢true}
+use Rattle.std.proofs.lemmas.Bool.{or_parts, cond-true, cond-false, false≢true}
 use Rattle.std.proofs.lemmas.List.{take_at, drop_at}
 use Rattle.std.proofs.lemmas.Option.{none-some, same_Some}
 use Rattle.rip_lexer.specs.Fault.{fault}
-use Rattle.rip_lexer.specs.Units.{class_of, is_blank, is_blank_class, is_quote_class, is_mark_class, is_digit_class, is_name_start_class, begins}
-use Rattle.rip_lexer.specs.Words.{is_among, reserved_words}
-use Rattle.rip_lexer.specs.Text.{spell_all, ReadsText, StandsFor, refused_in, text_fault}
-use Rattle.rip_lexer.specs.Gap.{Part, BlockComment, holds_close, begins_comment, line_in, gap_text, IsGap}
+use Rattle.rip_lexer.specs.Units.{class_of, is_blank, is_blank_class, is_quote_class, is_mark_class, begins}
+use Rattle.rip_lexer.specs.Text.{spell_all, ReadsText, text_fault}
+use Rattle.rip_lexer.specs.Gap.{BlockComment, holds_close, begins_comment, line_in, gap_text}
 use Rattle.rip_lexer.specs.Tokens.{IsSpelling, Begins, fault_of, Refuses, Spelling, InText, InComment, AtUnit, Leads, Outcome, Whole, RefusedAt, IsEnd, Ends, Lexes}
 use Rattle.rip_lexer.specs.View.{before_close, comment_of, first_part}
 use Rattle.rip_lexer.specs.declared.units.UnitClass.{UnitClass}
-use Rattle.rip_lexer.specs.declared.units.UnitClass.TheVariants.{NameStart, Digit, LineEnd, White, Quote, Mark, Other}
+use Rattle.rip_lexer.specs.declared.units.UnitClass.TheVariants.{Quote, Mark, Other}
 use Rattle.rip_lexer.specs.declared.character.Character.{Character}
 use Rattle.rip_lexer.specs.declared.token.Token.{Token}
 use Rattle.rip_lexer.specs.declared.token.TokenKind.{TokenKind}

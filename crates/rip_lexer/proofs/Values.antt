@@ -1,9 +1,9 @@
 -- The units that a text stands for, and the loop that puts them into a list.
-use Rattle.std.proofs.Common.{◌≡◌, ℕ, ◌+◌, ◌≤◌, Bool, true, false, List, [], ◌∷◌, ◌++◌, length, drop, take, Option, Some, None, filter_map, option_to_list, refl, sym, ap, ◌∙◌, subst, append-nil, append_assoc, get_or}
+use Rattle.std.proofs.Common.{◌≡◌, ℕ, List, [], ◌∷◌, ◌++◌, drop, Option, Some, None, filter_map, option_to_list, refl, sym, ap, ◌∙◌, subst, append-nil, append_assoc, get_or}
 use Rattle.std.specs.List.{cons_option}
 use Rattle.std.proofs.lemmas.Option.{none-some, same_Some}
 use Rattle.rip_lexer.specs.Units.{class_of}
-use Rattle.rip_lexer.specs.Text.{spell, width, IsCharacter, spell_all, AreCharacters, character_value, ReadsText, StandsFor}
+use Rattle.rip_lexer.specs.Text.{spell, width, spell_all, AreCharacters, character_value, StandsFor}
 use Rattle.rip_lexer.specs.View.{first_character}
 use Rattle.rip_lexer.specs.declared.units.UnitClass.TheVariants.{Quote}
 use Rattle.rip_lexer.specs.declared.character.Character.{Character}

@@ -1,10 +1,9 @@
 -- Numerals, the whole numbers that they stand for, and those that are refused (ECMA-262 7.8.3, B.1.1).
-use Rattle.std.specs.Prelude.{ℕ, ◌+◌, ◌*◌, Bool, true, false, not, ◌||◌, ◌&&◌, ◌==◌, nat_lt, if◌then◌else◌, List, [], ◌∷◌, length, drop, Option, Some, None, fold}
+use Rattle.std.specs.Prelude.{ℕ, ◌+◌, ◌*◌, Bool, false, not, ◌||◌, ◌&&◌, ◌==◌, nat_lt, if◌then◌else◌, List, [], ◌∷◌, length, drop, Option, Some, None, fold}
 use Rattle.std.specs.List.{list_all, prefix_len}
 use Rattle.rip_lexer.specs.Units.{is_one_of, is_digit, is_hex_digit, is_name_unit, digit_value, begins}
 use Rattle.rip_lexer.specs.Fault.{fault}
 use Rattle.rip_lexer.specs.declared.refusal.Fault.{Fault}
-use Rattle.rip_lexer.specs.declared.refusal.LexKind.{LexKind}
 use Rattle.rip_lexer.specs.declared.refusal.LexKind.TheVariants.{BadCharacter, FractionLiteral, OctalLiteral, LiteralTooLarge}
 
 -- `0`, or a digit from 1 to 9 and then digits

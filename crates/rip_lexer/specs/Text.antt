@@ -1,5 +1,5 @@
 -- Texts, character by character, and the units that they stand for (ECMA-262 7.8.4).
-use Rattle.std.specs.Prelude.{◌≡◌, ℕ, zero, suc, ◌+◌, ◌*◌, Bool, true, false, not, ◌||◌, ◌&&◌, ◌==◌, if◌then◌else◌, List, [], ◌∷◌, ◌++◌, Option, Some, None, filter_map, ◌⊎◌}
+use Rattle.std.specs.Prelude.{◌≡◌, ℕ, zero, suc, ◌+◌, ◌*◌, Bool, true, false, not, ◌||◌, ◌&&◌, ◌==◌, if◌then◌else◌, List, [], ◌∷◌, Option, Some, None, filter_map}
 use Rattle.rip_lexer.specs.Units.{class_of, is_between, is_digit, is_line_end, is_hex_digit, digit_value, begins}
 use Rattle.rip_lexer.specs.declared.units.UnitClass.TheVariants.{Quote}
 use Rattle.rip_lexer.specs.declared.character.Character.{Character}

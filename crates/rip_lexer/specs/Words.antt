@@ -1,5 +1,5 @@
 -- Names, reserved words and punctuators, as whole spellings (ECMA-262 7.6, 7.6.1, 7.7).
-use Rattle.std.specs.Prelude.{◌≡◌, ℕ, Bool, true, false, ◌&&◌, List, [], ◌∷◌, codes}
+use Rattle.std.specs.Prelude.{ℕ, Bool, false, ◌&&◌, List, [], ◌∷◌, codes}
 use Rattle.std.specs.Str.{bytes_eq}
 use Rattle.std.specs.List.{list_any, list_all}
 use Rattle.rip_lexer.specs.Units.{is_name_start, is_name_unit}

@@ -1,4 +1,4 @@
-use Rattle.std.proofs.Common.{◌≡◌, sym, subst}
+use Rattle.std.proofs.Common.{sym, subst}
 use Rattle.rip_lexer.specs.View.{IsConstruct}
 use Rattle.rip_lexer.proofs.Constructs.{unit_refused}
 use Rattle.rip_lexer.proofs.construct.first_construct.Goals as goal

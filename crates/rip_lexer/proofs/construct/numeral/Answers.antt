@@ -1,4 +1,4 @@
-use Rattle.std.proofs.Common.{◌≡◌, sym, ap, ◌∙◌}
+use Rattle.std.proofs.Common.{sym, ◌∙◌}
 use Rattle.rip_lexer.specs.Numeral.{numeral_fault}
 use Rattle.rip_lexer.specs.declared.token.TokenKind.TheVariants.{Numeral}
 use Rattle.rip_lexer.proofs.Longest.{begins_numeral}

@@ -1,4 +1,4 @@
-use Rattle.std.proofs.Common.{◌≡◌, sym, ap, ◌∙◌, subst}
+use Rattle.std.proofs.Common.{sym, ◌∙◌, subst}
 use Rattle.rip_lexer.specs.Tokens.{punctuator_fault}
 use Rattle.rip_lexer.specs.View.{IsConstruct}
 use Rattle.rip_lexer.specs.declared.token.TokenKind.TheVariants.{Punctuator}

@@ -1,4 +1,4 @@
-use Rattle.std.proofs.Common.{◌≡◌, refl, sym, ap, ◌∙◌}
+use Rattle.std.proofs.Common.{refl, sym, ap, ◌∙◌}
 use Rattle.rip_lexer.specs.Words.{is_among, reserved_words}
 use Rattle.rip_lexer.specs.declared.token.TokenKind.TheVariants.{Name, Reserved}
 use Rattle.rip_lexer.proofs.Longest.{begins_word, word_front}

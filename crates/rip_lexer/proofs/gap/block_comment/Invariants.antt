@@ -1,4 +1,4 @@
-use Rattle.std.proofs.Common.{◌≡◌, ◌≤◌, Bool, false, List, drop, length, ℕ, ◌+◌, ◌-◌}
+use Rattle.std.proofs.Common.{◌≡◌, ◌≤◌, false, length, ◌+◌}
 use Rattle.std.specs.Prelude.{option_map}
 use Rattle.rip_lexer.specs.View.{before_close, shown_body}
 use Rattle.rip_lexer.proofs.gap.block_comment.Given as goal

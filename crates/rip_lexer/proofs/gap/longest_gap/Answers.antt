@@ -1,4 +1,4 @@
-use Rattle.std.proofs.Common.{◌≡◌, ◌+◌, ◌≤◌, ◌||◌, Bool, false, List, length-drop, ℕ, drop, length, sym, ap, ◌∙◌, subst, arith, drop-drop, add-zero}
+use Rattle.std.proofs.Common.{◌+◌, ◌||◌, false, length-drop, drop, length, sym, ap, ◌∙◌, subst, arith, drop-drop, add-zero}
 use Rattle.rip_lexer.specs.View.{ReadsGap}
 use Rattle.rip_lexer.proofs.Choice.{or_false}
 use Rattle.rip_lexer.proofs.Gaps.{gap_turn, no_gap}

@@ -1,4 +1,4 @@
-use Rattle.std.proofs.Common.{◌≡◌, ◌≤◌, ◌||◌, Bool, List, drop, length, ℕ, ◌+◌, ◌-◌}
+use Rattle.std.proofs.Common.{◌≡◌, ◌≤◌, ◌||◌, Bool, List, drop, length, ℕ, ◌+◌}
 use Rattle.rip_lexer.specs.View.{ReadsGap}
 use Rattle.rip_lexer.proofs.gap.longest_gap.Given as goal
 

@@ -1,4 +1,4 @@
-use Rattle.std.proofs.Common.{◌≡◌, All, ◌+◌, ◌<◌, ◌≤◌, Ok, Err, inl, inr, sym, ap, ◌∙◌, subst, length, drop, arith}
+use Rattle.std.proofs.Common.{All, ◌+◌, Ok, Err, inl, sym, ap, ◌∙◌, subst, arith}
 use Rattle.rip_lexer.specs.View.{ReadsGap}
 use Rattle.rip_lexer.specs.Tokens.{IsTokens, IsTokenOf, IsFirstRefusal}
 use Rattle.rip_lexer.specs.declared.refusal.LexRefusal.TheVariants.{At}

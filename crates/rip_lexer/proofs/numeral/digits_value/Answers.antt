@@ -1,6 +1,5 @@
-use Rattle.std.proofs.Common.{◌≡◌, ◌<◌, ◌≤◌, ◌+◌, ◌*◌, take, drop, length, sym, ap, ◌∙◌, get_or, arith, take-append-drop}
+use Rattle.std.proofs.Common.{◌+◌, ◌*◌, ap, get_or, arith}
 use Rattle.std.proofs.lemmas.List.Sums.{fold_more}
-use Rattle.rip_lexer.specs.Numeral.{digits_value}
 use Rattle.rip_lexer.specs.Units.{digit_value}
 use Rattle.rip_lexer.proofs.Numbers.{digits_front}
 use Rattle.rip_lexer.proofs.numeral.digits_value.Goals as goal

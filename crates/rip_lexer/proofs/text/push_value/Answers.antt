@@ -1,5 +1,4 @@
-use Rattle.std.proofs.Common.{◌≡◌, ◌∙◌, ◌++◌, [], sym, ap, subst, append_assoc, append-nil, option_to_list, slice_index_or}
-use Rattle.rip_lexer.specs.Text.{character_value}
+use Rattle.std.proofs.Common.{◌∙◌, ◌++◌, [], sym, ap, subst, append_assoc, append-nil, option_to_list, slice_index_or}
 use Rattle.rip_lexer.proofs.Values.{Remains, remains_all, remains_none, value_turn}
 use Rattle.rip_lexer.proofs.text.push_value.Goals as goal
 

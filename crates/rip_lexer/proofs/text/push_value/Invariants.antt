@@ -1,4 +1,4 @@
-use Rattle.std.proofs.Common.{◌≡◌, ◌≤◌, ◌++◌, ℕ, List, length}
+use Rattle.std.proofs.Common.{◌≡◌, ◌++◌, ℕ, List, length}
 use Rattle.rip_lexer.proofs.Values.{Remains}
 use Rattle.rip_lexer.proofs.text.push_value.Given as goal
 

@@ -1,5 +1,5 @@
-use Rattle.std.proofs.Common.{◌≡◌, ◌+◌, ◌≤◌, length, drop, sym, ap, ◌∙◌, subst, arith, rules, slice_index_or}
-use Rattle.rip_lexer.proofs.Texts.{Reads, text_goes_on, head_class, closed_end, open_end}
+use Rattle.std.proofs.Common.{◌≡◌, drop, sym, ap, ◌∙◌, arith, rules, slice_index_or}
+use Rattle.rip_lexer.proofs.Texts.{text_goes_on, head_class, closed_end, open_end}
 use Rattle.rip_lexer.specs.Text.{width}
 use Rattle.rip_lexer.proofs.text.text_end.Goals as goal
 

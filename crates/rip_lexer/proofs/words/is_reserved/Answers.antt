@@ -1,4 +1,4 @@
-use Rattle.std.proofs.Common.{◌≡◌, ◌≤◌, ◌∙◌, sym, length, arith}
+use Rattle.std.proofs.Common.{◌∙◌, sym, arith}
 use Rattle.rip_lexer.specs.Words.{reserved_words}
 use Rattle.rip_lexer.proofs.Spellings.{among_of_length, not_reserved}
 use Rattle.rip_lexer.proofs.words.is_reserved.Goals as goal
