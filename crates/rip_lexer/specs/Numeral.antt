@@ -21,6 +21,7 @@ has_prefix _ = false
 abbrev pub is_hexadecimal : List ℕ → Bool
 is_hexadecimal s = has_prefix s && list_all is_hex_digit (drop 2 s)
 
+-- a numeral, decimal or hexadecimal
 abbrev pub is_numeral : List ℕ → Bool
 is_numeral s = is_decimal s || is_hexadecimal s
 

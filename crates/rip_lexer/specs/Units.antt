@@ -24,32 +24,39 @@ class_of c =
     else (if is_one_of (codes "!%&()*+,-./:;<=>?[]^{|}~") c then Mark
     else Other)))))
 
+-- the class of digits
 abbrev pub is_digit_class : UnitClass → Bool
 is_digit_class Digit = true
 is_digit_class _ = false
 
+-- the classes of units that a name may hold behind its first
 abbrev pub is_name_class : UnitClass → Bool
 is_name_class NameStart = true
 is_name_class Digit = true
 is_name_class _ = false
 
+-- the class of line ends
 abbrev pub is_line_end_class : UnitClass → Bool
 is_line_end_class LineEnd = true
 is_line_end_class _ = false
 
+-- the classes of white space and line ends
 abbrev pub is_blank_class : UnitClass → Bool
 is_blank_class White = true
 is_blank_class LineEnd = true
 is_blank_class _ = false
 
+-- the class of units that may begin a name
 abbrev pub is_name_start_class : UnitClass → Bool
 is_name_start_class NameStart = true
 is_name_start_class _ = false
 
+-- the class of quotes
 abbrev pub is_quote_class : UnitClass → Bool
 is_quote_class Quote = true
 is_quote_class _ = false
 
+-- the class of units that may begin a punctuator
 abbrev pub is_mark_class : UnitClass → Bool
 is_mark_class Mark = true
 is_mark_class _ = false

@@ -1,4 +1,9 @@
-//! Tokens of a script.
+//! The tokens of a script: names, reserved words, numerals, texts and punctuators, as ECMA-262 section 7 has them.
+//!
+//! A script is a list of 16-bit units. [`tokens`] answers the one list of tokens that the whole script is, with gaps
+//! of white space, line ends and comments around them, or the first construct that is refused, with its place. There
+//! are no regular expressions and no fractions, names are of ASCII, and a numeral is at most 2^53 - 1. The layer above
+//! may rest on the list being the only one, and reads at each token's place by [`numeral_value`] and [`text_value`].
 #![tactic(auto)]
 
 mod character;

@@ -40,24 +40,34 @@ pub(crate) struct Fault {
 }
 
 impl fmt::Display for LexKind {
+    ghost use Rattle.std.specs.Prelude.{Some};
+    ghost use Rattle.rip_lexer.specs.Printed.{kind_text};
+
+    ghost output = { λ kind. Some (kind_text kind) };
+
     fn fmt<W: fmt::Write>(&self, f: &mut fmt::Formatter<W>) -> fmt::Result {
         f.write_str(match self {
-            LexKind::BadCharacter => "a unit that begins no token",
-            LexKind::OpenText => "a text that is not closed",
-            LexKind::OpenComment => "a comment that is not closed",
-            LexKind::FractionLiteral => "a number with a point or an exponent",
-            LexKind::OctalLiteral => "an octal number or escape",
-            LexKind::LiteralTooLarge => "a number above 2^53 - 1",
-            LexKind::BadEscape => "an escape that is none",
+            LexKind::BadCharacter => "BadCharacter",
+            LexKind::OpenText => "OpenText",
+            LexKind::OpenComment => "OpenComment",
+            LexKind::FractionLiteral => "FractionLiteral",
+            LexKind::OctalLiteral => "OctalLiteral",
+            LexKind::LiteralTooLarge => "LiteralTooLarge",
+            LexKind::BadEscape => "BadEscape",
         })
     }
 }
 
 impl fmt::Display for LexRefusal {
+    ghost use Rattle.std.specs.Prelude.{Some};
+    ghost use Rattle.rip_lexer.specs.Printed.{refusal_text};
+
+    ghost output = { λ refusal. Some (refusal_text refusal) };
+
     fn fmt<W: fmt::Write>(&self, f: &mut fmt::Formatter<W>) -> fmt::Result {
         match self {
-            LexRefusal::At { place, kind } => write!(f, "{kind} at {place}"),
-            LexRefusal::Memory => f.write_str("out of memory"),
+            LexRefusal::At { place, kind } => write!(f, "{kind} {place}"),
+            LexRefusal::Memory => f.write_str("memory"),
         }
     }
 }
