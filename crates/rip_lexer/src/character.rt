@@ -2,31 +2,11 @@ ghost use Rattle.std.specs.Prelude.{◌≡◌, ◌+◌, ◌≤◌, length, IfSom
 ghost use Rattle.rip_lexer.specs.Text.{character_value, escape_value, width};
 ghost use Rattle.rip_lexer.specs.View.{escape_of, first_character, null_escape, continuation, hex_escape, unicode_escape};
 
+use crate::ascii::{
+    BACKSLASH, CARRIAGE_RETURN, LINE_FEED, SMALL_B, SMALL_F, SMALL_N, SMALL_R, SMALL_T, SMALL_U,
+    SMALL_V, SMALL_X, ZERO,
+};
 use crate::units::{begins_with_digit, digit_value, is_digit, is_hex_digit, is_line_end};
-
-const BACKSLASH: u16 = 0x5C;
-
-const ZERO: u16 = 0x30;
-
-const SMALL_B: u16 = 0x62;
-
-const SMALL_F: u16 = 0x66;
-
-const SMALL_N: u16 = 0x6E;
-
-const SMALL_R: u16 = 0x72;
-
-const SMALL_T: u16 = 0x74;
-
-const SMALL_U: u16 = 0x75;
-
-const SMALL_V: u16 = 0x76;
-
-const SMALL_X: u16 = 0x78;
-
-const LINE_FEED: u16 = 10;
-
-const CARRIAGE_RETURN: u16 = 13;
 
 /// A character of a text, as it is spelled between the quotes (ECMA-262 7.8.4).
 #[derive(Clone, Copy, Debug, PartialEq, Eq)]

@@ -5,6 +5,7 @@ ghost use Rattle.rip_lexer.specs.Units.{begins, is_digit, is_mark, is_name_start
 ghost use Rattle.rip_lexer.specs.Tokens.{punctuator_fault};
 ghost use Rattle.rip_lexer.specs.View.{first_part, IsConstruct, OffsetWithin};
 
+use crate::ascii::{POINT, SLASH, STAR};
 use crate::numeral::{numeral_count, numeral_fault};
 use crate::punctuator::punctuator_count;
 use crate::refusal::{Fault, LexKind};
@@ -12,12 +13,6 @@ use crate::text::text_end;
 use crate::token::TokenKind;
 use crate::units::{UnitClass, begins_with_digit, class_of, name_unit_count};
 use crate::words::is_reserved;
-
-const STAR: u16 = 0x2A;
-
-const POINT: u16 = 0x2E;
-
-const SLASH: u16 = 0x2F;
 
 /// What stands behind a gap.
 #[derive(Clone, Copy, Debug, PartialEq, Eq)]

@@ -1,11 +1,8 @@
 ghost use Rattle.std.specs.Prelude.{◌≡◌, ◌+◌, ◌<◌, ◌≤◌, ◌||◌, false, None, drop, length, option_map, IfSome};
 ghost use Rattle.rip_lexer.specs.View.{first_part, comment_of, before_close, shown, shown_body, ReadsGap};
 
+use crate::ascii::{SLASH, STAR};
 use crate::units::{is_blank, is_line_end, line_count};
-
-const SLASH: u16 = 0x2F;
-
-const STAR: u16 = 0x2A;
 
 /// A gap, or a part of one: how many units it has, and whether it holds a line end.
 #[derive(Clone, Copy, Debug, PartialEq, Eq)]

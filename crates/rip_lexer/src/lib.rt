@@ -6,6 +6,7 @@
 //! may rest on the list being the only one, and reads at each token's place by [`numeral_value`] and [`text_value`].
 #![tactic(auto)]
 
+mod ascii;
 mod character;
 mod construct;
 mod gap;

@@ -4,23 +4,12 @@ ghost use Rattle.rip_lexer.specs.Numeral.{numeral_fault, numeral_value, digits_v
 ghost use Rattle.rip_lexer.specs.Units.{begins, is_one_of};
 ghost use Rattle.rip_lexer.specs.View.{numeral_count};
 
+use crate::ascii::{CAPITAL_E, CAPITAL_X, POINT, SMALL_E, SMALL_X, ZERO};
 use crate::refusal::{Fault, LexKind};
 use crate::units::{
     begins_with_digit, begins_with_name_unit, digit_count, digit_value, hex_digit_count,
 };
 use rip_values::Whole;
-
-const ZERO: u16 = 0x30;
-
-const POINT: u16 = 0x2E;
-
-const SMALL_E: u16 = 0x65;
-
-const CAPITAL_E: u16 = 0x45;
-
-const SMALL_X: u16 = 0x78;
-
-const CAPITAL_X: u16 = 0x58;
 
 /// The greatest value of a numeral, 2^53 - 1.
 const MAX_VALUE: u64 = 9_007_199_254_740_991;
