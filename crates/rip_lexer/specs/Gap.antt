@@ -1,4 +1,5 @@
--- What may stand between tokens: white space, line ends and comments (ECMA-262 7.2, 7.3, 7.4).
+-- What may stand between tokens: white space, line ends and comments (ECMA-262 7.2, 7.3, 7.4). Units by number: 47
+-- is `/`, 42 is `*`.
 use Rattle.std.specs.Prelude.{◌≡◌, ℕ, Bool, true, false, not, ◌||◌, ◌&&◌, ◌==◌, List, [], ◌∷◌, ◌++◌}
 use Rattle.std.specs.List.{list_any, list_all}
 use Rattle.rip_lexer.specs.Units.{is_line_end, is_blank, begins}

@@ -1,4 +1,5 @@
--- Numerals, the whole numbers that they stand for, and those that are refused (ECMA-262 7.8.3, B.1.1).
+-- Numerals, the whole numbers that they stand for, and those that are refused (ECMA-262 7.8.3, B.1.1). Units by
+-- number: 48 is `0`, 120 and 88 are `x` and `X`, 46, 101 and 69 are `.`, `e` and `E`.
 use Rattle.std.specs.Prelude.{ℕ, ◌+◌, ◌*◌, Bool, false, not, ◌||◌, ◌&&◌, ◌==◌, nat_lt, if◌then◌else◌, List, [], ◌∷◌, length, drop, Option, Some, None, fold}
 use Rattle.std.specs.List.{list_all, prefix_len}
 use Rattle.rip_lexer.specs.Units.{is_one_of, is_digit, is_hex_digit, is_name_unit, digit_value, begins}

@@ -1,4 +1,5 @@
--- Texts, character by character, and the units that they stand for (ECMA-262 7.8.4).
+-- Texts, character by character, and the units that they stand for (ECMA-262 7.8.4). Units by number: 92 is `\`,
+-- 48 `0`, 120 `x`, 117 `u`, 13 and 10 are CR and LF.
 use Rattle.std.specs.Prelude.{◌≡◌, ℕ, zero, suc, ◌+◌, ◌*◌, Bool, true, false, not, ◌||◌, ◌&&◌, ◌==◌, if◌then◌else◌, List, [], ◌∷◌, Option, Some, None, filter_map}
 use Rattle.rip_lexer.specs.Units.{class_of, is_between, is_digit, is_line_end, is_hex_digit, digit_value, begins}
 use Rattle.rip_lexer.specs.declared.units.UnitClass.TheVariants.{Quote}
@@ -45,7 +46,7 @@ IsCharacter quote (Continuation c) rest = (is_line_end c ≡ true) × ((c == 13)
 IsCharacter quote ContinuationPair rest = Unit {0}
 IsCharacter quote (Refused c) rest = is_refused c rest ≡ true
 
--- what `\` and a unit of one letter stand for; any other unit stands for itself
+-- what `\` before b, t, n, v, f and r stands for; any other unit stands for itself
 abbrev pub escape_value : ℕ → ℕ
 escape_value c =
     if c == 98 then 8
@@ -78,7 +79,7 @@ width (Continuation c) = 2
 width ContinuationPair = 3
 width (Refused c) = 2
 
--- why an escape is refused
+-- why an escape is refused: the digits 0 to 7 are octal
 abbrev pub refused_kind : ℕ → LexKind
 refused_kind c = if is_between 48 55 c then OctalLiteral else BadEscape
 

@@ -1,4 +1,5 @@
--- The units of a script, each of one class (ECMA-262 6, 7.2, 7.3, 7.6, 7.7, 7.8).
+-- The units of a script, each of one class (ECMA-262 6, 7.2, 7.3, 7.6, 7.7, 7.8). Units by number: 48 to 57 are the
+-- decimal digits, 65 to 90 and 97 to 122 the letters.
 use Rattle.std.specs.Prelude.{ℕ, ◌-◌, Bool, true, false, ◌||◌, ◌&&◌, ◌==◌, nat_le, if◌then◌else◌, List, [], ◌∷◌, codes}
 use Rattle.std.specs.List.{list_any}
 use Rattle.rip_lexer.specs.declared.units.UnitClass.{UnitClass}
