@@ -1,0 +1,12 @@
+pub mod Choice
+pub mod Classes
+pub mod Constructs
+pub mod Gaps
+pub mod Lexing
+pub mod Longest
+pub mod Numbers
+pub mod Runs
+pub mod Spellings
+pub mod Texts
+pub mod Unique
+pub mod Values
