@@ -23,12 +23,15 @@ abbrev pub Has : (List ℕ → Type 0) → Content → Type 0
 Has P (Bytes content) = P content
 Has P TooLong = ⊥
 
+-- the page is a spelling of some calls
 abbrev pub HasPage : Content → Type 0
 HasPage = Has IsSomePage
 
+-- the manifest is the manifest
 abbrev pub HasManifest : Content → Type 0
 HasManifest = Has IsManifest
 
+-- the trace is that of some batches
 abbrev pub HasTrace : Content → Type 0
 HasTrace = Has (λ content. (batches : List Batch) × IsTrace content batches)
 

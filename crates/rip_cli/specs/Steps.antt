@@ -14,13 +14,14 @@ use Rattle.rip_cli.specs.declared.input.Refusal.TheVariants as refusal
 use Rattle.rip_cli.specs.declared.status.Status.{Status}
 use Rattle.rip_cli.specs.declared.status.Status.TheVariants.{Read, BadWords, BadInput, TurnsSpent, Outside, NoMemory}
 
--- the names that were asked for: all of them, or those at the front where reading stopped
+-- a front of the names was asked for, in order
 pub record AskedFront (names : List (List ℕ)) (old new : Option (List (List ℕ))) : Type 0 where
   pub first : List (List ℕ)
   pub others : List (List ℕ)
   pub in_order : names ≡ first ++ others
   pub asked : new ≡ also first old
 
+-- the names that were asked for: all where reading went well
 abbrev pub Asked : {A : Type 0} → Result A ReadStop → List (List ℕ) → Option (List (List ℕ)) → Option (List (List ℕ)) → Type 0
 Asked (Ok x) names old new = new ≡ also names old
 Asked (Err e) names old new = AskedFront names old new

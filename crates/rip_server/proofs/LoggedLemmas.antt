@@ -1,24 +1,16 @@
 -- How what was logged by one step after another joins.
-use Rattle.std.proofs.Common.{◌≡◌, ℕ, List, [], ◌∷◌, ◌++◌, Option, Some, None, refl, sym, ap, subst, ◌∙◌, append_assoc, append-nil}
+use Rattle.std.proofs.Common.{◌≡◌, ℕ, List, [], ◌∷◌, ◌++◌, Option, sym, ap, subst, ◌∙◌, append-nil}
 use Rattle.std.specs.Prelude.{Result, Ok, Err, IsErr}
 use Rattle.std.proofs.lemmas.List.Concat.{flat_map-append}
 use Rattle.rip_outer.specs.Outside.{Front, also}
 use Rattle.rip_outer.specs.Writing.{Takes}
+use Rattle.rip_outer.proofs.Composing.{also-also, Front-after, Front-longer, Front-none}
 use Rattle.rip_outer.specs.declared.writing.SinkError.{SinkError}
 use Rattle.rip_outer.specs.declared.writing.SinkError.TheVariants.{Failed, Memory}
 use Rattle.rip_log.specs.Entry.{entry_text}
 use Rattle.rip_log.specs.History.{history_text}
 use Rattle.rip_log.specs.declared.entry.Entry.{Entry}
 use Rattle.rip_server.specs.Logged.{Logged}
-
--- two additions are one
-pub also-also : (xs ys : List ℕ) (o : Option (List ℕ)) → also ys (also xs o) ≡ also (xs ++ ys) o
-also-also xs ys None = refl
-also-also xs ys (Some old) = ap Some (append_assoc old xs ys)
-
-pub also-nil : (o : Option (List ℕ)) → o ≡ also [] o
-also-nil None = refl
-also-nil (Some old) = ap Some (sym (append-nil old))
 
 history-append : (xs ys : List Entry) → history_text (xs ++ ys) ≡ history_text xs ++ history_text ys
 history-append xs ys = flat_map-append entry_text xs ys
@@ -29,48 +21,21 @@ pub logged_then : {A : Type 0} (r : Result A SinkError) (xs ys : List Entry) (fi
 logged_then (Ok done) xs ys first second third whole h =
     h ∙ ap (also (history_text ys)) whole ∙ also-also (history_text xs) (history_text ys) first
     ∙ ap (λ t. also t first) (sym (history-append xs ys))
-logged_then (Err e) xs ys first second third whole h = record {
-  front = history_text xs ++ h.front;
-  rest = h.rest;
-  parts = history-append xs ys ∙ ap (λ t. history_text xs ++ t) h.parts ∙ sym (append_assoc (history_text xs) h.front h.rest);
-  added = h.added ∙ ap (also h.front) whole ∙ also-also (history_text xs) h.front first;
-}
+logged_then (Err e) xs ys first second third whole h =
+    subst (λ t. Front t first third) (sym (history-append xs ys)) (Front-after (history_text xs) (history_text ys) first second third whole h)
 
 -- one entry's line
 pub takes_one : {A : Type 0} (r : Result A SinkError) (e : Entry) (old new : Option (List ℕ))
     → Takes r (entry_text e) old new → Logged r (e ∷ []) old new
 takes_one (Ok done) e old new h = h ∙ ap (λ t. also t old) (sym (append-nil (entry_text e)))
-takes_one (Err Failed) e old new h = record {
-  front = h.front;
-  rest = h.rest;
-  parts = append-nil (entry_text e) ∙ h.parts;
-  added = h.added;
-}
-takes_one (Err Memory) e old new h = record {
-  front = [];
-  rest = history_text (e ∷ []);
-  parts = refl;
-  added = h ∙ also-nil old;
-}
+takes_one (Err Failed) e old new h = Front-longer (entry_text e) [] old new h
+takes_one (Err Memory) e old new h = Front-none (history_text (e ∷ [])) old new h
 
 -- a front of a history is a front of each longer one
 pub logged_more : (A : Type 0) (e : SinkError) (xs ys : List Entry) (old new : Option (List ℕ))
     → Logged {A = A} (Err e) xs old new → Logged {A = A} (Err e) (xs ++ ys) old new
-logged_more A e xs ys old new h = record {
-  front = h.front;
-  rest = h.rest ++ history_text ys;
-  parts = history-append xs ys ∙ ap (λ t. t ++ history_text ys) h.parts ∙ append_assoc h.front h.rest (history_text ys);
-  added = h.added;
-}
-
--- nothing was put
-pub logged_none : (A : Type 0) (e : SinkError) (xs : List Entry) (old : Option (List ℕ)) → Logged {A = A} (Err e) xs old old
-logged_none A e xs old = record {
-  front = [];
-  rest = history_text xs;
-  parts = refl;
-  added = also-nil old;
-}
+logged_more A e xs ys old new h =
+    subst (λ t. Front t old new) (sym (history-append xs ys)) (Front-longer (history_text xs) (history_text ys) old new h)
 
 -- an error logged a front
 pub logged_err : {A : Type 0} (r : Result A SinkError) (xs : List Entry) (old new : Option (List ℕ))

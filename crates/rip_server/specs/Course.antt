@@ -9,6 +9,7 @@ use Rattle.rip_server.specs.Served.{reported, IsServed, Lives, session_entries}
 abbrev pub Admissions : Type 0
 Admissions = List (ℕ × Batch)
 
+-- the batches without their turns
 abbrev pub batches_of : Admissions → List Batch
 batches_of admitted = map (λ a. a.1) admitted
 

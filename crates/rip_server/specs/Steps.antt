@@ -37,10 +37,12 @@ after_items made s (item ∷ items) =
 abbrev pub admits : Session → Batch → Bool
 admits s b = s.live && b.number == s.last + 1
 
+-- the entries of a batch that comes in this turn
 abbrev pub step_entries : List (List ℕ) → Session → ℕ → Batch → List Entry
 step_entries made s turn b =
     if admits s b then Admitted turn 1 b ∷ item_entries made s.served turn b.number 1 b.items else []
 
+-- the session after a batch
 abbrev pub after_batch : List (List ℕ) → Session → Batch → Session
 after_batch made s b = if admits s b then after_items made (record s { last = b.number }) b.items else s
 

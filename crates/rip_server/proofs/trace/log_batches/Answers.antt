@@ -1,7 +1,8 @@
 use Rattle.std.proofs.Common.{◌+◌, take, drop, refl, ap, ◌∙◌, arith}
 use Rattle.std.specs.Prelude.{Ok}
 use Rattle.rip_server.specs.Steps.{run_entries, step_entries, after_batch, opened}
-use Rattle.rip_server.proofs.LoggedLemmas.{logged_part, logged_rest, also-nil}
+use Rattle.rip_server.proofs.LoggedLemmas.{logged_part, logged_rest}
+use Rattle.rip_outer.proofs.Composing.{also-nil}
 use Rattle.rip_server.proofs.ItemLemmas.{drop_step}
 use Rattle.rip_server.proofs.RunLemmas.{run_session, run_at, run_next, session_next}
 use Rattle.rip_server.proofs.trace.log_batches.Goals as goal

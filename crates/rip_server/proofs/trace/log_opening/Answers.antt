@@ -2,7 +2,8 @@ use Rattle.std.proofs.Common.{[], ◌∷◌, refl}
 use Rattle.std.specs.Prelude.{None, Ok}
 use Rattle.rip_log.specs.declared.entry.Entry.TheVariants.{Opened, Done}
 use Rattle.rip_server.specs.Opening.{identifier}
-use Rattle.rip_server.proofs.LoggedLemmas.{logged_cut, logged_last, takes_one, also-nil}
+use Rattle.rip_server.proofs.LoggedLemmas.{logged_cut, logged_last, takes_one}
+use Rattle.rip_outer.proofs.Composing.{also-nil}
 use Rattle.rip_server.proofs.trace.log_opening.Goals as goal
 
 pub returns-in_err-put_opened-clause-logged : goal.returns-in_err-put_opened-clause-logged

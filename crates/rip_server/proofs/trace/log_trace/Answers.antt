@@ -2,7 +2,8 @@ use Rattle.std.proofs.Common.{◌+◌, [], ◌∷◌, ◌++◌, length, refl}
 use Rattle.rip_log.specs.declared.entry.Entry.TheVariants.{Ended}
 use Rattle.rip_server.specs.Opening.{opening_entries}
 use Rattle.rip_server.specs.Steps.{run_entries, opened}
-use Rattle.rip_server.proofs.LoggedLemmas.{logged_part, logged_last, logged_then, also-nil}
+use Rattle.rip_server.proofs.LoggedLemmas.{logged_part, logged_last, logged_then}
+use Rattle.rip_outer.proofs.Composing.{also-nil}
 use Rattle.rip_server.proofs.trace.log_trace.Goals as goal
 
 pub returns-in_err-log_opening-clause-logged : goal.returns-in_err-log_opening-clause-logged

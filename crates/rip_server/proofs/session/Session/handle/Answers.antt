@@ -1,7 +1,8 @@
 use Rattle.std.proofs.Common.{◌≡◌, true, [], ◌∷◌, rules}
 use Rattle.rip_log.specs.declared.entry.Entry.TheVariants.{Admitted}
 use Rattle.rip_server.specs.Steps.{admits, item_entries}
-use Rattle.rip_server.proofs.LoggedLemmas.{logged_cut, logged_rest, takes_one, also-nil}
+use Rattle.rip_server.proofs.LoggedLemmas.{logged_cut, logged_rest, takes_one}
+use Rattle.rip_outer.proofs.Composing.{also-nil}
 use Rattle.rip_server.proofs.ItemLemmas.{admitted_step}
 use Rattle.rip_server.proofs.session.Session.handle.Goals as goal
 
