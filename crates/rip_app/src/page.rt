@@ -1,4 +1,4 @@
-ghost use Rattle.std.specs.Prelude.{◌↔◌, OnOk, IfOk, IsErrOf, IsTrue};
+ghost use Rattle.std.specs.Prelude.{◌↔◌, IfOk, IsErrOf, IsTrue};
 ghost use Rattle.rip_wire.specs.Call.{IsCall};
 ghost use Rattle.rip_wire.specs.Reader.{AreUpTo, IsTextThen, IsOnlyText, BeginsWithNone};
 ghost use Rattle.rip_app.specs.Page.{statements_text, NoStatementFirst, IsPage, IsSomePage, IsManifest, IsEnd, PagesTellApart};

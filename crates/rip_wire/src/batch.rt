@@ -205,6 +205,17 @@ mod tests {
     }
 
     #[test]
+    fn items_are_written(rt: HostRuntime) -> Result<(), Fail> {
+        let alloc = rt.alloc();
+        let body = b"{\"batch\":1,\"items\":[[\"call\",1,\"f\",[1]],[\"call\",2,\"f\",[-3,0]]]}";
+        let mut out = Writer::new(alloc);
+        read_batch(alloc, body)?.write_items(&mut out)?;
+        let items = b"[[\"call\",1,\"f\",[1]],[\"call\",2,\"f\",[-3,0]]]";
+        assert_eq!(rt; out.as_slice(), items.as_slice());
+        Ok(())
+    }
+
+    #[test]
     fn other_bodies_are_refused(rt: HostRuntime) -> Result<(), Fail> {
         let alloc = rt.alloc();
         for body in [

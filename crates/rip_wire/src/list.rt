@@ -1,4 +1,4 @@
-ghost use Rattle.std.specs.Prelude.{◌≤◌, OnOk, IfOk, IsErrOf};
+ghost use Rattle.std.specs.Prelude.{◌≤◌, IfOk, IsErrOf};
 ghost use Rattle.rip_wire.specs.Reader.{AreUpTo, NoDigitFirst, Anything, IsTextThen, IsOnlyText, BeginsWithNone, list_text};
 
 use crate::reader::{ReadError, Reader};

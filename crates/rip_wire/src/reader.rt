@@ -1,4 +1,4 @@
-ghost use Rattle.std.specs.Prelude.{◌≡◌, ◌≢◌, ◌++◌, [], ◌↔◌, ℕ, ◌<◌, ◌^◌, List, decimal, take_while, length, drop, IsTrue, OnOk, OnErr, IfOk, IsErrOf, IsOkUnless, ℤ, IfSome, IsNone};
+ghost use Rattle.std.specs.Prelude.{◌≡◌, ◌≢◌, ◌++◌, [], ◌↔◌, ℕ, ◌<◌, ◌^◌, List, decimal, take_while, length, IsTrue, OnOk, OnErr, IfOk, IsErrOf, IsOkUnless, ℤ, IfSome, IsNone};
 ghost use Rattle.std.specs.Bool.{OnTrue, OnFalse};
 ghost use Rattle.std.specs.Char.{is_ascii_digit};
 ghost use Rattle.std.specs.Fmt.{signed_decimal};
@@ -11,7 +11,7 @@ ghost use Rattle.rip_wire.specs.declared.reader.ReadError.TheVariants.{Memory};
 
 use crate::name::{Name, is_name_byte};
 use rip_values::{Bytes, NoMemory, Whole};
-use std::alloc::{AllocError, AllocFailed, Global};
+use std::alloc::{AllocFailed, Global};
 use std::error::Error;
 use std::marker::Model;
 use std::{fmt, str};
