@@ -1,5 +1,4 @@
-ghost use Rattle.std.specs.Prelude.{IfNone, IfSome, map, string_bytes, ◌≡◌, ℕ, List, map, string_bytes};
-ghost use Rattle.rip_outer.specs.Writing.{CountsPut};
+ghost use Rattle.std.specs.Prelude.{IfNone, IfSome, map, string_bytes, ◌≡◌};
 ghost use Rattle.rip_cli.specs.Steps.{Settles, CountsStatus, PutsLine, IsLineStatus, IsRefusedBy};
 ghost use Rattle.rip_cli.specs.Run.{Ran};
 ghost use Rattle.rip_cli.specs.Words.{IsForm, IsReplay};
@@ -84,8 +83,6 @@ fn settle<S: Sink>(alloc: Global, input: &Input, out: &mut S) -> Status
     }
 }
 
-/// What the files and the sink tell is a [`Told`] in the contract.
-///
 /// Does what the words say, over these files and this sink. The words are `replay PAGE APP TRACE`: the log of the trace
 /// is put, served by an application of this page and this manifest. The door, the clock and the random words are not
 /// used.

@@ -1,4 +1,3 @@
-ghost use Rattle.std.specs.Prelude.{◌≡◌, ◌≤◌};
 ghost use Rattle.rip_outer.specs.Writing.{Takes, CountsPut};
 ghost use Rattle.rip_log.specs.Entry.{entry_text};
 ghost use Rattle.rip_server.specs.Served.{served_entry};

@@ -1,4 +1,4 @@
-ghost use Rattle.std.specs.Prelude.{List, ◌≡◌, ◌+◌, ◌≤◌, length};
+ghost use Rattle.std.specs.Prelude.{List};
 ghost use Rattle.std.specs.List.{AllByRecursion};
 ghost use Rattle.rip_outer.specs.Writing.{CountsPut};
 ghost use Rattle.rip_wire.specs.Batch.{IsBatch};
