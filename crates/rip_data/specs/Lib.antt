@@ -1,0 +1,3 @@
+pub mod Datum
+pub mod Reading
+pub mod Written

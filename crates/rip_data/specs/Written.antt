@@ -1,0 +1,19 @@
+-- The tokens of a datum, for the clauses of the functions that write it.
+use Rattle.std.specs.Prelude.{ℕ, List, map}
+use Rattle.json.specs.Token.{Token}
+use Rattle.json.specs.Tree.{json_tokens, items_tokens, members_tokens}
+use Rattle.serde_json.specs.Written.{outline, items_outline, members_outline}
+use Rattle.rip_data.specs.Datum.{Tree, Elements, Fields, data_of, items_of, members_of, elements_of, fields_of, tree_of}
+use Rattle.rip_data.specs.declared.datum.Datum.{Datum}
+
+-- the tokens of the canonical text
+abbrev pub tokens_of : Tree → List Token
+tokens_of t = json_tokens (outline (data_of t))
+
+-- those of the elements, with the closing bracket
+abbrev pub element_tokens : List Datum → List Token
+element_tokens ds = items_tokens (items_outline (items_of (elements_of (map tree_of ds))))
+
+-- those of the fields, with the closing bracket
+abbrev pub field_tokens : List (List ℕ × Datum) → List Token
+field_tokens fs = members_tokens (members_outline (members_of (fields_of (map (λ f. (f.0, tree_of f.1)) fs))))
