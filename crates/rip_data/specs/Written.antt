@@ -1,9 +1,10 @@
--- The tokens of a datum, for the clauses of the functions that write it.
+-- The parts of a datum as the clauses of private functions see them.
 use Rattle.std.specs.Prelude.{ℕ, List, map}
 use Rattle.json.specs.Token.{Token}
 use Rattle.json.specs.Tree.{json_tokens, items_tokens, members_tokens}
+use Rattle.serde_json.specs.Data as json
 use Rattle.serde_json.specs.Written.{outline, items_outline, members_outline}
-use Rattle.rip_data.specs.Datum.{Tree, Elements, Fields, data_of, items_of, members_of, elements_of, fields_of, tree_of}
+use Rattle.rip_data.specs.Datum.{Tree, Elements, Fields, data_of, items_of, members_of, AreData, HaveData, elements_of, fields_of, tree_of}
 use Rattle.rip_data.specs.declared.datum.Datum.{Datum}
 
 -- the tokens of the canonical text
@@ -17,3 +18,15 @@ element_tokens ds = items_tokens (items_outline (items_of (elements_of (map tree
 -- those of the fields, with the closing bracket
 abbrev pub field_tokens : List (List ℕ × Datum) → List Token
 field_tokens fs = members_tokens (members_outline (members_of (fields_of (map (λ f. (f.0, tree_of f.1)) fs))))
+
+-- the data of the fields, in order
+abbrev pub fields_data : List (List ℕ × Datum) → json.Members
+fields_data fs = members_of (fields_of (map (λ f. (f.0, tree_of f.1)) fs))
+
+-- each element is well made
+abbrev pub AreElements : List Datum → Type 0
+AreElements ds = AreData (elements_of (map tree_of ds))
+
+-- each field is well made
+abbrev pub AreFields : List (List ℕ × Datum) → Type 0
+AreFields fs = HaveData (fields_of (map (λ f. (f.0, tree_of f.1)) fs))

@@ -20,3 +20,25 @@ pub enum DataError {
     #[error("out of memory")]
     Memory,
 }
+
+impl From<AllocError> for DataError {
+    ghost use Rattle.std.specs.Prelude.{◌≡◌};
+    ghost use Rattle.rip_data.specs.declared.error.DataError.{DataError};
+
+    ghost from_gives = { λ _ e. e ≡ DataError.Memory };
+
+    fn from(_: AllocError) -> DataError {
+        DataError::Memory
+    }
+}
+
+impl<T: Drop> From<AllocFailed<T>> for DataError {
+    ghost use Rattle.std.specs.Prelude.{◌≡◌};
+    ghost use Rattle.rip_data.specs.declared.error.DataError.{DataError};
+
+    ghost from_gives = { λ _ e. e ≡ DataError.Memory };
+
+    fn from(_: AllocFailed<T>) -> DataError {
+        DataError::Memory
+    }
+}

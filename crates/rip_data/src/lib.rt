@@ -3,6 +3,8 @@
 
 mod datum;
 mod error;
+mod number;
+mod read;
 mod write;
 
 pub use datum::{Datum, DatumFields, DatumList};
