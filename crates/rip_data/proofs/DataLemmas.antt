@@ -14,10 +14,11 @@ use Rattle.serde_json.specs.declared.value.Value.{Value}
 use Rattle.serde_json.proofs.Views.{Entry}
 use Rattle.rip_values.specs.Text.{IsUtf16, IsSameText}
 use Rattle.rip_values.proofs.TextLemmas.{utf16_chars-encode_utf16_all}
-use Rattle.rip_data.specs.Datum.{tree_of, data_of, items_of, utf8_of, object, elements_of, fields_of, IsDatum, IsBeforeAll, AreInOrder}
+use Rattle.rip_data.specs.Datum.{tree_of, data_of, items_of, utf8_of, array, object, elements_of, fields_of, IsDatum, IsBeforeAll, AreInOrder}
 use Rattle.rip_data.specs.Reading.{all_whole, items_whole, members_whole}
 use Rattle.rip_data.specs.Written.{fields_data, AreElements, AreFields}
 use Rattle.rip_data.specs.declared.datum.Datum.{Datum}
+use Rattle.rip_data.specs.declared.datum.DatumList.{DatumList, out-DatumList}
 use Rattle.rip_data.specs.declared.datum.DatumFields.{DatumFields, out-DatumFields}
 use Rattle.rip_data.specs.declared.datum.Datum as datum
 use Rattle.rip_data.specs.declared.datum.Datum.TheViews.{roll-DatumFields}
@@ -107,8 +108,12 @@ pub members_whole-among : (done : List Entry) (e : Entry) (left : List Entry) �
 members_whole-among [] e left h = ap (λ b. b && members_whole (members_view left)) h
 members_whole-among (d ∷ done) e left h = ap (λ b. all_whole (view d.1) && b) (members_whole-among done e left h) ∙ and_false (all_whole (view d.1))
 
-tree_of-object : (o : DatumFields) → tree_of (datum.Fields o) ≡ object (fields_of (map (λ f. (f.0, tree_of f.1)) (out-DatumFields o).fields.items))
+-- the tree of an object and of an array
+pub tree_of-object : (o : DatumFields) → tree_of (datum.Fields o) ≡ object (fields_of (map (λ f. (f.0, tree_of f.1)) (out-DatumFields o).fields.items))
 tree_of-object o = search (rules, datum.the_lemmas)
+
+pub tree_of-array : (o : DatumList) → tree_of (datum.List o) ≡ array (elements_of (map tree_of (out-DatumList o).items.items))
+tree_of-array o = search (rules, datum.the_lemmas)
 
 out-roll : (v : Vec (List ℕ × Datum) Global) → out-DatumFields (roll-DatumFields (record { fields = v })) ≡ record { fields = v }
 out-roll v = search (rules, datum.the_lemmas)

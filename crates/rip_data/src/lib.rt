@@ -5,8 +5,11 @@ mod datum;
 mod error;
 mod number;
 mod read;
+mod size;
 mod write;
 
 pub use datum::{Datum, DatumFields, DatumList};
 pub use error::DataError;
+pub use read::{MAX_DEPTH, MAX_LENGTH, read_datum, read_long};
+pub use size::{DatumSize, datum_size};
 pub use write::write_datum;

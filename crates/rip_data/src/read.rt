@@ -1,16 +1,66 @@
-ghost use Rattle.std.specs.Prelude.{◌≡◌, ◌≢◌, false, map, IfOk, IfErr, Ok, Err};
+ghost use Rattle.std.specs.Prelude.{◌≡◌, ◌≢◌, false, map, IfOk, IfErr, Ok, Err, Some, None};
 ghost use Rattle.serde_json.specs.View.{view, items_view, members_view};
 ghost use Rattle.rip_values.specs.Text.{IsSameText};
 ghost use Rattle.rip_data.specs.Datum.{tree_of, data_of, members_of, IsDatum, AreInOrder};
-ghost use Rattle.rip_data.specs.Reading.{all_whole, items_whole, members_whole, answer, answer_long};
+ghost use Rattle.rip_data.specs.Reading.{all_whole, items_whole, members_whole, answer, answer_long, value_of};
 ghost use Rattle.rip_data.specs.Written.{AreElements, AreFields, fields_data};
 
 use crate::datum::{Datum, DatumFields, DatumList};
 use crate::error::DataError;
 use crate::number::whole_of;
+use crate::size::datum_size;
 use rip_values::{TextError, Units};
 use serde_json::{Map, Value};
 use std::alloc::Global;
+
+/// How deep arrays and objects may nest in data.
+pub const MAX_DEPTH: usize = 8;
+
+/// The most bytes that the canonical text of data may have.
+pub const MAX_LENGTH: usize = 16_384;
+
+/// The datum that the bytes are, as JSON in UTF-8 (RFC 8259).
+///
+/// Of repeated members the last is kept, and only it is judged. Where more than one refusal holds, the first in the
+/// order of [`DataError`] is answered; memory may run out at any text.
+pub fn read_datum(alloc: Global, text: &[u8]) -> Result<Datum, DataError>
+    ensures ok { IfOk result (λ d. answer text.now ≡ Ok (data_of (tree_of d))) }
+    ensures made { IfOk result (λ d. IsDatum (tree_of d)) }
+    ensures err { IfErr result (λ e. e ≢ DataError.Memory → answer text.now ≡ Err e) }
+{
+    let datum = read_long(alloc, text)?;
+    if datum_size(&datum).length > MAX_LENGTH {
+        return Err(DataError::DataTooLong);
+    }
+    Ok(datum)
+}
+
+/// The same with no limit on the length of the text: [`DataError::DataTooLong`] is not answered.
+pub fn read_long(alloc: Global, text: &[u8]) -> Result<Datum, DataError>
+    ensures ok { IfOk result (λ d. answer_long text.now ≡ Ok (data_of (tree_of d))) }
+    ensures made { IfOk result (λ d. IsDatum (tree_of d)) }
+    ensures err { IfErr result (λ e. e ≢ DataError.Memory → answer_long text.now ≡ Err e) }
+{
+    let value = json_of(alloc, text)?;
+    let datum = datum_of(alloc, &value)?;
+    if datum_size(&datum).depth > MAX_DEPTH {
+        return Err(DataError::TooDeep);
+    }
+    Ok(datum)
+}
+
+// The value that the bytes are.
+fn json_of(alloc: Global, text: &[u8]) -> Result<Value, DataError>
+    ensures ok { IfOk result (λ v. value_of text.now ≡ Some (view v)) }
+    ensures err { IfErr result (λ e. e ≢ DataError.Memory
+        → (e ≡ DataError.Syntax) × (value_of text.now ≡ None)) }
+{
+    match Value::from_slice(alloc, text) {
+        Ok(value) => Ok(value),
+        Err(e) if e.is_memory() => Err(DataError::Memory),
+        Err(_) => Err(DataError::Syntax),
+    }
+}
 
 // The datum that a value of `serde_json` is.
 #[cycle(convert)]
