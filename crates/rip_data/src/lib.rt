@@ -3,6 +3,7 @@
 
 mod datum;
 mod error;
+mod laws;
 mod number;
 mod read;
 mod size;
@@ -10,6 +11,7 @@ mod write;
 
 pub use datum::{Datum, DatumFields, DatumList};
 pub use error::DataError;
+pub use laws::{text_is_injective, written_is_read, written_is_read_long};
 pub use read::{MAX_DEPTH, MAX_LENGTH, read_datum, read_long};
 pub use size::{DatumSize, datum_size};
 pub use write::write_datum;

@@ -1,4 +1,4 @@
-ghost use Rattle.std.specs.Prelude.{◌≡◌, ◌++◌, IfOk, OnOk};
+ghost use Rattle.std.specs.Prelude.{◌≡◌, ◌++◌, IfOk, OnOk, IsUtf8};
 ghost use Rattle.rip_data.specs.Datum.{tree_of, canonical_text};
 ghost use Rattle.rip_data.specs.Written.{tokens_of, element_tokens, field_tokens};
 
@@ -11,7 +11,8 @@ use std::alloc::{AllocError, Global};
 ///
 /// It takes time in proportion to the text, and calls itself once for each level of nesting.
 pub fn write_datum(d: &Datum, alloc: Global) -> Result<Bytes, NoMemory>
-    ensures { IfOk result (λ bytes. bytes ≡ canonical_text (tree_of d.now)) }
+    ensures text { IfOk result (λ bytes. bytes ≡ canonical_text (tree_of d.now)) }
+    ensures utf8 { IfOk result (λ bytes. IsUtf8 bytes) }
 {
     let mut out = Writer::new(Vec::with_capacity(alloc, 128)?);
     write_value(d, &mut out, alloc)?;
