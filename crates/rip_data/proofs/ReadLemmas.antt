@@ -1,5 +1,5 @@
 -- What is answered for bytes, step by step.
-use Rattle.std.proofs.Common.{◌≡◌, ◌≢◌, ℕ, ◌<◌, ◌≤◌, pos, negsuc, List, length, Bool, true, false, ◌&&◌, cond, nat_le, Option, Some, None, Result, Ok, Err, refl, sym, ap, ap₂, ◌∙◌, arith, lt-ltb, le-leb, IsUtf8}
+use Rattle.std.proofs.Common.{◌≡◌, ℕ, ◌<◌, ◌≤◌, pos, negsuc, List, length, Bool, true, false, ◌&&◌, cond, nat_le, Option, Some, None, Ok, Err, refl, ap, ap₂, ◌∙◌, arith, lt-ltb, le-leb, IsUtf8}
 use Rattle.std.specs.Option.{option_or}
 use Rattle.std.specs.Str.{is_utf8}
 use Rattle.std.proofs.lemmas.Bool.{lt-leb}

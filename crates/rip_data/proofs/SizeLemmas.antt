@@ -1,17 +1,17 @@
 -- The bytes that a text takes, and those of elements and fields.
-use Rattle.std.proofs.Common.{◌≡◌, ℕ, zero, suc, ◌+◌, ◌<◌, ◌≤◌, ◌≢◌, ◌==◌, true, false, cond, min, List, [], ◌∷◌, ◌++◌, length, get_or, drop, map, Some, None, Option, inl, inr, refl, sym, ap, ap₂, ◌∙◌, arith, append_assoc, append-nil, length-append}
+use Rattle.std.proofs.Common.{◌≡◌, ℕ, suc, ◌+◌, ◌<◌, ◌≤◌, ◌≢◌, ◌==◌, true, false, cond, min, List, [], ◌∷◌, ◌++◌, length, get_or, map, Some, None, Option, inl, inr, refl, sym, ap, ap₂, ◌∙◌, arith, append_assoc, append-nil, length-append}
 use Rattle.std.specs.Prelude.{unwrap_or}
 use Rattle.std.specs.Char.{len_utf8}
 use Rattle.std.specs.Str.{encode_utf8_all}
-use Rattle.std.specs.Char.Utf16.{utf16_chars, lone_unit_char, surrogate_pair_char}
+use Rattle.std.specs.Char.Utf16.{utf16_chars, surrogate_pair_char}
 use Rattle.std.proofs.str.Utf16.{lone_unit_char_low, lone_unit_char_high, lone_unit_char_surrogate, utf16_chars-nil, utf16_chars_lone, utf16_chars_pair}
 use Rattle.std.proofs.lemmas.Bool.{cases_lt, lt-ltb, le-ltb, ne_eqb}
 use Rattle.std.proofs.lemmas.Str.{encode_ascii, inside_one, length-encode}
 use lib.Utf8.{encode}
 use Rattle.json.specs.Print.{escape_byte, escape, quoted}
 use Rattle.json.proofs.Printed.Strings.{escape_byte_plain}
-use Rattle.serde_json.specs.Written.{compact_text, items_text, members_text}
-use Rattle.rip_data.specs.Datum.{tree_of, data_of, items_of, members_of, elements_of, fields_of, array, object, utf8_of, canonical_text}
+use Rattle.serde_json.specs.Written.{items_text, members_text}
+use Rattle.rip_data.specs.Datum.{tree_of, items_of, elements_of, fields_of, array, object, utf8_of, canonical_text}
 use Rattle.rip_data.specs.Written.{escaped_length, elements_length, fields_length, fields_data, IsPair}
 use Rattle.rip_data.specs.declared.datum.Datum.{Datum}
 

@@ -1,5 +1,5 @@
 -- The canonical text is read as the data that it was written for, so no two data have one text.
-use Rattle.std.proofs.Common.{◌≡◌, ◌≢◌, ℕ, suc, length, Result, Ok, Err, IfOk, IfErr, ◌+◌, ◌^◌, ◌<◌, ◌≤◌, max, pos, negsuc, List, [], ◌∷◌, ◌++◌, Option, Some, None, option_map, option_and_then, Less, Greater, refl, sym, ap, ap₂, ◌∙◌, subst, arith, append-nil}
+use Rattle.std.proofs.Common.{◌≡◌, ◌≢◌, ℕ, suc, length, Result, Ok, Err, IfOk, IfErr, ◌≤◌, max, pos, negsuc, List, [], Option, Some, option_map, option_and_then, Less, Greater, refl, sym, ap, ap₂, ◌∙◌, arith, append-nil}
 use Rattle.std.proofs.lemmas.Int.{ints}
 use Rattle.std.specs.Prelude.{⊤}
 use Rattle.std.specs.Ordering.{nat_cmp, ordering_reverse}
@@ -15,13 +15,13 @@ use Rattle.json.proofs.Printed.Tokens.{tokens-print}
 use Rattle.json.proofs.Printed.Trees.{value-json_tokens, ArePrintable-json_tokens}
 use Rattle.serde_json.specs.Data as value
 use Rattle.serde_json.specs.Data.{Data, Items, Members, no_members, member, put, depth, items_depth, members_depth}
-use Rattle.serde_json.specs.Read.{number_of, of_json, of_items, of_members, read}
-use Rattle.serde_json.specs.Written.{number_text, outline, items_outline, members_outline, compact_text}
+use Rattle.serde_json.specs.Read.{of_json, of_items, of_members, read}
+use Rattle.serde_json.specs.Written.{outline, items_outline, members_outline}
 use Rattle.serde_json.proofs.Numbers.{number_of-decimal, number_of-negative}
 use Rattle.serde_json.proofs.Texts.{print-outline}
-use Rattle.rip_values.specs.Text.{IsUtf16, IsSameText, encode_utf16_all}
+use Rattle.rip_values.specs.Text.{IsUtf16, encode_utf16_all}
 use Rattle.rip_values.proofs.TextLemmas.{IsSameText-units, IsSameText-chars}
-use Rattle.rip_data.specs.Datum.{Tree, tree_of, null, boolean, number, text, array, object, Elements, no_elements, element, Fields, no_fields, field, utf8_of, number_of_whole, data_of, items_of, members_of, canonical_text, nesting, IsBeforeAll, AreInOrder, IsDatum, AreData, HaveData}
+use Rattle.rip_data.specs.Datum.{Tree, tree_of, null, boolean, number, text, array, object, Elements, no_elements, element, Fields, no_fields, field, utf8_of, data_of, items_of, members_of, canonical_text, nesting, IsBeforeAll, AreInOrder, IsDatum, AreData, HaveData}
 use Rattle.rip_data.specs.Reading.{value_of, answer, answer_long}
 use Rattle.rip_data.specs.declared.datum.Datum.{Datum}
 use Rattle.rip_data.specs.declared.error.DataError.{DataError}

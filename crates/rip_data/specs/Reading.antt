@@ -1,5 +1,5 @@
 -- Which data is read of bytes, and which refusal is answered.
-use Rattle.std.specs.Prelude.{ℕ, ℤ, negsuc, Bool, true, false, ◌&&◌, nat_le, List, length, if◌then◌else◌, Option, Some, None, Result, Ok, Err}
+use Rattle.std.specs.Prelude.{ℕ, negsuc, Bool, true, false, ◌&&◌, nat_le, List, length, if◌then◌else◌, Option, Some, None, Result, Ok, Err}
 use Rattle.std.specs.Prelude.{int_lt}
 use Rattle.std.specs.Option.{option_or}
 use Rattle.std.specs.Str.{is_utf8}

@@ -81,7 +81,10 @@ fn fields_size(fields: &Vec<(Units, Datum)>) -> DatumSize
     for field in fields {
         let name = quoted_length(field.0.as_slice());
         let size = datum_size(&field.1);
-        length = length.saturating_add(name).saturating_add(size.length).saturating_add(2);
+        length = length
+            .saturating_add(name)
+            .saturating_add(size.length)
+            .saturating_add(2);
         depth = depth.max(size.depth);
     }
     DatumSize { length, depth }

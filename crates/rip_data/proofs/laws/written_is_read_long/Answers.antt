@@ -1,4 +1,4 @@
-use Rattle.std.proofs.Common.{◌≡◌, Ok, IsUtf8, sym, ap, ◌∙◌, subst}
+use Rattle.std.proofs.Common.{◌≡◌, Ok, IsUtf8, ap, ◌∙◌, subst}
 use Rattle.rip_data.specs.Datum.{tree_of, canonical_text, data_of}
 use Rattle.rip_data.specs.Reading.{answer_long}
 use Rattle.rip_data.proofs.TextLaws.{answer_long-canonical_text, same_answer, only_memory}

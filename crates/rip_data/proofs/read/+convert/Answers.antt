@@ -1,4 +1,4 @@
-use Rattle.std.proofs.Common.{◌≡◌, [], ◌∷◌, ◌++◌, ◌+◌, take, map, string_bytes, refl, ap₂, arith, sym, ap, ◌∙◌, subst, rules, append_assoc, append-nil}
+use Rattle.std.proofs.Common.{◌≡◌, [], ◌∷◌, ◌++◌, ◌+◌, take, map, string_bytes, ap₂, arith, sym, ap, ◌∙◌, subst, rules, append_assoc, append-nil}
 use Rattle.std.proofs.lemmas.Grind.{common_steps}
 use Rattle.std.proofs.lemmas.List.{map-append}
 use Rattle.std.proofs.lemmas.Result.{err_from_is_err_and}
@@ -7,12 +7,12 @@ use Rattle.serde_json.specs.View.{view, items_view, members_view}
 use Rattle.serde_json.specs.View as value
 use Rattle.serde_json.specs.declared.value.Value.{the_lemmas}
 use Rattle.serde_json.proofs.Views.{Entry, view-Array, view-Object}
-use Rattle.rip_data.specs.Datum.{tree_of, data_of, text, array, object, elements_of, fields_of, utf8_of, AreInOrder}
+use Rattle.rip_data.specs.Datum.{tree_of, data_of, text, array, elements_of, utf8_of, AreInOrder}
 use Rattle.rip_data.specs.Reading.{items_whole, members_whole}
-use Rattle.rip_data.specs.Written.{fields_data, AreElements, AreFields}
+use Rattle.rip_data.specs.Written.{AreElements, AreFields}
 use Rattle.rip_data.specs.declared.datum.Datum.{Datum, Text, List, Fields}
 use Rattle.rip_data.specs.declared.datum.Datum as datum
-use Rattle.rip_data.specs.declared.datum.Datum.TheViews.{roll-DatumList, roll-DatumFields}
+use Rattle.rip_data.specs.declared.datum.Datum.TheViews.{roll-DatumList}
 use Rattle.rip_data.proofs.DataLemmas.{tree_of-Fields, utf8_of-IsSameText, IsUtf16-IsSameText, items_of-elements, AreElements-push, items_whole-at, seen, shown, fields_data-members_view, AreFields-push, AreInOrder-members_view, members_whole-among}
 use Rattle.rip_data.proofs.read.+convert.Goals as goal
 

@@ -1,4 +1,4 @@
-use Rattle.std.proofs.Common.{◌≡◌, ◌+◌, ◌<◌, ◌≤◌, ◌∷◌, length, drop, get_or, true≢false, add-zero, get_or-drop, sym, ap, subst, ◌∙◌, arith}
+use Rattle.std.proofs.Common.{◌≡◌, ◌+◌, ◌<◌, ◌≤◌, ◌∷◌, drop, get_or, true≢false, add-zero, get_or-drop, sym, ap, subst, ◌∙◌, arith}
 use Rattle.std.proofs.lemmas.List.{drop_more, drop_all}
 use Rattle.rip_data.specs.Written.{escaped_length, IsPair}
 use Rattle.rip_data.proofs.SizeLemmas.{escaped_length-ascii, escaped_length-two, escaped_length-three, escaped_length-pair}
