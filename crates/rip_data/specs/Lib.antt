@@ -1,0 +1,4 @@
+pub mod Datum
+pub mod Laws
+pub mod Reading
+pub mod Written

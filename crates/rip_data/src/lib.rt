@@ -1,0 +1,31 @@
+//! JSON data: values whose numbers are whole, and the one text of each (RFC 8259).
+//!
+//! | what | its definition in `specs/` |
+//! |---|---|
+//! | [`Datum`] | `Datum.tree_of`, what it stands for; `Datum.IsDatum`, when it is well made |
+//! | [`write_datum`] | `Datum.canonical_text`, the compact text of `serde_json` |
+//! | [`datum_size`] | the length of that text and `Datum.nesting`, with no memory |
+//! | [`read_datum`], [`read_long`] | `Reading.answer`, `Reading.answer_long`: the data or the refusal of any bytes |
+//! | [`text_is_injective`] | `Laws.TextIsInjective` |
+//!
+//! A layer above may rest on this: what is read is well made, no two well-made data have one text, and what is written
+//! is read again as the same datum ([`written_is_read`]). Each call takes time in proportion to the text, and calls
+//! itself once for each level of nesting: at most 127 where it reads, and as deep as the datum that it is handed.
+#![tactic(auto)]
+
+mod datum;
+mod error;
+mod laws;
+mod number;
+mod read;
+mod size;
+#[cfg(test)]
+mod tests;
+mod write;
+
+pub use datum::{Datum, DatumFields, DatumList};
+pub use error::DataError;
+pub use laws::{text_is_injective, written_is_read, written_is_read_long};
+pub use read::{MAX_DEPTH, MAX_LENGTH, read_datum, read_long};
+pub use size::{DatumSize, datum_size};
+pub use write::write_datum;
