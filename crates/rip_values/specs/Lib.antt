@@ -1,1 +1,10 @@
+pub mod Blank
+pub mod Builtins
+pub mod FixedSearch
+pub mod FixedTexts
+pub mod Limits
+pub mod NumberScan
+pub mod Numbers
+pub mod Pool
+pub mod Text
 pub mod Whole

@@ -1,10 +1,48 @@
 //! Values: whole numbers, texts of 16-bit units, and the lists that contracts see as lists.
+//!
+//! The lowest crate. It has the values of the script language with the conversions between numbers and texts
+//! (ECMA-262 8, 9.3.1 and 9.8.1), texts in UTF-8 and UTF-16 (RFC 3629, RFC 2781), the pool in which the texts of a
+//! session stand, and the tables that every layer above speaks of: the fixed texts, the built-ins, the limits.
+//!
+//! | what | its definition in `specs/` |
+//! |---|---|
+//! | [`Whole`] | `Whole.IsWhole`; contracts see the whole number |
+//! | [`List`], [`Bytes`], [`Units`], [`NumberList`] | contracts see the list |
+//! | [`Units::from_utf8`], [`Units::to_utf8`] | `Text.IsSameText`, `Text.IsUtf16` |
+//! | [`is_white_space`], [`is_line_end`] | `Blank.white_space`, `Blank.line_ends` |
+//! | [`number_of_text`] | `Numbers.IsNumberOf`, of the text that `Blank.trimmed` leaves |
+//! | [`text_of_whole`] | std's `signed_decimal` |
+//! | [`FixedText`] | `FixedTexts.text_of`, its table, and `FixedTexts.fixed_span`, its places |
+//! | [`Builtin`] | `Builtins.number_of`, `Builtins.name_of`, `Builtins.home_of` |
+//! | [`Pool`] | contracts see `Pool.Texts`; a span stands for `Pool.text_at` |
+//! | [`Limits`] | `Limits.AreInRange` |
+//!
+//! A layer above may rest on this: a span stands for the same text for ever (`Pool.KeepsTexts`), charged texts take no
+//! memory, and what takes no allocator cannot fail for want of memory.
 #![tactic(auto)]
 
+mod blank;
+mod builtin;
+mod fixed;
+mod fixed_lookup;
+mod limits;
 mod list;
 mod memory;
+mod number;
+mod pool;
+#[cfg(test)]
+mod tests;
+mod text;
+mod value;
 mod whole;
 
+pub use blank::{is_line_end, is_white_space};
+pub use builtin::{BUILTINS, Builtin, BuiltinHome, FIRST_HEAP_OBJECT, FIRST_NODE};
+pub use fixed::{FIXED_TEXTS, FixedText};
+pub use limits::{LONGEST_INPUT, LONGEST_TEXT, Limits, MOST_REPLIES};
 pub use list::{Bytes, List, NumberList, Units};
 pub use memory::NoMemory;
+pub use number::{number_of_text, text_of_whole};
+pub use pool::Pool;
+pub use value::{Fault, Limit, Numeral, Refused, Span, TextError, Value};
 pub use whole::{MAX_WHOLE, Whole};

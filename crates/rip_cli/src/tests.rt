@@ -1,0 +1,186 @@
+use crate::{Status, ripley};
+use rip_outer::{FileList, MAX_FILE, MemoryFiles, MemorySink, NamedFile, NoClock, NoDoor, NoWords};
+use rip_values::{Bytes, List, NoMemory, NumberList};
+use std::alloc::Global;
+use std::test::Fail;
+
+const PAGE: &[u8] =
+    b"<html><head></head><body><script>\"use strict\";ripley.call(\"f\",[1],null);ripley.call(\"f\",[2],null);</script></body></html>";
+
+const OTHER_PAGE: &[u8] =
+    b"<html><head></head><body><script>\"use strict\";ripley.call(\"f\",[1.5],null);</script></body></html>";
+
+const APP: &[u8] = b"{\"version\":1,\"functions\":{},\"limits\":{}}\n";
+
+const OTHER_APP: &[u8] = b"{\"version\":2,\"functions\":{},\"limits\":{}}";
+
+const TRACE: &[u8] =
+    b"open 0\nsay 0 get\nsay 0 e 1 {\"batch\":1,\"items\":[[\"call\",1,\"f\",[1]],[\"call\",2,\"f\",[2]]]}\n";
+
+const FALSE_TRACE: &[u8] =
+    b"open 0\nsay 0 get\nsay 0 e 1 {\"batch\":1,\"items\":[[\"call\",1,\"f\",[1]],[\"call\",2,\"f\",[3]]]}";
+
+const OTHER_TRACE: &[u8] = b"open 0\nsay 0 get\nquiet\n";
+
+const USAGE: &str = "usage: ripley check|replay|serve|drive|generate\n";
+
+const OPENING: &str = "open 2 1 00000000-0000-4001-8000-000000000002 3 0\n";
+
+const LOG: &str = "open 2 1 00000000-0000-4001-8000-000000000002 3 0
+done 2 1 0 ok
+batch 3 1 1 [[\"call\",1,\"f\",[1]],[\"call\",2,\"f\",[2]]]
+serve 3 1 1 1 \"f\" [1] 0 {\"error\":\"unknown\"}
+serve 3 1 1 2 \"f\" [2] 0 {\"error\":\"unknown\"}
+done 3 1 1 ok
+end 4 0
+";
+
+const FALSE_LOG: &str = "open 2 1 00000000-0000-4001-8000-000000000002 3 0
+done 2 1 0 ok
+batch 3 1 1 [[\"call\",1,\"f\",[1]],[\"call\",2,\"f\",[3]]]
+serve 3 1 1 1 \"f\" [1] 0 {\"error\":\"unknown\"}
+done 3 1 1 mismatch 2 2 [\"f\",[3]] [\"f\",[2]]
+end 4 0
+";
+
+/// Files of these names and contents.
+fn files(alloc: Global, named: &[(&str, &[u8])]) -> Result<FileList, NoMemory> {
+    let mut files = Vec::new(alloc);
+    for (name, contents) in named {
+        files.push(NamedFile {
+            name: Bytes::from_slice(alloc, name.as_bytes())?,
+            contents: Bytes::from_slice(alloc, contents)?,
+        })?;
+    }
+    Ok(List::from_vec(files))
+}
+
+/// Runs these words over these files and a sink that fails at these calls; what was put comes with the status.
+fn run(
+    alloc: Global,
+    words: &[&str],
+    named: &[(&str, &[u8])],
+    failing_puts: &[u64],
+) -> Result<(Status, Bytes), NoMemory> {
+    let mut texts = Vec::new(alloc);
+    for word in words {
+        texts.push(String::from_str(alloc, word)?)?;
+    }
+    let mut files = MemoryFiles::make(alloc, &files(alloc, named)?, &NumberList::new(alloc))?;
+    let mut sink = MemorySink::make(alloc, &NumberList::from_slice(alloc, failing_puts)?)?;
+    let status = ripley(
+        alloc,
+        texts.as_slice(),
+        &mut files,
+        &mut NoDoor,
+        &mut NoClock,
+        &mut NoWords,
+        &mut sink,
+    );
+    Ok((status, Bytes::from_slice(alloc, sink.bytes())?))
+}
+
+#[test]
+fn answers_words_that_are_no_form(rt: HostRuntime) -> Result<(), Fail> {
+    let table: [&[&str]; 6] = [
+        &[],
+        &["replay"],
+        &["replay", "p", "a"],
+        &["replay", "p", "a", "t", "t"],
+        &["check", "p", "a", "t"],
+        &["Replay", "p", "a", "t"],
+    ];
+    for words in table {
+        let (status, put) = run(
+            rt.alloc(),
+            words,
+            &[("p", PAGE), ("a", APP), ("t", TRACE)],
+            &[],
+        )?;
+        assert_eq!(rt; status, Status::BadWords);
+        assert!(rt; put.as_slice() == USAGE.as_bytes());
+    }
+    let (status, put) = run(rt.alloc(), &[], &[], &[1])?;
+    assert_eq!(rt; status, Status::Outside);
+    assert!(rt; put.is_empty());
+    Ok(())
+}
+
+#[test]
+fn replays_a_trace(rt: HostRuntime) -> Result<(), Fail> {
+    let too_long = vec![in rt.alloc(); b'\n'; MAX_FILE + 1]?;
+    let table: [(&[u8], &[u8], &[u8], Status, &str); 10] = [
+        (PAGE, APP, TRACE, Status::Read, LOG),
+        (PAGE, APP, FALSE_TRACE, Status::Read, FALSE_LOG),
+        (
+            OTHER_PAGE,
+            OTHER_APP,
+            OTHER_TRACE,
+            Status::BadInput,
+            "refused page NotYet 0\n",
+        ),
+        (
+            PAGE,
+            OTHER_APP,
+            OTHER_TRACE,
+            Status::BadInput,
+            "refused app NotYet\n",
+        ),
+        (
+            PAGE,
+            APP,
+            OTHER_TRACE,
+            Status::BadInput,
+            "refused trace NotYet\n",
+        ),
+        (b"", APP, TRACE, Status::BadInput, "refused page NotYet 0\n"),
+        (PAGE, APP, b"", Status::BadInput, "refused trace NotYet\n"),
+        (
+            &too_long,
+            APP,
+            TRACE,
+            Status::BadInput,
+            "refused page NotYet 0\n",
+        ),
+        (
+            PAGE,
+            &too_long,
+            TRACE,
+            Status::BadInput,
+            "refused app NotYet\n",
+        ),
+        (
+            PAGE,
+            APP,
+            &too_long,
+            Status::BadInput,
+            "refused trace NotYet\n",
+        ),
+    ];
+    for (page, app, trace, expected, text) in table {
+        let named = [("p", page), ("a", app), ("t", trace)];
+        let (status, put) = run(rt.alloc(), &["replay", "p", "a", "t"], &named, &[])?;
+        assert_eq!(rt; status, expected, "{text}");
+        assert!(rt; put.as_slice() == text.as_bytes(), "{text}");
+    }
+    Ok(())
+}
+
+#[test]
+fn stops_where_the_outside_fails(rt: HostRuntime) -> Result<(), Fail> {
+    let named: [(&str, &[u8]); 3] = [("p", PAGE), ("a", APP), ("t", TRACE)];
+    let table: [&[&str]; 3] = [
+        &["replay", "none", "a", "t"],
+        &["replay", "p", "none", "t"],
+        &["replay", "p", "a", "none"],
+    ];
+    for words in table {
+        let (status, put) = run(rt.alloc(), words, &named, &[])?;
+        assert_eq!(rt; status, Status::Outside);
+        assert!(rt; put.is_empty());
+    }
+    let (status, put) = run(rt.alloc(), &["replay", "p", "a", "t"], &named, &[2])?;
+    assert_eq!(rt; status, Status::Outside);
+    assert!(rt; put.as_slice() == OPENING.as_bytes());
+    Ok(())
+}

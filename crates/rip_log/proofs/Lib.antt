@@ -1,0 +1,4 @@
+mod Lines
+mod Calls
+mod Endings
+mod Entries

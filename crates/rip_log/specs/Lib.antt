@@ -1,0 +1,5 @@
+pub mod Ending
+pub mod Entry
+pub mod Range
+pub mod History
+pub mod Turns

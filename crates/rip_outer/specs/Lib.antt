@@ -1,0 +1,6 @@
+pub mod Outside
+pub mod Reading
+pub mod Writing
+pub mod Connections
+pub mod Memory
+pub mod Pieces

@@ -1,0 +1,31 @@
+//! The outside: files, a sink, a door with its connections, a clock and random words.
+//!
+//! Whatever reaches outside the program stands behind one of five traits, [`Files`], [`Sink`], [`Door`], [`Clock`] and
+//! [`Words`]. A call answers `Failed` only where the count `faults` of its object rose in it. What an object holds or
+//! has told is an optional meaning: the forms in memory tell it, the real ones don't, and a clause that speaks of it
+//! holds of both. [`MemoryFiles`] and [`MemorySink`] are forms in memory; [`NoDoor`], [`NoClock`] and [`NoWords`] stand
+//! where a run asks nothing of the outside. [`lines`] gives the pieces of a text between line feeds.
+#![tactic(auto)]
+
+mod connections;
+mod listed;
+mod memory_files;
+mod memory_sink;
+mod moments;
+mod nothing;
+mod pieces;
+mod reading;
+#[cfg(test)]
+mod tests;
+mod text;
+mod writing;
+
+pub use connections::{Door, Knock, KnockList, Sent, TraceKnock};
+pub use memory_files::MemoryFiles;
+pub use memory_sink::MemorySink;
+pub use moments::{Clock, Words};
+pub use nothing::{NoClock, NoDoor, NoWords};
+pub use pieces::Lines;
+pub use reading::{FileList, Files, FilesError, MAX_FILE, NamedFile};
+pub use text::lines;
+pub use writing::{Sink, SinkError};

@@ -1,0 +1,43 @@
+use Rattle.std.specs.Prelude.{◌≡◌, ℕ, ◌+◌, ◌-◌, ◌^◌, ◌<◌, ◌≤◌, List, ◌++◌, length, take, slice_range}
+use Rattle.rip_values.specs.declared.value.Span.{Span}
+use Rattle.rip_values.specs.FixedTexts.{fixed_units}
+
+-- what a pool holds: the units of all its texts, one text after another, how many of them were charged, the most that
+-- may be charged, and the longest text that a run makes
+pub record Texts : Type 0 where
+  pub units : List ℕ
+  pub used : ℕ
+  pub limit : ℕ
+  pub text_limit : ℕ
+
+-- the text that a span stands for; past the end of the pool there is none of it
+abbrev pub text_at : Texts → Span → List ℕ
+text_at pool span = slice_range pool.units span.start (span.start + span.count)
+
+-- the span lies in the pool
+abbrev pub IsSpan : Texts → Span → Type 0
+IsSpan pool span = span.start + span.count ≤ length pool.units
+
+-- the span of a text that is put behind all others
+abbrev pub span_behind : Texts → List ℕ → Span
+span_behind pool text = record { start = length pool.units; count = length text }
+
+-- the pool with one text more behind all others, of which so many units are charged
+abbrev pub with_text : Texts → List ℕ → ℕ → Texts
+with_text pool text charge = record pool { units = pool.units ++ text; used = pool.used + charge }
+
+-- the texts of two spans, one behind the other
+abbrev pub joined : Texts → Span → Span → List ℕ
+joined pool first second = text_at pool first ++ text_at pool second
+
+-- each span that lay in the old pool stands for the same text in the new one
+abbrev pub KeepsTexts : Texts → Texts → Type 0
+KeepsTexts old new = (span : Span) → IsSpan old span → text_at new span ≡ text_at old span
+
+-- what each pool keeps: the fixed texts stand first, the limit is not passed, and all that may still be charged has
+-- room in memory and can be named by a span
+pub record IsPool (units : List ℕ) (used limit capacity : ℕ) : Type 0 where
+  pub begins : take 773 units ≡ fixed_units
+  pub within : used ≤ limit
+  pub room : length units + (limit - used) ≤ capacity
+  pub spans : length units + (limit - used) < 2 ^ 32

@@ -1,0 +1,209 @@
+ghost use Rattle.std.specs.Prelude.{◌≡◌, ◌↔◌, ℕ, ◌+◌, ◌-◌, ◌<◌, ◌≤◌, ◌++◌, [], length, OnOk, OnErr, IfOk, IfErr, IsErr, IfSome, IsNone, vec_len, vec_capacity, min};
+ghost use Rattle.std.specs.List.{flat_map};
+ghost use Rattle.rip_values.specs.Pool.{Texts, text_at, IsSpan, span_behind, with_text, joined, KeepsTexts};
+ghost use Rattle.rip_values.specs.FixedTexts.{text_of, fixed_span, fixed_units};
+ghost use Rattle.rip_values.specs.declared.fixed.FixedText.{FixedText};
+
+use crate::fixed::{FIXED_TEXTS, FixedText};
+use crate::memory::NoMemory;
+use crate::value::{Limit, Refused, Span};
+use std::alloc::Global;
+use std::marker::Model;
+
+/// Units that a pool has room for from the start beside its limit: the names of a usual program and page.
+const ROOM_FOR_NAMES: usize = 4_096;
+
+/// The texts of a session. Texts are only added, so that a span stands for the same text for ever.
+///
+/// The fixed texts stand in every pool. All that may still be charged has its room from the start, so that charged
+/// texts take no memory.
+#[derive(Debug, Drop)]
+pub struct Pool {
+    units: Vec<u16>,
+    used: u32,
+    limit: u32,
+    text_limit: u32,
+}
+
+impl Model for Pool {
+    ghost use Rattle.std.specs.Prelude.{vec_capacity};
+    ghost use Rattle.rip_values.specs.Pool.{Texts, IsPool};
+
+    ghost Value = { Texts };
+
+    ghost view = { λ p. record { units = p.units.items; used = p.used; limit = p.limit; text_limit = p.text_limit } };
+
+    ghost invariant = { λ p. IsPool p.units.items p.used p.limit (vec_capacity p.units) };
+}
+
+impl Pool {
+    /// A pool of the fixed texts alone, in which `limit` units can be charged. `text` is the longest text that a run
+    /// makes, in units.
+    pub fn make(alloc: Global, limit: u32, text: u32) -> Result<Pool, NoMemory>
+        ensures { IfOk result (λ pool. pool ≡ record { units = fixed_units; used = 0; limit = limit; text_limit = text }) }
+    {
+        let mut units = fixed_units(alloc)?;
+        if limit as usize > u32::MAX as usize - units.len() {
+            return Err(NoMemory);
+        }
+        units.reserve_exact(limit as usize + ROOM_FOR_NAMES)?;
+        Ok(Pool {
+            units,
+            used: 0,
+            limit,
+            text_limit: text,
+        })
+    }
+
+    /// The longest text that a run makes, in units.
+    pub fn text_limit(&self) -> u32
+        ensures { result ≡ self.now.text_limit }
+    {
+        self.text_limit
+    }
+
+    /// The units that may be charged.
+    pub fn limit(&self) -> u32
+        ensures { result ≡ self.now.limit }
+    {
+        self.limit
+    }
+
+    /// The units that were charged.
+    pub fn used(&self) -> u32
+        ensures { result ≡ self.now.used }
+    {
+        self.used
+    }
+
+    /// The text that the span stands for. Of a span past the end it is the part that is there.
+    pub fn get(&self, s: Span) -> &[u16]
+        ensures { result.now ≡ text_at self.now s }
+    {
+        let (start, end) = within(s, self.units.len());
+        &self.units[start..end]
+    }
+
+    /// The span of a fixed text, which is the same in every pool.
+    pub fn fixed(&self, text: &[u16]) -> Option<Span>
+        ensures span { result ≡ fixed_span text.now }
+        ensures stands { IfSome result (λ span. text_at self.now span ≡ text.now) }
+        ensures lies { IfSome result (IsSpan self.now) }
+        ensures none { IsNone result ↔ ((fixed : FixedText) → ¬ (text_of fixed ≡ text.now)) }
+    {
+        let _ = &self.units;
+        match FixedText::of(text) {
+            Some(fixed) => Some(fixed.span()),
+            None => None,
+        }
+    }
+
+    /// Adds a text at no charge: a name of the program or of the page, before the first script starts.
+    pub fn add_fixed(&mut self, alloc: Global, text: &[u16]) -> Result<Span, NoMemory>
+        ensures span { IfOk result (λ span. span ≡ span_behind self.old text.now) }
+        ensures added { OnOk result (self.new ≡ with_text self.old text.now 0) }
+        ensures stands { IfOk result (λ span. text_at self.new span ≡ text.now) }
+        ensures older { KeepsTexts self.old self.new }
+        ensures err { OnErr result (self.new ≡ self.old) }
+    {
+        let left = (self.limit - self.used) as usize;
+        let start = self.units.len();
+        if text.len() > u32::MAX as usize - start - left {
+            return Err(NoMemory);
+        }
+        self.units.reserve(text.len() + left)?;
+        self.units.extend_from_slice(text)?;
+        Ok(Span {
+            start: start as u32,
+            count: text.len() as u32,
+        })
+    }
+
+    /// Adds a text and charges its length. It takes no memory: its room was taken when the pool was made.
+    pub fn add(&mut self, alloc: Global, text: &[u16]) -> Result<Span, Refused>
+        ensures limit { (result ≡ Err (Refused.Limit Limit.Units)) ↔ (self.old.limit < self.old.used + length text.now) }
+        ensures only_limit { IfErr result (λ refused. refused ≡ Refused.Limit Limit.Units) }
+        ensures span { IfOk result (λ span. span ≡ span_behind self.old text.now) }
+        ensures added { OnOk result (self.new ≡ with_text self.old text.now (length text.now)) }
+        ensures stands { IfOk result (λ span. text_at self.new span ≡ text.now) }
+        ensures older { KeepsTexts self.old self.new }
+        ensures err { OnErr result (self.new ≡ self.old) }
+    {
+        if text.len() > (self.limit - self.used) as usize {
+            return Err(Refused::Limit(Limit::Units));
+        }
+        let span = Span {
+            start: self.units.len() as u32,
+            count: text.len() as u32,
+        };
+        self.units.extend_from_slice(text).unwrap();
+        self.used += span.count;
+        Ok(span)
+    }
+
+    /// Adds two texts of the pool joined to one, and charges its length. It takes no memory.
+    pub fn add_joined(&mut self, first: Span, second: Span) -> Result<Span, Limit>
+        ensures limit { IsErr result ↔ (self.old.limit < self.old.used + length (joined self.old first second)) }
+        ensures only_units { IfErr result (λ limit. limit ≡ Limit.Units) }
+        ensures span { IfOk result (λ span. span ≡ span_behind self.old (joined self.old first second)) }
+        ensures added { OnOk result (self.new ≡ with_text self.old (joined self.old first second) (length (joined self.old first second))) }
+        ensures stands { IfOk result (λ span. text_at self.new span ≡ joined self.old first second) }
+        ensures older { KeepsTexts self.old self.new }
+        ensures err { OnErr result (self.new ≡ self.old) }
+    {
+        let (first_start, first_end) = within(first, self.units.len());
+        let (second_start, second_end) = within(second, self.units.len());
+        let count = first_end - first_start + (second_end - second_start);
+        if count > (self.limit - self.used) as usize {
+            return Err(Limit::Units);
+        }
+        let span = Span {
+            start: self.units.len() as u32,
+            count: count as u32,
+        };
+        self.units
+            .extend_from_within(first_start..first_end)
+            .unwrap();
+        self.units
+            .extend_from_within(second_start..second_end)
+            .unwrap();
+        self.used += span.count;
+        Ok(span)
+    }
+}
+
+// The places from which and up to which the span lies within a pool of so many units.
+fn within(s: Span, length: usize) -> (usize, usize)
+    ensures start { result.0 ≡ min s.start result.1 }
+    ensures end { result.1 ≡ min (s.start + s.count) length }
+{
+    let end = (s.start as usize + s.count as usize).min(length);
+    ((s.start as usize).min(end), end)
+}
+
+// The units of all fixed texts, one after another.
+#[tactic(auto, unfolding(crate::specs::FixedTexts::fixed_units, crate::specs::FixedTexts::fixed_texts))]
+fn fixed_units(alloc: Global) -> Result<Vec<u16>, NoMemory>
+    ensures { IfOk result (λ units. units.items ≡ fixed_units) }
+{
+    units_of_all(alloc, &FIXED_TEXTS)
+}
+
+fn units_of_all(alloc: Global, texts: &[FixedText]) -> Result<Vec<u16>, NoMemory>
+    ensures { IfOk result (λ units. units.items ≡ flat_map text_of texts.now) }
+{
+    let mut units = Vec::new(alloc);
+    for fixed in texts {
+        push_ascii(&mut units, fixed.text())?;
+    }
+    Ok(units)
+}
+
+fn push_ascii(units: &mut Vec<u16>, text: &str) -> Result<(), NoMemory>
+    ensures { OnOk result (units.new.items ≡ units.old.items ++ text.now) }
+{
+    for byte in text.as_bytes() {
+        units.push(u16::from(*byte))?;
+    }
+    Ok(())
+}
