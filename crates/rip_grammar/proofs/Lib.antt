@@ -1,0 +1,4 @@
+pub mod Following
+pub mod Refusals
+pub mod Rows
+pub mod Spellings
