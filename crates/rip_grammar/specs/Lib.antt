@@ -5,4 +5,5 @@ pub mod Parsed
 pub mod Phrases
 pub mod Semicolons
 pub mod Shows
+pub mod View
 pub mod Words
