@@ -1,0 +1,5 @@
+pub mod Following
+pub mod Lookup
+pub mod Refusals
+pub mod Rows
+pub mod Spellings

@@ -1,0 +1,80 @@
+-- What the branches of rows are, read by number.
+use Rattle.std.proofs.Common.{◌≡◌, ℕ, zero, suc, ◌+◌, ◌-◌, ◌<◌, ◌≤◌, List, [], ◌∷◌, length, Option, Some, None, IfSome, get_or, refl, sym, subst, arith}
+use Rattle.std.specs.Prelude.{slice_range}
+use Rattle.rip_tree.specs.Branches.{Branch, node_of, child_at, child_of, AreBetween, ChildrenFollow}
+use Rattle.rip_tree.specs.Making.{branches_at, LieWithin}
+use Rattle.rip_tree.specs.declared.node.Row.{Row}
+
+-- the children of a branch are the range of its row
+pub child_of-branches_at : (links : List (Option ℕ)) (rows : List Row) (id place : ℕ) (row : Row) → id < length rows
+    → child_of (branches_at links rows) id place ≡ child_at (slice_range links (get_or rows id row).start (get_or rows id row).end) place
+child_of-branches_at links [] id place row h = absurd (omega arith)
+child_of-branches_at links (r ∷ rs) zero place row h = refl
+child_of-branches_at links (r ∷ rs) (suc id) place row h = child_of-branches_at links rs id place row (omega arith)
+
+-- past the last row there is no child
+pub child_of-none : (links : List (Option ℕ)) (rows : List Row) (id place : ℕ) → length rows ≤ id → child_of (branches_at links rows) id place ≡ None
+child_of-none links [] id place h = refl
+child_of-none links (r ∷ rs) zero place h = absurd (omega arith)
+child_of-none links (r ∷ rs) (suc id) place h = child_of-none links rs id place (omega arith)
+
+-- the node of a branch is that of its row
+pub node_of-branches_at : (links : List (Option ℕ)) (rows : List Row) (id : ℕ) (row : Row) → id < length rows
+    → node_of (branches_at links rows) id ≡ Some (get_or rows id row).node
+node_of-branches_at links [] id row h = absurd (omega arith)
+node_of-branches_at links (r ∷ rs) zero row h = refl
+node_of-branches_at links (r ∷ rs) (suc id) row h = node_of-branches_at links rs id row (omega arith)
+
+-- a child by its place in the list
+pub child_at-get : (cs : List (Option ℕ)) (place : ℕ) (child : Option ℕ) → place < length cs → child_at cs place ≡ get_or cs place child
+child_at-get [] place child h = absurd (omega arith)
+child_at-get (c ∷ cs) zero child h = refl
+child_at-get (c ∷ cs) (suc place) child h = child_at-get cs place child (omega arith)
+
+-- past the last child there is none
+pub child_at-none : (cs : List (Option ℕ)) (place : ℕ) → length cs ≤ place → child_at cs place ≡ None
+child_at-none [] place h = refl
+child_at-none (c ∷ cs) zero h = absurd (omega arith)
+child_at-none (c ∷ cs) (suc place) h = child_at-none cs place (omega arith)
+
+-- the range of a row lies in all children
+pub LieWithin-get : (count : ℕ) (rows : List Row) (id : ℕ) (row : Row) → LieWithin count rows → id < length rows
+    → ((get_or rows id row).start ≤ (get_or rows id row).end) × ((get_or rows id row).end ≤ count)
+LieWithin-get count [] id row within h = absurd (omega arith)
+LieWithin-get count (r ∷ rs) zero row within h = (within.0, within.1)
+LieWithin-get count (r ∷ rs) (suc id) row within h = LieWithin-get count rs id row within.2 (omega arith)
+
+-- a child that is there has a number between the two
+pub AreBetween-child : (low high : ℕ) (cs : List (Option ℕ)) (place at : ℕ) → AreBetween low high cs → at ≤ low → IfSome (child_at cs place) (λ c. (at < c) × (c < high))
+AreBetween-child low high [] place at between h = tt
+AreBetween-child low high (None ∷ cs) zero at between h = tt
+AreBetween-child low high (Some c ∷ cs) zero at between h =
+    let above : low < c = between.0 in (omega arith, between.1)
+AreBetween-child low high (None ∷ cs) (suc place) at between h = AreBetween-child low high cs place at between h
+AreBetween-child low high (Some c ∷ cs) (suc place) at between h = AreBetween-child low high cs place at between.2 h
+
+-- each child has a number above that of its parent
+pub ChildrenFollow-child : (total : ℕ) (bs : List Branch) (id place at : ℕ) → ChildrenFollow total bs → length bs ≤ total → at ≤ total - length bs + id
+    → IfSome (child_of bs id place) (λ c. (at < c) × (c < total))
+ChildrenFollow-child total [] id place at follow less h = tt
+ChildrenFollow-child total (b ∷ bs) zero place at follow less h = AreBetween-child (total - (length bs + 1)) total b.children place at follow.0 (omega arith)
+ChildrenFollow-child total (b ∷ bs) (suc id) place at follow less h = ChildrenFollow-child total bs id place at follow.1 (omega arith) (omega arith)
+
+-- the range of this row lies in all children
+pub LieWithin-row : (count : ℕ) (rows : List Row) (id : ℕ) (row : Row) → row ≡ get_or rows id row → LieWithin count rows → id < length rows
+    → (row.start ≤ row.end) × (row.end ≤ count)
+LieWithin-row count rows id row is within h =
+    subst (λ (r : Row). (r.start ≤ r.end) × (r.end ≤ count)) (sym is) (LieWithin-get count rows id row within h)
+
+-- the children of a branch are the range of this row
+pub child_of-row : (links : List (Option ℕ)) (rows : List Row) (id place : ℕ) (row : Row) → row ≡ get_or rows id row → id < length rows
+    → child_of (branches_at links rows) id place ≡ child_at (slice_range links row.start row.end) place
+child_of-row links rows id place row is h =
+    subst (λ (r : Row). child_of (branches_at links rows) id place ≡ child_at (slice_range links r.start r.end) place) (sym is)
+    (child_of-branches_at links rows id place row h)
+
+-- the node of a branch is that of this row
+pub node_of-row : (links : List (Option ℕ)) (rows : List Row) (id : ℕ) (row : Row) → row ≡ get_or rows id row → id < length rows
+    → node_of (branches_at links rows) id ≡ Some row.node
+node_of-row links rows id row is h =
+    subst (λ (r : Row). node_of (branches_at links rows) id ≡ Some r.node) (sym is) (node_of-branches_at links rows id row h)

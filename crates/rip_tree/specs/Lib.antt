@@ -1,0 +1,3 @@
+pub mod Branches
+pub mod Levels
+pub mod Making

@@ -1,0 +1,28 @@
+//! Numbered syntax trees of scripts: each node has a form of the grammar, a place in the text, and children.
+//!
+//! A [`Tree`] is what the parser shows of a script and what the layers above walk over: nodes are numbered from 0,
+//! the script itself, and a child's number is above its parent's. Reading is total. The forms are those of ECMA-262 11
+//! to 14 that the language has; parentheses and semicolons make no node. A [`TreeMaker`] makes a tree from the leaves
+//! up, in the order in which a parser ends its nodes.
+//!
+//! | what | its definition in `specs/` |
+//! |---|---|
+//! | [`Tree`], [`TreeMaker`] | contracts see `Branches.Plant` and `Making.Growth`: the branches and the units |
+//! | [`Tree::child`] | `Branches.child_of`, in the list of children |
+//! | [`Tree::units`] | `Branches.units_at` |
+//! | [`Form::is_level`], [`Form::is_charged`] | `Levels.level_of`, one line for each form |
+#![tactic(auto)]
+
+mod form;
+mod maker;
+mod node;
+mod operator;
+#[cfg(test)]
+mod tests;
+mod tree;
+
+pub use form::{Form, FunctionHead, Key, TextLiteral};
+pub use maker::TreeMaker;
+pub use node::{Node, Piece};
+pub use operator::{BinaryOperator, LogicalOperator, StepOperator, UnaryOperator};
+pub use tree::{Tree, Trees};

@@ -1,0 +1,92 @@
+use crate::{BinaryOperator, Form, Node, Piece, Tree, TreeMaker};
+use rip_values::Whole;
+use std::alloc::{AllocError, Global};
+use std::test::Fail;
+
+/// The script `a+=1`, whose tree has five nodes, and its units.
+const SCRIPT: [u16; 4] = [97, 43, 61, 49];
+
+/// Of each node of a tree, 1 where it is charged and 2 where it is a level alone.
+fn shape(alloc: Global, tree: &Tree) -> Result<Vec<u8>, AllocError> {
+    let mut kinds = Vec::new(alloc);
+    for id in 0..tree.count() {
+        let node = tree.node(id);
+        let form = node.form;
+        kinds.push(if form.is_charged() {
+            1
+        } else if form.is_level() {
+            2
+        } else {
+            3
+        })?;
+    }
+    Ok(kinds)
+}
+
+#[test]
+fn a_tree_is_made_and_read(rt: HostRuntime) -> Result<(), Fail> {
+    let name = Piece { start: 0, count: 1 };
+    let one = Whole::new(1).ok_or("one is whole")?;
+    let mut maker = TreeMaker::new(rt.alloc(), 5, &SCRIPT)?;
+    let value = maker.add_units(&[98, 99])?;
+    let target = maker.push(
+        Node {
+            place: 0,
+            form: Form::Name(name),
+        },
+        &[],
+    )?;
+    let number = maker.push(
+        Node {
+            place: 3,
+            form: Form::Number(one),
+        },
+        &[],
+    )?;
+    let sum = Node {
+        place: 0,
+        form: Form::Compound(BinaryOperator::Add),
+    };
+    let assigned = maker.push(sum, &[Some(target), Some(number)])?;
+    let statement = maker.push(
+        Node {
+            place: 0,
+            form: Form::Expression,
+        },
+        &[Some(assigned), None],
+    )?;
+    assert_eq!(rt; maker.next(), 0);
+    maker.push(
+        Node {
+            place: 0,
+            form: Form::Script,
+        },
+        &[None, Some(statement)],
+    )?;
+    let tree = maker.finish();
+    assert_eq!(rt; tree.count(), 5);
+    for (id, place, child) in [
+        (0, 0, None),
+        (0, 1, Some(1)),
+        (0, 2, None),
+        (1, 0, Some(2)),
+        (1, 1, None),
+        (2, 0, Some(4)),
+        (2, 1, Some(3)),
+        (3, 0, None),
+        (5, 0, None),
+    ] {
+        assert_eq!(rt; tree.child(id, place), child, "child {place} of {id}");
+    }
+    assert_eq!(rt; tree.units(name), [97].as_slice());
+    assert_eq!(rt; tree.units(value), [98, 99].as_slice());
+    assert_eq!(rt;
+        tree.units(Piece { start: 3, count: 9 }),
+        [49, 98, 99].as_slice()
+    );
+    assert_eq!(rt;
+        shape(rt.alloc(), &tree)?.as_slice(),
+        [2, 1, 1, 1, 1].as_slice()
+    );
+    Ok(())
+}
