@@ -1,4 +1,4 @@
-ghost use Rattle.std.specs.Prelude.{◌≤◌, length, IfOk};
+ghost use Rattle.std.specs.Prelude.{◌≡◌, ◌≤◌, length, IfOk};
 ghost use Rattle.rip_outer.specs.declared.reading.TheConstants.{MAX_FILE};
 
 use rip_outer::{Files, FilesError, MAX_FILE};
@@ -18,7 +18,10 @@ pub struct HostFiles<'a, R> {
 }
 
 impl<'a, R> HostFiles<'a, R> {
-    pub fn new(rt: &'a R) -> HostFiles<'a, R> {
+    /// Files of which no read has failed.
+    pub fn new(rt: &'a R) -> HostFiles<'a, R>
+        ensures { result.faults ≡ 0 }
+    {
         HostFiles { rt, faults: 0 }
     }
 }

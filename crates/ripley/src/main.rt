@@ -5,7 +5,7 @@ mod files;
 mod sink;
 
 use files::HostFiles;
-use rip_cli::ripley;
+use rip_cli::{Status, ripley};
 use rip_outer::{NoClock, NoDoor, NoWords};
 use sink::HostSink;
 use std::alloc::Global;
@@ -22,10 +22,16 @@ fn words(rt: &(impl Env + AllocGlobal), alloc: Global) -> io::Result<Vec<String>
     Ok(words)
 }
 
-/// Words that are no text are answered as other words are.
+/// Words that are no text are answered as other words are; want of memory for them ends the run.
 fn main(rt: HostRuntime) -> ExitCode {
     let alloc = rt.alloc();
-    let words = words(&rt, alloc).unwrap_or(Vec::new(alloc));
+    let words = match words(&rt, alloc) {
+        Ok(words) => words,
+        Err(error) if error.kind() == io::ErrorKind::OutOfMemory => {
+            return ExitCode::from(Status::NoMemory as u8);
+        }
+        Err(_) => Vec::new(alloc),
+    };
     let mut files = HostFiles::new(&rt);
     let mut sink = HostSink::new(io::writer(&rt));
     let status = ripley(

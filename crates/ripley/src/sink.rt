@@ -1,3 +1,5 @@
+ghost use Rattle.std.specs.Prelude.{◌≡◌};
+
 use rip_outer::{Sink, SinkError};
 use std::io::Write;
 
@@ -9,7 +11,10 @@ pub struct HostSink<W> {
 }
 
 impl<W> HostSink<W> {
-    pub fn new(writer: W) -> HostSink<W> {
+    /// A sink of which no put has failed.
+    pub fn new(writer: W) -> HostSink<W>
+        ensures { result.faults ≡ 0 }
+    {
         HostSink { writer, faults: 0 }
     }
 }
