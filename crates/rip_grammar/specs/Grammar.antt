@@ -1,5 +1,5 @@
 -- Which phrases the rules make (ECMA-262 11 to 14): one line for each form, with the rule's section.
-use Rattle.std.specs.Prelude.{◌≡◌, ◌==◌, ℕ, ◌+◌, ◌<◌, ◌≤◌, nat_le, Bool, true, false, not, ◌&&◌, ◌||◌, List, [], ◌∷◌}
+use Rattle.std.specs.Prelude.{◌≡◌, ◌==◌, ℕ, ◌+◌, ◌<◌, ◌≤◌, nat_le, Bool, true, false, not, ◌&&◌, ◌||◌, List, [], ◌∷◌, ◌++◌}
 use Rattle.rip_grammar.specs.declared.word.Word.{Word}
 use Rattle.rip_grammar.specs.declared.word.Word.TheVariants as W
 use Rattle.rip_grammar.specs.declared.word.Lexeme.{Lexeme}
@@ -224,3 +224,7 @@ pub record IsScript (lexemes : List Lexeme) (body : Phrase) : Type 0 where
   pub whole : lexemes ≡ spell body (end ∷ [])
   pub list : is_list is_element body ≡ true
   pub made : IsMade body (end ∷ [])
+
+-- some list of lexemes that begins with these is that of a script
+abbrev pub IsViable : List Lexeme → Type 0
+IsViable lexemes = (more : List Lexeme) × (body : Phrase) × IsScript (lexemes ++ more) body

@@ -1,4 +1,4 @@
-use rip_tree::{BinaryOperator, LogicalOperator, StepOperator, UnaryOperator};
+use rip_values::{BinaryOperator, LogicalOperator, StepOperator, UnaryOperator};
 
 /// What a token is to the grammar.
 #[derive(Clone, Copy, Debug, PartialEq, Eq)]

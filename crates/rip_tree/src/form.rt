@@ -2,8 +2,7 @@ ghost use Rattle.std.specs.Prelude.{◌↔◌, ◌≡◌, ◌≢◌, IsTrue};
 ghost use Rattle.rip_tree.specs.Levels.{Level, level_of};
 
 use crate::node::Piece;
-use crate::operator::{BinaryOperator, LogicalOperator, StepOperator, UnaryOperator};
-use rip_values::Whole;
+use rip_values::{BinaryOperator, LogicalOperator, StepOperator, UnaryOperator, Whole};
 
 /// A text literal (ECMA-262 7.8.4).
 #[derive(Clone, Copy, Debug, PartialEq, Eq)]

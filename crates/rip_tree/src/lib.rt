@@ -16,7 +16,6 @@
 mod form;
 mod maker;
 mod node;
-mod operator;
 #[cfg(test)]
 mod tests;
 mod tree;
@@ -24,5 +23,4 @@ mod tree;
 pub use form::{Form, FunctionHead, Key, TextLiteral};
 pub use maker::TreeMaker;
 pub use node::{Node, Piece};
-pub use operator::{BinaryOperator, LogicalOperator, StepOperator, UnaryOperator};
 pub use tree::{Tree, Trees};

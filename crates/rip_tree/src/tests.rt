@@ -1,5 +1,5 @@
-use crate::{BinaryOperator, Form, Node, Piece, Tree, TreeMaker};
-use rip_values::Whole;
+use crate::{Form, Node, Piece, Tree, TreeMaker};
+use rip_values::{BinaryOperator, Whole};
 use std::alloc::{AllocError, Global};
 use std::test::Fail;
 

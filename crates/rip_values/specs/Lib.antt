@@ -5,6 +5,7 @@ pub mod FixedTexts
 pub mod Limits
 pub mod NumberScan
 pub mod Numbers
+pub mod Page
 pub mod Pool
 pub mod Text
 pub mod Whole

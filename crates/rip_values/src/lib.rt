@@ -16,6 +16,7 @@
 //! | [`Builtin`] | `Builtins.number_of`, `Builtins.name_of`, `Builtins.home_of` |
 //! | [`Pool`] | contracts see `Pool.Texts`; a span stands for `Pool.text_at` |
 //! | [`Limits`] | `Limits.AreInRange` |
+//! | [`Page`] | contracts see `Page.Contents`: the nodes, and which hold the scripts |
 //!
 //! A layer above may rest on this: a span stands for the same text for ever (`Pool.KeepsTexts`), charged texts take no
 //! memory, and what takes no allocator cannot fail for want of memory.
@@ -29,6 +30,8 @@ mod limits;
 mod list;
 mod memory;
 mod number;
+mod operator;
+mod page;
 mod pool;
 #[cfg(test)]
 mod tests;
@@ -43,6 +46,8 @@ pub use limits::{LONGEST_INPUT, LONGEST_TEXT, Limits, MOST_REPLIES};
 pub use list::{Bytes, List, NumberList, Units};
 pub use memory::NoMemory;
 pub use number::{number_of_text, text_of_whole};
+pub use operator::{BinaryOperator, LogicalOperator, StepOperator, UnaryOperator};
+pub use page::{Attribute, NodeKind, Page, PageKind, PageNode, PairList};
 pub use pool::Pool;
 pub use value::{Fault, Limit, Numeral, Refused, Span, TextError, Value};
 pub use whole::{MAX_WHOLE, Whole};

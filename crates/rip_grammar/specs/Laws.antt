@@ -1,0 +1,38 @@
+-- What holds of all scripts: the machine takes each and nothing else, tells it once, and refuses a lexeme where no script
+-- goes on with it.
+use Rattle.std.specs.Prelude.{◌≡◌, List, [], ◌∷◌, ◌++◌, Some, None}
+use Rattle.rip_grammar.specs.declared.word.Lexeme.{Lexeme}
+use Rattle.rip_grammar.specs.declared.word.Word.TheVariants as W
+use Rattle.rip_grammar.specs.declared.event.Event.{Event}
+use Rattle.rip_grammar.specs.declared.frame.Frame.{Frame}
+use Rattle.rip_grammar.specs.declared.mode.Mode.{Mode}
+use Rattle.rip_grammar.specs.declared.mode.Mode.TheVariants as M
+use Rattle.rip_grammar.specs.Phrases.{Phrase}
+use Rattle.rip_grammar.specs.Grammar.{IsScript, IsViable}
+use Rattle.rip_grammar.specs.Events.{emit}
+use Rattle.rip_grammar.specs.States.{At}
+use Rattle.rip_grammar.specs.Machine.{go, begins}
+
+-- on the lexemes of a script, the machine ends with no open form, and has told what is told of the script's body
+abbrev pub EveryScriptIsTold : Type 0
+EveryScriptIsTold = (lexemes : List Lexeme) (body : Phrase) → IsScript lexemes body → go begins lexemes ≡ Some (At M.Done [] (emit body []))
+
+-- two bodies of one list of lexemes are told alike
+abbrev pub ScriptsAreToldOnce : Type 0
+ScriptsAreToldOnce = (lexemes : List Lexeme) (one other : Phrase) → IsScript lexemes one → IsScript lexemes other → emit one [] ≡ emit other []
+
+-- what the machine refuses begins no script
+abbrev pub RefusedBeginsNone : Type 0
+RefusedBeginsNone = (front rest : List Lexeme) (body : Phrase) → go begins front ≡ None → IsScript (front ++ rest) body → ⊥
+
+-- what the machine takes to its end is a script, and what it has told is what is told of the script's body
+abbrev pub TakenIsScript : Type 0
+TakenIsScript = (lexemes : List Lexeme) (st : List Frame) (out : List Event) → go begins lexemes ≡ Some (At M.Done st out) → (body : Phrase) × IsScript lexemes body × (out ≡ emit body [])
+
+-- what the machine has taken begins a script
+abbrev pub TakenBeginsOne : Type 0
+TakenBeginsOne = (front : List Lexeme) (mode : Mode) (st : List Frame) (out : List Event) → go begins front ≡ Some (At mode st out) → IsViable front
+
+-- behind the end the machine is done, or has refused it
+abbrev pub EndIsLast : Type 0
+EndIsLast = (front : List Lexeme) (t : Lexeme) (mode : Mode) (st : List Frame) (out : List Event) → t.word ≡ W.End → go begins (front ++ t ∷ []) ≡ Some (At mode st out) → mode ≡ M.Done

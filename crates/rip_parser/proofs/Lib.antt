@@ -1,0 +1,15 @@
+pub mod Readings
+pub mod Reducing
+pub mod Steps
+pub mod Shapes
+pub mod Following
+pub mod Seeking
+pub mod Kept
+pub mod Literals
+pub mod Lookup
+pub mod Made
+pub mod Numbers
+pub mod Parts
+pub mod Shown
+pub mod Spellings
+pub mod Told

@@ -1,0 +1,7 @@
+use Rattle.std.proofs.Common.{◌≡◌, Some, take}
+use Rattle.rip_grammar.specs.Machine.{begins, go}
+use Rattle.rip_grammar.specs.States.{At}
+use Rattle.rip_parser.proofs.run.run.Given as goal
+
+abbrev pub invariant-loop-lexeme : goal.invariant-loop-lexeme
+invariant-loop-lexeme l = go begins (take l.lexeme-index l.lexemes) ≡ Some (At l.machine.mode l.machine.stack l.machine.events)

@@ -1,0 +1,11 @@
+pub mod Building
+pub mod Endings
+pub mod Listed
+pub mod Parsed
+pub mod Printed
+pub mod Running
+pub mod Search
+pub mod Shows
+pub mod TooDeep
+pub mod View
+pub mod Words

@@ -1,0 +1,46 @@
+//! The parser of scripts (ECMA-262 11 to 14, and 7.9 on semicolons).
+//!
+//! [`parse`] answers the tree of a script, or the place of the first token with which no script goes on, or that the
+//! tree is deeper than 200 levels. A first pass gives each token its word. A machine then takes one word at a time and
+//! keeps the open forms on a stack of its own, so that no depth of a script is too deep for it; it tells of each node
+//! once its parts have been told, and a builder makes the tree of that, from its last node to its first. The layer above
+//! may rest on this: all derivations of a script show the tree that is answered, and a script that has one is refused for
+//! its depth or want of memory alone.
+//!
+//! | what | its definition in `specs/` |
+//! |---|---|
+//! | the words of the tokens of a script ([`lexemes`], [`word_of`]) | `Words.lexemes_of`, `Words.word_of`, by two tables |
+//! | the tree of a script ([`parse`]) | `Parsed.HasTree`: some body of it has a depth of at most 200 and shows the tree |
+//! | the bodies of a script | `Parsed.IsBody`, by the rules of the grammar's crate |
+//! | the tree that a phrase shows | `Shows.Shows`, one line for each form; `Shows.ShowsScript` |
+//! | why a script is refused ([`ParseRefusal`]) | `Parsed.IsRefused`, `Parsed.IsUnexpected` |
+//! | what is printed of a refusal | `Printed.refusal_text` |
+//!
+//! The files `Building`, `Listed`, `Running`, `Endings` and `View` of `specs/` say what the functions below [`parse`] do,
+//! and no public clause cites them.
+#![tactic(auto)]
+
+mod ascii;
+mod build;
+mod builder;
+mod continuations;
+mod deepest;
+mod error;
+mod forms;
+mod grammar;
+mod headers;
+mod literal;
+mod machine;
+mod operands;
+mod parser;
+mod part;
+mod reading;
+mod refusal;
+mod run;
+mod statements;
+#[cfg(test)]
+mod tests;
+
+pub use parser::parse;
+pub use reading::{lexemes, word_of};
+pub use refusal::{ParseKind, ParseRefusal};
