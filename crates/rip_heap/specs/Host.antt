@@ -1,0 +1,29 @@
+use Rattle.std.specs.Prelude.{◌≡◌}
+use Rattle.rip_heap.specs.declared.host.HostDone.{HostDone}
+use Rattle.rip_heap.specs.declared.host.HostDone.TheVariants.{Value, TypeFault, Dom, Fault, Limit, Memory}
+use Rattle.rip_heap.specs.Growth.{Grows, MakesNoFunction, Belongs}
+use Rattle.rip_heap.specs.World.{World}
+
+-- the call answers and leaves what it means; at want of memory nothing is said
+abbrev pub Gives : {S : Type 0} → HostDone × World × S → HostDone → World → S → Type 0
+Gives meant (Value v) w s = meant ≡ (Value v, w, s)
+Gives meant TypeFault w s = meant ≡ (TypeFault, w, s)
+Gives meant (Dom code) w s = meant ≡ (Dom code, w, s)
+Gives meant (Fault fault) w s = meant ≡ (Fault fault, w, s)
+Gives meant (Limit limit) w s = meant ≡ (Limit limit, w, s)
+Gives meant Memory w s = Unit {0}
+
+-- a value that is answered is of this world
+abbrev pub AnswerBelongs : World → HostDone → Type 0
+AnswerBelongs w (Value v) = Belongs w v
+AnswerBelongs w TypeFault = Unit {0}
+AnswerBelongs w (Dom code) = Unit {0}
+AnswerBelongs w (Fault fault) = Unit {0}
+AnswerBelongs w (Limit limit) = Unit {0}
+AnswerBelongs w Memory = Unit {0}
+
+-- what holds after each call of a host, whatever it answers
+pub record HostKeeps (old new : World) (answer : HostDone) : Type 0 where
+  pub grows : Grows old new
+  pub functions : MakesNoFunction old new
+  pub belongs : AnswerBelongs new answer

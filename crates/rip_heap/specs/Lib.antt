@@ -1,0 +1,12 @@
+pub mod Arrays
+pub mod Conversions
+pub mod Growth
+pub mod Host
+pub mod Lending
+pub mod Names
+pub mod Objects
+pub mod Scopes
+pub mod Sound
+pub mod Step
+pub mod Texts
+pub mod World

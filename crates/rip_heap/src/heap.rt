@@ -1,0 +1,107 @@
+ghost use Rattle.std.specs.Prelude.{◌≡◌, ◌≤◌, ◌+◌, ◌-◌, ◌↔◌, IsOk, IfOk, IfErr, length};
+ghost use Rattle.rip_heap.specs.Growth.{Grows};
+ghost use Rattle.rip_heap.specs.World.{empty_world, charging};
+ghost use Rattle.rip_heap.specs.Step.{Charges};
+
+use crate::limits::HeapLimits;
+use crate::stored::{StoredObject, StoredScope};
+use rip_values::{FIRST_HEAP_OBJECT, FIRST_NODE, Limit, NoMemory, Pool};
+use std::alloc::Global;
+use std::marker::Model;
+
+/// The heap of a session: the texts, objects and scopes that its script makes. Nothing is given back before the
+/// session ends.
+#[derive(Debug, Drop)]
+pub struct Heap {
+    pub(crate) limit: u32,
+    pub(crate) used: u32,
+    pub(crate) pool: Pool,
+    pub(crate) objects: Vec<StoredObject>,
+    pub(crate) scopes: Vec<StoredScope>,
+}
+
+impl Model for Heap {
+    ghost use Rattle.rip_heap.specs.World.{World};
+    ghost use Rattle.rip_heap.specs.Sound.{IsSound};
+
+    ghost Value = { World };
+
+    ghost view = { λ h. record {
+      limit = h.limit;
+      cells = h.used;
+      pool = h.pool;
+      objects = h.objects.items;
+      scopes = h.scopes.items;
+    } };
+
+    ghost invariant = { λ h. IsSound h.limit h.used h.objects.items h.scopes.items };
+}
+
+impl Heap {
+    /// A heap with the fixed texts alone. A limit past the numbers that objects can have is want of memory.
+    pub fn make(alloc: Global, limits: HeapLimits) -> Result<Heap, NoMemory>
+        ensures { IfOk result (λ heap. heap ≡ empty_world limits) }
+    {
+        if limits.cells > FIRST_NODE - FIRST_HEAP_OBJECT {
+            return Err(NoMemory);
+        }
+        let pool = Pool::make(alloc, limits.units, limits.text)?;
+        Ok(Heap {
+            limit: limits.cells,
+            used: 0,
+            pool,
+            objects: Vec::new(alloc),
+            scopes: Vec::new(alloc),
+        })
+    }
+
+    /// How many objects were made.
+    pub fn objects(&self) -> u32
+        ensures { result ≡ length self.now.objects }
+    {
+        self.objects.len() as u32
+    }
+
+    /// How many scopes were made.
+    pub fn scopes(&self) -> u32
+        ensures { result ≡ length self.now.scopes }
+    {
+        self.scopes.len() as u32
+    }
+
+    /// The cells that were charged.
+    pub fn used_cells(&self) -> u32
+        ensures { result ≡ self.now.cells }
+    {
+        self.used
+    }
+
+    /// The cells that may still be charged.
+    pub fn free_cells(&self) -> u32
+        ensures left { result ≡ self.now.limit - self.now.cells }
+        ensures within { self.now.cells ≤ self.now.limit }
+    {
+        self.limit - self.used
+    }
+
+    /// Charges cells for what the heap does not keep: arguments, listeners, made calls.
+    pub fn charge(&mut self, cells: u32) -> Result<(), Limit>
+        ensures made { Charges (charging cells self.old (λ w. w)) self.old result self.new }
+        ensures grows { Grows self.old self.new }
+    {
+        self.room_for(cells as usize)?;
+        self.used += cells;
+        Ok(())
+    }
+
+    // Whether so many cells more can be charged.
+    pub(crate) fn room_for(&self, cells: usize) -> Result<(), Limit>
+        ensures room { IsOk result ↔ (self.now.cells + cells ≤ self.now.limit) }
+        ensures only_cells { IfErr result (λ limit. limit ≡ Limit.Cells) }
+    {
+        if cells > (self.limit - self.used) as usize {
+            return Err(Limit::Cells);
+        }
+        Ok(())
+    }
+}

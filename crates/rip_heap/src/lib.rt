@@ -1,0 +1,54 @@
+//! The heap of a session: the world that a script sees and changes, and what it is charged for.
+//!
+//! Contracts see a heap as a world, which holds the objects, the scopes and the texts, each in the order of making
+//! (ECMA-262 5.1, sections 8 and 10.2). A world never changes: each call of [`Heap`] that changes a heap is one step
+//! that gives a new one, with its charge. A step that would pass a limit is none, and the heap stays as it was, as it
+//! does for want of memory. Values are converted by tables of sections 9 and 11.9.6.
+//!
+//! | what | its definition in `specs/` |
+//! |---|---|
+//! | [`Heap`] | contracts see `World.World`; `World.empty_world` is a new one |
+//! | the charge of each step | `World.charging`, and the table `World.cost_of_object` and those behind it |
+//! | [`Heap::new_object`], [`Heap::new_of`], [`Heap::new_function`] | `Objects.new_object`, `Objects.new_of`, `Objects.new_function` |
+//! | [`Heap::own`], [`Heap::find`], [`Heap::own_at`] | `Objects.own`, `Objects.find`, `Objects.own_at` |
+//! | [`Heap::put`], [`Heap::remove`] | `Objects.put`, `Objects.removed` |
+//! | arrays and scopes | `Arrays`, `Scopes` |
+//! | [`Heap::concat`], [`same_text`] | `Texts.concat`, `Names.same_text` |
+//! | what a call answers of its step | `Step.Makes`, `Step.Changes`, `Step.Charges` |
+//! | what every later world keeps of a world | `Growth.Grows` |
+//! | [`to_boolean`], [`to_number`], [`to_integer`], [`to_uint32`], [`to_int32`], [`to_text`], [`strictly_equal`] | `Conversions`, one table each |
+//! | [`Host`] | its own members; `Host.Gives` and `Host.HostKeeps` say what each call answers and keeps |
+//!
+//! A layer above may rest on this: each call is total, and a number that is none of this heap, or of another class, is
+//! a case of its definition; no object and no scope that was made is ever lost or renumbered; a prototype was made
+//! before its object, so that no chain of prototypes has a cycle.
+#![tactic(auto)]
+
+mod arrays;
+mod class;
+mod convert;
+mod heap;
+mod host;
+mod limits;
+mod names;
+mod objects;
+mod outcome;
+mod properties;
+mod property;
+mod room;
+mod scopes;
+mod stored;
+#[cfg(test)]
+mod tests;
+mod texts;
+
+pub use class::Class;
+pub use convert::{
+    strictly_equal, to_boolean, to_int32, to_integer, to_number, to_text, to_uint32,
+};
+pub use heap::Heap;
+pub use host::{EmptyHost, Host, HostDone};
+pub use limits::{HeapLimits, Used};
+pub use names::same_text;
+pub use outcome::{Halt, OpDone};
+pub use property::Property;

@@ -1,0 +1,91 @@
+ghost use Rattle.std.specs.Prelude.{◌≡◌, ◌<◌, IfOk, IfSome, length};
+ghost use Rattle.rip_heap.specs.Growth.{Grows};
+ghost use Rattle.rip_heap.specs.Scopes.{new_scope, kept_parent, parent_of, bindings_of, binding, with_binding};
+ghost use Rattle.rip_heap.specs.Step.{Makes};
+ghost use Rattle.rip_heap.specs.World.{scope_at, IsScope};
+
+use crate::heap::Heap;
+use crate::room::{push, set};
+use crate::stored::StoredScope;
+use rip_values::{Limit, Refused, Value};
+use std::alloc::Global;
+
+impl Heap {
+    /// A new scope with so many bindings, none of which has a value yet. A parent that is no scope of this heap counts
+    /// as none.
+    pub fn new_scope(
+        &mut self,
+        alloc: Global,
+        parent: Option<u32>,
+        names: u32,
+    ) -> Result<u32, Refused>
+        ensures made { Makes Limit.Cells (new_scope self.old parent names) self.old result self.new }
+        ensures stands { IfOk result (IsScope self.new) }
+        ensures grows { Grows self.old self.new }
+    {
+        self.room_for(names as usize + 1)?;
+        let number = self.scopes.len() as u32;
+        let parent = self.kept_parent(parent);
+        let scope = StoredScope::unbound(alloc, parent, names)?;
+        push(&mut self.scopes, scope)?;
+        self.used += names + 1;
+        Ok(number)
+    }
+
+    /// The value of the binding at this place; none where it has none yet, and where there is no such binding.
+    pub fn binding(&self, scope: u32, place: u32) -> Option<Value>
+        ensures { result ≡ binding self.now scope place }
+    {
+        match self.scopes.get(scope as usize) {
+            Some(found) => match found.bindings.get(place as usize) {
+                Some(value) => *value,
+                None => None,
+            },
+            None => None,
+        }
+    }
+
+    /// Gives the binding at this place the value. Where there is no such binding nothing is changed.
+    pub fn set_binding(&mut self, scope: u32, place: u32, v: Value)
+        ensures set { self.new ≡ with_binding self.old scope place v }
+        ensures grows { Grows self.old self.new }
+    {
+        if scope as usize >= self.scopes.len() {
+            return;
+        }
+        let target = &mut self.scopes[scope as usize];
+        set(&mut target.bindings, place as usize, Some(v));
+    }
+
+    /// The scope around the scope, which was made before it.
+    pub fn scope_parent(&self, scope: u32) -> Option<u32>
+        ensures value { result ≡ parent_of (scope_at self.now scope) }
+        ensures older { IfSome result (λ parent. (parent < scope) × IsScope self.now parent) }
+    {
+        match self.scopes.get(scope as usize) {
+            Some(found) => found.parent,
+            None => None,
+        }
+    }
+
+    /// How many bindings the scope has. What is no scope of this heap has none.
+    pub fn names(&self, scope: u32) -> u32
+        ensures { result ≡ length (bindings_of (scope_at self.now scope)) }
+    {
+        match self.scopes.get(scope as usize) {
+            Some(found) => found.bindings.len() as u32,
+            None => 0,
+        }
+    }
+
+    fn kept_parent(&self, parent: Option<u32>) -> Option<u32>
+        ensures { result ≡ kept_parent self.now parent }
+    {
+        let number = parent?;
+        if (number as usize) < self.scopes.len() {
+            Some(number)
+        } else {
+            None
+        }
+    }
+}

@@ -1,0 +1,54 @@
+ghost use Rattle.std.specs.Prelude.{◌≡◌, IfOk};
+ghost use Rattle.std.specs.Borrow.{sem};
+ghost use Rattle.std.specs.Fmt.{signed_decimal};
+ghost use Rattle.rip_heap.specs.Growth.{Grows};
+ghost use Rattle.rip_values.specs.Pool.{text_at, joined};
+ghost use Rattle.rip_heap.specs.Conversions.{text_made};
+ghost use Rattle.rip_heap.specs.Lending.{LendsPool};
+ghost use Rattle.rip_heap.specs.Step.{Makes, TakesNoMemory};
+ghost use Rattle.rip_heap.specs.Texts.{concat, new_text};
+
+use crate::heap::Heap;
+use crate::outcome::Halt;
+use rip_values::{Limit, Pool, Refused, Span, Whole, text_of_whole};
+use std::alloc::Global;
+
+impl Heap {
+    /// A new text: the two texts, one behind the other. It takes no memory.
+    pub fn concat(&mut self, alloc: Global, a: Span, b: Span) -> Result<Span, Refused>
+        ensures made { Makes Limit.Units (concat self.old a b) self.old result self.new }
+        ensures stands { IfOk result (λ span. text_at self.new.pool span ≡ joined self.old.pool a b) }
+        ensures room { TakesNoMemory result }
+        ensures grows { Grows self.old self.new }
+    {
+        Ok(self.pool.add_joined(a, b)?)
+    }
+
+    // A new text: the decimal numeral of the number (ECMA-262 9.8.1).
+    pub(crate) fn add_number(&mut self, alloc: Global, number: Whole) -> Result<Span, Halt>
+        ensures made { (result, self.new) ≡ text_made self.old (new_text self.old (signed_decimal number)) }
+        ensures grows { Grows self.old self.new }
+    {
+        let mut room = [0; 17];
+        let count = text_of_whole(number, &mut room);
+        match self.pool.add(alloc, &room[..count]) {
+            Ok(span) => Ok(span),
+            Err(_) => Err(Halt::Limit(Limit::Units)),
+        }
+    }
+
+    /// The texts of the heap.
+    pub fn pool(&self) -> &Pool
+        ensures { result.now ≡ self.now.pool }
+    {
+        &self.pool
+    }
+
+    /// The texts of the heap, to which more may be added. All else stays as it is.
+    pub fn pool_mut(&mut self) -> &mut Pool
+        ensures* writes_back { sem 𝓛 (LendsPool self.entry result) }
+        ensures value { result.now ≡ self.old.pool }
+    {
+        &mut self.pool
+    }
+}
