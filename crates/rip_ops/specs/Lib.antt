@@ -1,0 +1,9 @@
+pub mod Addition
+pub mod Arithmetic
+pub mod Equality
+pub mod Instances
+pub mod Members
+pub mod Numbers
+pub mod Operators
+pub mod Order
+pub mod Outcome

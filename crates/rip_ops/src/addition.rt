@@ -1,0 +1,147 @@
+ghost use Rattle.std.specs.Prelude.{◌≡◌, ◌++◌, length};
+ghost use Rattle.std.specs.Fmt.{signed_decimal};
+ghost use Rattle.rip_values.specs.Pool.{text_at, joined};
+ghost use Rattle.rip_values.specs.declared.value.Value.TheVariants.{Num, Text};
+ghost use Rattle.rip_ops.specs.Addition.{added, joining, judged, room_for};
+ghost use Rattle.rip_ops.specs.Numbers.{of_numbers};
+ghost use Rattle.rip_ops.specs.Outcome.{Answers};
+ghost use Rattle.rip_ops.specs.Arithmetic.{sum};
+
+use crate::arithmetic::sum;
+use crate::numbers::numbers_of;
+use crate::order::either_is_object;
+use crate::outcome::number_done;
+use rip_heap::{Halt, Heap, OpDone, to_text};
+use rip_values::{Fault, Limit, Numeral, Pool, Refused, Span, Value, Whole, text_of_whole};
+use std::alloc::Global;
+
+/// `+` (ECMA-262 11.6.1).
+pub fn added(alloc: Global, heap: &mut Heap, a: Value, b: Value) -> OpDone
+    ensures { Answers (added heap.old a b) heap.old result heap.new }
+{
+    if either_is_object(&a, &b) {
+        return OpDone::Fault(Fault::ObjectToPrimitive);
+    }
+    match a {
+        Value::Text(x) => text_and(alloc, heap, x, b),
+        _ => match b {
+            Value::Text(y) => and_text(alloc, heap, a, y),
+            _ => number_done(heap, sum_of(heap, a, b)),
+        },
+    }
+}
+
+fn sum_of(heap: &Heap, a: Value, b: Value) -> Result<Numeral, Fault>
+    ensures { result ≡ of_numbers heap.now.pool sum a b }
+{
+    match numbers_of(heap, a, b) {
+        Ok((x, y)) => sum(x, y),
+        Err(fault) => Err(fault),
+    }
+}
+
+fn text_and(alloc: Global, heap: &mut Heap, x: Span, b: Value) -> OpDone
+    ensures { Answers (joining heap.old (Text x) b) heap.old result heap.new }
+{
+    match b {
+        Value::Num(number) => text_and_numeral(alloc, heap, x, number),
+        _ => match to_text(alloc, heap, b) {
+            Ok(y) => join(alloc, heap, x, y),
+            Err(halt) => halt.into(),
+        },
+    }
+}
+
+fn and_text(alloc: Global, heap: &mut Heap, a: Value, y: Span) -> OpDone
+    ensures { Answers (joining heap.old a (Text y)) heap.old result heap.new }
+{
+    match a {
+        Value::Num(number) => numeral_and_text(alloc, heap, number, y),
+        _ => match to_text(alloc, heap, a) {
+            Ok(x) => join(alloc, heap, x, y),
+            Err(halt) => halt.into(),
+        },
+    }
+}
+
+// The two texts joined to a new one.
+fn join(alloc: Global, heap: &mut Heap, x: Span, y: Span) -> OpDone
+    ensures { Answers (judged heap.old (joined heap.old.pool x y)) heap.old result heap.new }
+{
+    let pool = heap.pool();
+    let length = pool.get(x).len() + pool.get(y).len();
+    if length > pool.text_limit() as usize {
+        return OpDone::Fault(Fault::TextTooLong);
+    }
+    match heap.concat(alloc, x, y) {
+        Ok(span) => OpDone::Value(Value::Text(span)),
+        Err(Refused::Limit(limit)) => OpDone::Limit(limit),
+        Err(Refused::Memory) => OpDone::Memory,
+    }
+}
+
+// A text with a number behind it. Nothing is made before all is judged.
+fn text_and_numeral(alloc: Global, heap: &mut Heap, x: Span, number: Whole) -> OpDone
+    ensures { Answers (joining heap.old (Text x) (Num number)) heap.old result heap.new }
+{
+    let text = held(heap.pool(), x);
+    match room_for(heap, number, text.count) {
+        Ok(()) => match to_text(alloc, heap, Value::Num(number)) {
+            Ok(numeral) => match heap.concat(alloc, text, numeral) {
+                Ok(span) => OpDone::Value(Value::Text(span)),
+                Err(_) => OpDone::Memory,
+            },
+            Err(_) => OpDone::Memory,
+        },
+        Err(halt) => halt.into(),
+    }
+}
+
+// A number with a text behind it.
+fn numeral_and_text(alloc: Global, heap: &mut Heap, number: Whole, y: Span) -> OpDone
+    ensures { Answers (joining heap.old (Num number) (Text y)) heap.old result heap.new }
+{
+    let text = held(heap.pool(), y);
+    match room_for(heap, number, text.count) {
+        Ok(()) => match to_text(alloc, heap, Value::Num(number)) {
+            Ok(numeral) => match heap.concat(alloc, numeral, text) {
+                Ok(span) => OpDone::Value(Value::Text(span)),
+                Err(_) => OpDone::Memory,
+            },
+            Err(_) => OpDone::Memory,
+        },
+        Err(halt) => halt.into(),
+    }
+}
+
+// Whether the number's numeral, and then it and a text of so many units joined, can be made.
+fn room_for(heap: &Heap, number: Whole, text: u32) -> Result<(), Halt>
+    ensures { result ≡ room_for heap.now (length (signed_decimal number)) text }
+{
+    let pool = heap.pool();
+    let mut room = [0; 17];
+    let numeral = text_of_whole(number, &mut room) as u64;
+    let used = u64::from(pool.used()) + numeral;
+    let joined = u64::from(text) + numeral;
+    if used > u64::from(pool.limit()) {
+        return Err(Halt::Limit(Limit::Units));
+    }
+    if joined > u64::from(pool.text_limit()) {
+        return Err(Halt::Fault(Fault::TextTooLong));
+    }
+    if used + joined > u64::from(pool.limit()) {
+        return Err(Halt::Limit(Limit::Units));
+    }
+    Ok(())
+}
+
+// The span of what there is of the text, which stands for the same text also when more texts are added.
+fn held(pool: &Pool, x: Span) -> Span
+    ensures start { result.start ≡ x.start }
+    ensures count { result.count ≡ length (text_at pool.now x) }
+{
+    Span {
+        start: x.start,
+        count: pool.get(x).len() as u32,
+    }
+}

@@ -1,0 +1,267 @@
+ghost use Rattle.std.specs.Prelude.{◌≡◌, ◌+◌, length, nat_eq, nat_le};
+ghost use Rattle.std.specs.Cmp.Lexicographic.{pointwise};
+ghost use Rattle.std.specs.Fmt.{signed_decimal};
+ghost use Rattle.rip_heap.specs.World.{object_at};
+ghost use Rattle.rip_ops.specs.Members.{contained, in_holder, in_plain, in_array, numeral_in_plain, number_in_array, not_in_profile, holder_of, look_up, is_barred, absent, is_underscored, is_of_object_prototype, is_named, is_index, index_of, index_if};
+ghost use Rattle.rip_ops.specs.Outcome.{Answers};
+
+use rip_heap::{Class, Heap, OpDone, same_text, to_number, to_text};
+use rip_values::{
+    FIRST_HEAP_OBJECT, Fault, FixedText, Limit, Numeral, Span, Value, Whole, text_of_whole,
+};
+use std::alloc::Global;
+
+/// Where a look-up of a name along prototypes ends.
+#[derive(Clone, Copy, Debug, PartialEq, Eq)]
+pub enum Found {
+    Here,
+    /// At an object on which every use of the name is outside the profile.
+    Barred,
+    Nowhere,
+}
+
+/// What an object is to `in`.
+#[derive(Clone, Copy, Debug, PartialEq, Eq)]
+pub enum Holder {
+    PlainObject,
+    ArrayObject,
+    OtherObject,
+}
+
+const UNDERSCORE: u16 = 0x5F;
+
+/// The greatest index of an array.
+const GREATEST_INDEX: i64 = 4_294_967_294;
+
+/// `in` (ECMA-262 11.8.7).
+pub fn contained(alloc: Global, heap: &mut Heap, a: Value, b: Value) -> OpDone
+    ensures { Answers (contained heap.old a b) heap.old result heap.new }
+{
+    match b {
+        Value::Object(number) => {
+            let holder = holder_of(heap, number);
+            in_holder(alloc, heap, holder, a, number)
+        }
+        _ => OpDone::TypeFault,
+    }
+}
+
+fn holder_of(heap: &Heap, number: u32) -> Holder
+    ensures { result ≡ holder_of (object_at heap.now number) }
+{
+    if number < FIRST_HEAP_OBJECT || number - FIRST_HEAP_OBJECT >= heap.objects() {
+        return Holder::OtherObject;
+    }
+    match heap.class(number) {
+        Class::Plain | Class::Prototype | Class::Code => Holder::PlainObject,
+        Class::Array => Holder::ArrayObject,
+        _ => Holder::OtherObject,
+    }
+}
+
+fn in_holder(alloc: Global, heap: &mut Heap, holder: Holder, a: Value, number: u32) -> OpDone
+    ensures { Answers (in_holder holder heap.old a number) heap.old result heap.new }
+{
+    match holder {
+        Holder::PlainObject => in_plain_object(alloc, heap, a, number),
+        Holder::ArrayObject => in_array_object(alloc, heap, a, number),
+        Holder::OtherObject => not_in_profile(heap, a),
+    }
+}
+
+// The fault, behind the conversion of the key.
+fn not_in_profile(heap: &Heap, a: Value) -> OpDone
+    ensures { Answers (not_in_profile heap.now a) heap.now result heap.now }
+{
+    match a {
+        Value::Object(_) => OpDone::Fault(Fault::ObjectToPrimitive),
+        Value::Num(number) => if has_room(heap, number) {
+            OpDone::Fault(Fault::NotInProfile)
+        } else {
+            OpDone::Limit(Limit::Units)
+        },
+        _ => OpDone::Fault(Fault::NotInProfile),
+    }
+}
+
+// Whether the number's numeral can be charged.
+fn has_room(heap: &Heap, number: Whole) -> bool
+    ensures { result ≡ nat_le (heap.now.pool.used + length (signed_decimal number)) heap.now.pool.limit }
+{
+    let mut room = [0; 17];
+    let numeral = text_of_whole(number, &mut room) as u64;
+    u64::from(heap.pool().used()) + numeral <= u64::from(heap.pool().limit())
+}
+
+fn in_plain_object(alloc: Global, heap: &mut Heap, a: Value, number: u32) -> OpDone
+    ensures { Answers (in_holder Holder.PlainObject heap.old a number) heap.old result heap.new }
+{
+    match a {
+        Value::Num(key) => numeral_in_plain(alloc, heap, key, number),
+        _ => match to_text(alloc, heap, a) {
+            Ok(name) => in_plain(heap, number, name),
+            Err(halt) => halt.into(),
+        },
+    }
+}
+
+fn numeral_in_plain(alloc: Global, heap: &mut Heap, key: Whole, number: u32) -> OpDone
+    ensures { Answers (numeral_in_plain heap.old key number) heap.old result heap.new }
+{
+    match to_text(alloc, heap, Value::Num(key)) {
+        Ok(name) => OpDone::Value(Value::Bool(heap.find(number, name).is_some())),
+        Err(halt) => halt.into(),
+    }
+}
+
+fn in_plain(heap: &Heap, number: u32, name: Span) -> OpDone
+    ensures { Answers (in_plain heap.now number name) heap.now result heap.now }
+{
+    if is_underscored(heap.pool().get(name)) {
+        return OpDone::Fault(Fault::NotInProfile);
+    }
+    match look_up(heap, number, name) {
+        Found::Here => OpDone::Value(Value::Bool(true)),
+        Found::Barred => OpDone::Fault(Fault::NotInProfile),
+        Found::Nowhere => absent(heap, name),
+    }
+}
+
+fn is_underscored(name: &[u16]) -> bool
+    ensures { result ≡ is_underscored name.now }
+{
+    match name {
+        [first, second, ..] => *first == UNDERSCORE && *second == UNDERSCORE,
+        _ => false,
+    }
+}
+
+// Where the look-up of the name ends, from the object on and along its prototypes.
+fn look_up(heap: &Heap, object: u32, name: Span) -> Found
+    ensures { result ≡ look_up heap.now object name }
+{
+    let mut at = Some(object);
+    while let Some(number) = at {
+        if is_barred(heap, name, heap.class(number)) {
+            return Found::Barred;
+        }
+        if heap.own(number, name).is_some() {
+            return Found::Here;
+        }
+        at = heap.proto(number);
+    }
+    Found::Nowhere
+}
+
+fn is_barred(heap: &Heap, name: Span, class: Class) -> bool
+    ensures { result ≡ is_barred heap.now.pool name class }
+{
+    match class {
+        Class::Code => is_named(heap, name, FixedText::Name)
+            || is_named(heap, name, FixedText::Message),
+        Class::Prototype => is_named(heap, name, FixedText::Constructor),
+        _ => false,
+    }
+}
+
+// The answer for a name that is found nowhere.
+fn absent(heap: &Heap, name: Span) -> OpDone
+    ensures { Answers (absent heap.now name) heap.now result heap.now }
+{
+    if is_named(heap, name, FixedText::HasOwnProperty) {
+        OpDone::Value(Value::Bool(true))
+    } else if is_of_object_prototype(heap, name) {
+        OpDone::Fault(Fault::NotInProfile)
+    } else {
+        OpDone::Value(Value::Bool(false))
+    }
+}
+
+fn is_of_object_prototype(heap: &Heap, name: Span) -> bool
+    ensures { result ≡ is_of_object_prototype heap.now.pool name }
+{
+    is_named(heap, name, FixedText::Constructor)
+        || is_named(heap, name, FixedText::ToString)
+        || is_named(heap, name, FixedText::ToLocaleString)
+        || is_named(heap, name, FixedText::ValueOf)
+        || is_named(heap, name, FixedText::IsPrototypeOf)
+        || is_named(heap, name, FixedText::PropertyIsEnumerable)
+}
+
+fn is_named(heap: &Heap, name: Span, fixed: FixedText) -> bool
+    ensures { result ≡ is_named heap.now.pool name fixed }
+{
+    same_text(heap.pool(), name, fixed.span())
+}
+
+fn in_array_object(alloc: Global, heap: &mut Heap, a: Value, number: u32) -> OpDone
+    ensures { Answers (in_holder Holder.ArrayObject heap.old a number) heap.old result heap.new }
+{
+    match a {
+        Value::Num(key) => number_in_array(heap, key, number),
+        _ => match to_text(alloc, heap, a) {
+            Ok(name) => in_array(heap, number, name),
+            Err(halt) => halt.into(),
+        },
+    }
+}
+
+fn number_in_array(heap: &Heap, key: Whole, number: u32) -> OpDone
+    ensures { Answers (number_in_array heap.now key number) heap.now result heap.now }
+{
+    if is_index(key.get()) {
+        OpDone::Value(Value::Bool(key.get() < i64::from(heap.count(number))))
+    } else {
+        not_in_profile(heap, Value::Num(key))
+    }
+}
+
+fn is_index(key: i64) -> bool
+    ensures { result ≡ is_index key }
+{
+    0 <= key && key <= GREATEST_INDEX
+}
+
+fn in_array(heap: &Heap, number: u32, name: Span) -> OpDone
+    ensures { Answers (in_array heap.now number name) heap.now result heap.now }
+{
+    match index_of(heap, name) {
+        Some(index) => OpDone::Value(Value::Bool(index < heap.count(number))),
+        None => if is_named(heap, name, FixedText::Length) {
+            OpDone::Value(Value::Bool(true))
+        } else {
+            OpDone::Fault(Fault::NotInProfile)
+        },
+    }
+}
+
+// The index whose decimal numeral the name is.
+fn index_of(heap: &Heap, name: Span) -> Option<u32>
+    ensures { result ≡ index_of heap.now.pool name }
+{
+    match to_number(heap, Value::Text(name)) {
+        Ok(number) => index_if(heap.pool().get(name), number),
+        Err(_) => None,
+    }
+}
+
+fn index_if(name: &[u16], number: Numeral) -> Option<u32>
+    ensures { result ≡ index_if name.now (Ok number) }
+{
+    match number {
+        Numeral::Num(whole) => if is_index(whole.get()) && is_numeral(name, whole) {
+            Some(whole.get() as u32)
+        } else {
+            None
+        },
+        Numeral::NaN => None,
+    }
+}
+
+fn is_numeral(name: &[u16], number: Whole) -> bool
+    ensures { result ≡ pointwise nat_eq name.now (signed_decimal number) }
+{
+    let mut room = [0; 17];
+    let count = text_of_whole(number, &mut room);
+    name == &room[..count]
+}
