@@ -9,13 +9,13 @@ use Rattle.rip_tree.specs.declared.node.Node.{Node}
 use Rattle.rip_tree.specs.declared.node.Row.{Row}
 
 -- a range of the front of a list
-slice_range-append : (xs ys : List (Option ℕ)) (from to : ℕ) → from ≤ to → to ≤ length xs → slice_range (xs ++ ys) from to ≡ slice_range xs from to
+pub slice_range-append : (xs ys : List (Option ℕ)) (from to : ℕ) → from ≤ to → to ≤ length xs → slice_range (xs ++ ys) from to ≡ slice_range xs from to
 slice_range-append xs ys from to order h =
     ap (take (to - from)) (drop-append-le from xs ys (omega arith))
     ∙ take-append-le (to - from) (drop from xs) ys (omega (arith, length-drop from xs))
 
 -- the range of what was put behind a list
-slice_range-behind : (xs ys : List (Option ℕ)) → slice_range (xs ++ ys) (length xs) (length (xs ++ ys)) ≡ ys
+pub slice_range-behind : (xs ys : List (Option ℕ)) → slice_range (xs ++ ys) (length xs) (length (xs ++ ys)) ≡ ys
 slice_range-behind xs ys =
     let rest : length (xs ++ ys) - length xs ≡ length ys = omega (arith, length-append xs ys) in
     ap (take (length (xs ++ ys) - length xs)) (drop-append_seam xs ys) ∙ ap (λ n. take n ys) rest ∙ take-length ys
@@ -40,7 +40,7 @@ branches_at-row_behind node links more rows within =
     ap (λ cs. with_children cs ∷ branches_at (links ++ more) rows) (slice_range-behind links more)
     ∙ ap (λ bs. with_children more ∷ bs) (branches_at-append links more rows within)
 
-LieWithin-more : (count more : ℕ) (rows : List Row) → count ≤ more → LieWithin count rows → LieWithin more rows
+pub LieWithin-more : (count more : ℕ) (rows : List Row) → count ≤ more → LieWithin count rows → LieWithin more rows
 LieWithin-more count more [] h within = tt
 LieWithin-more count more (r ∷ rs) h within =
     let inside : r.end ≤ count = within.1 in (within.0, omega arith, LieWithin-more count more rs h within.2)

@@ -1,8 +1,9 @@
 -- What the branches of rows are, read by number.
 use Rattle.std.proofs.Common.{◌≡◌, ℕ, zero, suc, ◌+◌, ◌-◌, ◌<◌, ◌≤◌, List, [], ◌∷◌, length, Option, Some, None, IfSome, get_or, refl, sym, subst, arith}
 use Rattle.std.specs.Prelude.{slice_range}
-use Rattle.rip_tree.specs.Branches.{Branch, node_of, child_at, child_of, AreBetween, ChildrenFollow}
-use Rattle.rip_tree.specs.Making.{branches_at, LieWithin}
+use Rattle.rip_tree.specs.Branches.{Branch, node_of, links_of, child_at, child_of, AreBetween, ChildrenFollow}
+use Rattle.std.proofs.lemmas.List.{length-map}
+use Rattle.rip_tree.specs.Making.{branch_at, branches_at, LieWithin}
 use Rattle.rip_tree.specs.declared.node.Row.{Row}
 
 -- the children of a branch are the range of its row
@@ -78,3 +79,31 @@ pub node_of-row : (links : List (Option ℕ)) (rows : List Row) (id : ℕ) (row 
     → node_of (branches_at links rows) id ≡ Some row.node
 node_of-row links rows id row is h =
     subst (λ (r : Row). node_of (branches_at links rows) id ≡ Some r.node) (sym is) (node_of-branches_at links rows id row h)
+
+-- past the last row there is no node
+pub node_of-none : (links : List (Option ℕ)) (rows : List Row) (id : ℕ) → length rows ≤ id → node_of (branches_at links rows) id ≡ None
+node_of-none links [] id h = refl
+node_of-none links (r ∷ rs) zero h = absurd (omega arith)
+node_of-none links (r ∷ rs) (suc id) h = node_of-none links rs id (omega arith)
+
+-- the children of a branch, all of them, are the range of its row
+pub links_of-branches_at : (links : List (Option ℕ)) (rows : List Row) (id : ℕ) (row : Row) → id < length rows
+    → links_of (branches_at links rows) id ≡ slice_range links (get_or rows id row).start (get_or rows id row).end
+links_of-branches_at links [] id row h = absurd (omega arith)
+links_of-branches_at links (r ∷ rs) zero row h = refl
+links_of-branches_at links (r ∷ rs) (suc id) row h = links_of-branches_at links rs id row (omega arith)
+
+pub links_of-row : (links : List (Option ℕ)) (rows : List Row) (id : ℕ) (row : Row) → row ≡ get_or rows id row → id < length rows
+    → links_of (branches_at links rows) id ≡ slice_range links row.start row.end
+links_of-row links rows id row is h =
+    subst (λ (r : Row). links_of (branches_at links rows) id ≡ slice_range links r.start r.end) (sym is) (links_of-branches_at links rows id row h)
+
+-- past the last row there are no children
+pub links_of-none : (links : List (Option ℕ)) (rows : List Row) (id : ℕ) → length rows ≤ id → links_of (branches_at links rows) id ≡ []
+links_of-none links [] id h = refl
+links_of-none links (r ∷ rs) zero h = absurd (omega arith)
+links_of-none links (r ∷ rs) (suc id) h = links_of-none links rs id (omega arith)
+
+-- the fact about children, at the number of branches
+pub ChildrenFollow-all : (links : List (Option ℕ)) (rows : List Row) → ChildrenFollow (length rows) (branches_at links rows) → ChildrenFollow (length (branches_at links rows)) (branches_at links rows)
+ChildrenFollow-all links rows follow = subst (λ n. ChildrenFollow n (branches_at links rows)) (sym (length-map rows (branch_at links))) follow

@@ -25,6 +25,12 @@ node_of [] id = None
 node_of (b ∷ bs) zero = Some b.node
 node_of (b ∷ bs) (suc id) = node_of bs id
 
+-- the children of the branch with this number, by place; past the last there are none
+abbrev pub links_of : List Branch → ℕ → List (Option ℕ)
+links_of [] id = []
+links_of (b ∷ bs) zero = b.children
+links_of (b ∷ bs) (suc id) = links_of bs id
+
 -- the child at this place of a list of children
 abbrev pub child_at : List (Option ℕ) → ℕ → Option ℕ
 child_at [] place = None

@@ -1,4 +1,4 @@
-use crate::{Form, Node, Piece, Tree, TreeMaker};
+use crate::{Form, Node, Piece, Program, Resolved, Scoping, Tree, TreeMaker};
 use rip_values::{BinaryOperator, Whole};
 use std::alloc::{AllocError, Global};
 use std::test::Fail;
@@ -88,5 +88,75 @@ fn a_tree_is_made_and_read(rt: HostRuntime) -> Result<(), Fail> {
         shape(rt.alloc(), &tree)?.as_slice(),
         [2, 1, 1, 1, 1].as_slice()
     );
+    Ok(())
+}
+
+/// The tree of a script that is one name: the script, a statement and the name.
+fn tree_of_name(alloc: Global, unit: u16) -> Result<Tree, Fail> {
+    let mut maker = TreeMaker::new(alloc, 3, &[unit])?;
+    let name = Form::Name(Piece { start: 0, count: 1 });
+    let read = maker.push(
+        Node {
+            place: 0,
+            form: name,
+        },
+        &[],
+    )?;
+    let statement = maker.push(
+        Node {
+            place: 0,
+            form: Form::Expression,
+        },
+        &[None, Some(read)],
+    )?;
+    let script = Node {
+        place: 0,
+        form: Form::Script,
+    };
+    maker.push(script, &[Some(statement)])?;
+    Ok(maker.finish())
+}
+
+/// What a program says of two scripts of one name each: of a node its child, and of a name its units.
+#[test]
+fn a_program_is_read(rt: HostRuntime) -> Result<(), Fail> {
+    let first = tree_of_name(rt.alloc(), 97)?;
+    let second = tree_of_name(rt.alloc(), 98)?;
+    let trees = vec![in rt.alloc(); first, second]?;
+    let mut scoping = Vec::new(rt.alloc());
+    for place in 0..6 {
+        scoping.push(Scoping {
+            names: place,
+            resolved: Some(Resolved::Global(place)),
+            is_own: place == 5,
+        })?;
+    }
+    let program = Program::new(rt.alloc(), &trees, 7, scoping)?;
+    assert_eq!(rt; program.count(), 6);
+    assert_eq!(rt; (program.scripts(), program.top_names()), (2, 7));
+    assert_eq!(rt;
+        (program.root(1), program.root(2), program.root(3)),
+        (0, 3, 0)
+    );
+    for (id, place, child) in [
+        (0, 0, Some(1)),
+        (1, 0, None),
+        (1, 1, Some(2)),
+        (3, 0, Some(4)),
+        (4, 1, Some(5)),
+        (5, 0, None),
+        (6, 0, None),
+    ] {
+        assert_eq!(rt; program.child(id, place), child, "child {place} of {id}");
+    }
+    let name = Piece { start: 1, count: 1 };
+    let node = program.node(5);
+    assert_eq!(rt; node.form, Form::Name(name));
+    assert!(rt; program.node_at(6).is_none());
+    assert_eq!(rt; program.units(name), [98].as_slice());
+    assert_eq!(rt; (program.names(5), program.names(6)), (5, 0));
+    assert_eq!(rt; program.resolved(5), Some(Resolved::Global(5)));
+    assert!(rt; program.resolved(6).is_none());
+    assert!(rt; program.is_own_name(5));
     Ok(())
 }

@@ -1,5 +1,5 @@
 ghost use Rattle.std.specs.Prelude.{◌≡◌, ◌<◌, ◌≤◌, length, slice_range, Some, IfSome};
-ghost use Rattle.rip_tree.specs.Branches.{child_at, child_of, node_of, units_at};
+ghost use Rattle.rip_tree.specs.Branches.{ChildrenFollow, child_at, child_of, links_of, node_of, units_at};
 
 use crate::node::{Node, Piece, Row, within};
 use rip_values::List;
@@ -29,9 +29,10 @@ impl Model for Tree {
 }
 
 impl Tree {
-    /// How many nodes the tree has.
+    /// How many nodes the tree has. A child has a number above that of its parent.
     pub fn count(&self) -> u32
-        ensures { result ≡ length self.now.branches }
+        ensures count { result ≡ length self.now.branches }
+        ensures follow { ChildrenFollow (length self.now.branches) self.now.branches }
     {
         self.rows.len() as u32
     }
@@ -58,6 +59,17 @@ impl Tree {
         child_in(children, place as usize)
     }
 
+    /// The numbers of the node's children, by place. Past the last node there are none.
+    pub fn children(&self, id: u32) -> &[Option<u32>]
+        ensures { result.now ≡ links_of self.now.branches id }
+    {
+        if id as usize >= self.rows.len() {
+            return &[];
+        }
+        let own = self.rows[id as usize];
+        range_of(self.links.as_slice(), own.start, own.end)
+    }
+
     /// The units that a piece of this tree stands for: of a name its spelling, of a text its value. Of a piece past the
     /// end it is the part that is there.
     pub fn units(&self, piece: Piece) -> &[u16]
@@ -69,7 +81,7 @@ impl Tree {
 }
 
 /// A range of the children of all nodes.
-fn range_of(links: &[Option<u32>], start: usize, end: usize) -> &[Option<u32>]
+pub(crate) fn range_of(links: &[Option<u32>], start: usize, end: usize) -> &[Option<u32>]
     requires order { start ≤ end }
     requires within { end ≤ length links.now }
     ensures { result.now ≡ slice_range links.now start end }
@@ -78,7 +90,7 @@ fn range_of(links: &[Option<u32>], start: usize, end: usize) -> &[Option<u32>]
 }
 
 /// The child at a place of a list of children.
-fn child_in(children: &[Option<u32>], place: usize) -> Option<u32>
+pub(crate) fn child_in(children: &[Option<u32>], place: usize) -> Option<u32>
     ensures { result ≡ child_at children.now place }
 {
     if place >= children.len() {

@@ -1,0 +1,16 @@
+-- What joined trees hold, and how they are kept.
+use Rattle.std.specs.Prelude.{◌^◌, ◌<◌, length}
+use Rattle.rip_tree.specs.Making.{branches_at, LieWithin}
+use Rattle.rip_tree.specs.Program.{Grove}
+use Rattle.rip_tree.specs.declared.joined.Joined.{Joined}
+
+-- what joined trees hold
+abbrev pub grove_of : Joined → Grove
+grove_of j = record { branches = branches_at j.links.items j.rows.items; units = j.units.items; roots = j.roots.items }
+
+-- what joined trees keep: the ranges lie in the children, and numbers and places fit 32 bits
+pub record IsJoined (j : Joined) : Type 0 where
+  pub within : LieWithin (length j.links.items) j.rows.items
+  pub numbered : length j.rows.items < 2 ^ 32
+  pub spanned : length j.units.items < 2 ^ 32
+  pub listed : length j.roots.items < 2 ^ 32

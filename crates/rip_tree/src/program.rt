@@ -1,0 +1,165 @@
+ghost use Rattle.std.specs.Prelude.{◌≡◌, ◌<◌, length, Some, IfOk};
+ghost use Rattle.rip_tree.specs.Branches.{child_of, node_of, units_at};
+ghost use Rattle.rip_tree.specs.Program.{joined, root_of, scoping_of};
+
+use crate::joined::Joined;
+use crate::node::{Node, Piece};
+use crate::tree::Tree;
+use rip_values::NoMemory;
+use std::alloc::Global;
+use std::marker::Model;
+
+/// What a name means where it stands (ECMA-262 10.2.2.1).
+#[derive(Clone, Copy, Debug, PartialEq, Eq)]
+pub enum Resolved {
+    /// A binding: how many scopes further out, and its place in that scope. The scope of a function expression's own
+    /// name counts as one.
+    Binding { up: u32, place: u32 },
+    /// A global, by its number.
+    Global(u32),
+}
+
+/// What the rules of scope say of a node.
+#[derive(Clone, Copy, Debug, PartialEq, Eq)]
+pub struct Scoping {
+    /// How many bindings the scope of a function or catch clause has; of other nodes 0.
+    pub names: u32,
+    /// What the name that the node reads or binds means; none where it reads and binds no name.
+    pub resolved: Option<Resolved>,
+    /// Whether that name is a function expression's own.
+    pub is_own: bool,
+}
+
+/// The program of a page: the nodes of all its scripts, numbered through in the order of the scripts, with what the
+/// rules of scope say of each. Reading is total, and takes the same time in every program.
+#[derive(Debug, Drop)]
+pub struct Program {
+    trees: Joined,
+    top_names: u32,
+    scoping: Vec<Scoping>,
+}
+
+impl Model for Program {
+    ghost use Rattle.rip_tree.specs.Program.{Code};
+    ghost use Rattle.rip_tree.specs.Joining.{grove_of, IsJoined};
+
+    ghost Value = { Code };
+
+    ghost view = { λ p. record { grove = grove_of p.trees; top_names = p.top_names; scoping = p.scoping.items } };
+
+    ghost invariant = { λ p. IsJoined p.trees };
+}
+
+impl Program {
+    /// The program of these trees, where the top scope has so many bindings and the rules of scope say this of each
+    /// node; of nodes past the last of which they speak they say nothing. Trees whose nodes or units 32 bits cannot count
+    /// are refused as want of memory.
+    pub fn new(
+        alloc: Global,
+        trees: &[Tree],
+        top_names: u32,
+        scoping: Vec<Scoping>,
+    ) -> Result<Program, NoMemory>
+        ensures { IfOk result (λ program. program ≡ record { grove = joined trees.now; top_names = top_names; scoping = scoping.items }) }
+    {
+        let trees = Joined::of(alloc, trees)?;
+        Ok(Program {
+            trees,
+            top_names,
+            scoping,
+        })
+    }
+
+    /// How many nodes the program has.
+    pub fn count(&self) -> u32
+        ensures { result ≡ length self.now.grove.branches }
+    {
+        self.trees.count()
+    }
+
+    /// The node with this number.
+    pub fn node(&self, id: u32) -> &Node
+        requires { id < length self.now.grove.branches }
+        ensures { node_of self.now.grove.branches id ≡ Some result.now }
+    {
+        self.trees.node(id)
+    }
+
+    /// The node with this number, or none past the last.
+    pub fn node_at(&self, id: u32) -> Option<Node>
+        ensures { result ≡ node_of self.now.grove.branches id }
+    {
+        self.trees.node_at(id)
+    }
+
+    /// The number of the node's child at this place, from 0, or none where it has no child there.
+    pub fn child(&self, id: u32, place: u32) -> Option<u32>
+        ensures { result ≡ child_of self.now.grove.branches id place }
+    {
+        self.trees.child(id, place)
+    }
+
+    /// The units that a piece of this program stands for. Of a piece past the end it is the part that is there.
+    pub fn units(&self, piece: Piece) -> &[u16]
+        ensures { result.now ≡ units_at self.now.grove.units piece }
+    {
+        self.trees.units(piece)
+    }
+
+    /// How many scripts the program has.
+    pub fn scripts(&self) -> u32
+        ensures { result ≡ length self.now.grove.roots }
+    {
+        self.trees.scripts()
+    }
+
+    /// The number of a script's root. Scripts are numbered from 1; past the last it is 0.
+    pub fn root(&self, script: u32) -> u32
+        ensures { result ≡ root_of self.now.grove script }
+    {
+        self.trees.root(script)
+    }
+
+    /// How many bindings the one top scope of all scripts has.
+    pub fn top_names(&self) -> u32
+        ensures { result ≡ self.now.top_names }
+    {
+        self.top_names
+    }
+
+    /// How many bindings the scope of this function or catch clause has; of another node it is 0.
+    pub fn names(&self, id: u32) -> u32
+        ensures { result ≡ (scoping_of self.now.scoping id).names }
+    {
+        scoping_at(self.scoping.as_slice(), id).names
+    }
+
+    /// What the name means that the node reads or binds; none where it reads and binds no name.
+    pub fn resolved(&self, id: u32) -> Option<Resolved>
+        ensures { result ≡ (scoping_of self.now.scoping id).resolved }
+    {
+        scoping_at(self.scoping.as_slice(), id).resolved
+    }
+
+    /// Whether the name that the node reads or binds is a function expression's own, which is never assigned
+    /// (ECMA-262 13).
+    pub fn is_own_name(&self, id: u32) -> bool
+        ensures { result ≡ (scoping_of self.now.scoping id).is_own }
+    {
+        scoping_at(self.scoping.as_slice(), id).is_own
+    }
+}
+
+/// What the rules of scope say of the node with this number.
+fn scoping_at(scoping: &[Scoping], id: u32) -> Scoping
+    ensures { result ≡ scoping_of scoping.now id }
+{
+    if id as usize >= scoping.len() {
+        return Scoping {
+            names: 0,
+            resolved: None,
+            is_own: false,
+        };
+    }
+    scoping[id as usize]
+}
