@@ -1,0 +1,10 @@
+pub mod Earliest
+pub mod Firsts
+pub mod Gathering
+pub mod Indexing
+pub mod Inner
+pub mod Making
+pub mod Parents
+pub mod Positions
+pub mod Repeating
+pub mod Surrounding

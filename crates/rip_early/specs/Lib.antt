@@ -1,0 +1,12 @@
+pub mod Around
+pub mod Contexts
+pub mod Gathered
+pub mod Indexed
+pub mod Laws
+pub mod Least
+pub mod Looking
+pub mod Mistakes
+pub mod Names
+pub mod Printed
+pub mod Program
+pub mod Scopes
