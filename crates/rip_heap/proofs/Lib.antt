@@ -1,2 +1,4 @@
 pub mod ConversionLemmas
 pub mod FindLemmas
+pub mod FixedLemmas
+pub mod PutLemmas

@@ -2,6 +2,7 @@ pub mod Arrays
 pub mod Conversions
 pub mod Growth
 pub mod Host
+pub mod Laws
 pub mod Lending
 pub mod Names
 pub mod Objects

@@ -1,5 +1,6 @@
 ghost use Rattle.std.specs.Prelude.{◌≡◌, ◌≤◌, ◌+◌, ◌-◌, ◌↔◌, IsOk, IfOk, IfErr, length};
 ghost use Rattle.rip_heap.specs.Growth.{Grows};
+ghost use Rattle.rip_heap.specs.Sound.{HaveOlderProtos};
 ghost use Rattle.rip_heap.specs.World.{empty_world, charging};
 ghost use Rattle.rip_heap.specs.Step.{Charges};
 
@@ -55,9 +56,10 @@ impl Heap {
         })
     }
 
-    /// How many objects were made.
+    /// How many objects were made. The prototype of each was made before it.
     pub fn objects(&self) -> u32
-        ensures { result ≡ length self.now.objects }
+        ensures count { result ≡ length self.now.objects }
+        ensures older { HaveOlderProtos self.now.objects }
     {
         self.objects.len() as u32
     }

@@ -19,6 +19,9 @@
 //! | [`to_boolean`], [`to_number`], [`to_integer`], [`to_uint32`], [`to_int32`], [`to_text`], [`strictly_equal`] | `Conversions`, one table each |
 //! | [`Host`] | its own members; `Host.Gives` and `Host.HostKeeps` say what each call answers and keeps |
 //!
+//! Laws of worlds stand in `Laws`, each the contract of a function: what is put is read ([`puts_are_read`]) and changes no
+//! other property ([`puts_leave_others`]), and each fixed text stands at its span ([`fixed_texts_stand`]).
+//!
 //! A layer above may rest on this: each call is total, and a number that is none of this heap, or of another class, is
 //! a case of its definition; no object and no scope that was made is ever lost or renumbered; a prototype was made
 //! before its object, so that no chain of prototypes has a cycle.
@@ -29,6 +32,7 @@ mod class;
 mod convert;
 mod heap;
 mod host;
+mod laws;
 mod limits;
 mod names;
 mod objects;
@@ -48,6 +52,7 @@ pub use convert::{
 };
 pub use heap::Heap;
 pub use host::{EmptyHost, Host, HostDone};
+pub use laws::{fixed_texts_stand, puts_are_read, puts_leave_others};
 pub use limits::{HeapLimits, Used};
 pub use names::same_text;
 pub use outcome::{Halt, OpDone};

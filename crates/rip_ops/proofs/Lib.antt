@@ -1,3 +1,4 @@
 pub mod JoiningLemmas
+pub mod AlongLemmas
 pub mod LookUpLemmas
 pub mod QuotientLemmas

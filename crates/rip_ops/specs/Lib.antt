@@ -2,6 +2,7 @@ pub mod Addition
 pub mod Arithmetic
 pub mod Equality
 pub mod Instances
+pub mod Laws
 pub mod Members
 pub mod Numbers
 pub mod Operators

@@ -20,6 +20,8 @@
 //! | `instanceof` ([`instance_of`]) | `Instances.instance_of` |
 //! | `in` ([`contained`]) | `Members.contained` |
 //!
+//! Laws of `instanceof` and `in` along prototypes stand in `Laws`, each the contract of a function.
+//!
 //! A layer above may rest on this: each call is total, a number that is no object of the heap included.
 #![tactic(auto)]
 
@@ -27,6 +29,7 @@ mod addition;
 mod arithmetic;
 mod equality;
 mod instances;
+mod laws;
 mod members;
 mod numbers;
 mod operators;
@@ -42,6 +45,7 @@ pub use arithmetic::{
 };
 pub use equality::{loosely_equal, loosely_unequal};
 pub use instances::instance_of;
+pub use laws::{instances_follow_prototypes, names_are_looked_up_along_prototypes};
 pub use members::contained;
 pub use numbers::numbers_of;
 pub use operators::{UnaryOp, binary, unary};

@@ -1,0 +1,26 @@
+-- Laws of worlds, in words that no step of a world uses.
+use Rattle.std.specs.Prelude.{◌≡◌, ℕ, false, Some}
+use Rattle.rip_values.specs.declared.value.Span.{Span}
+use Rattle.rip_values.specs.declared.value.Value.{Value}
+use Rattle.rip_values.specs.declared.fixed.FixedText.{FixedText}
+use Rattle.rip_values.specs.FixedTexts.{text_of}
+use Rattle.rip_values.specs.Pool.{text_at}
+use Rattle.rip_heap.specs.declared.limits.HeapLimits.{HeapLimits}
+use Rattle.rip_heap.specs.Conversions.{span_of}
+use Rattle.rip_heap.specs.Growth.{Grows}
+use Rattle.rip_heap.specs.Names.{same_text}
+use Rattle.rip_heap.specs.Objects.{own, put}
+use Rattle.rip_heap.specs.World.{World, IsObject, empty_world}
+
+-- what is put is read: after it the object's own property of this name has the value
+abbrev pub PutsAreRead : Type 0
+PutsAreRead = (w next : World) (n : ℕ) (name : Span) (v : Value) → IsObject w n → put w n name v ≡ Some next → own next n name ≡ Some v
+
+-- no other property changes: none of another object, and none of another name
+abbrev pub PutsLeaveOthers : Type 0
+PutsLeaveOthers = (w next : World) (n m : ℕ) (name other : Span) (v : Value)
+    → (m ≡ n → same_text w.pool name other ≡ false) → put w n name v ≡ Some next → own next m other ≡ own w m other
+
+-- in every world that came of an empty one each fixed text stands at its span
+abbrev pub FixedTextsStand : Type 0
+FixedTextsStand = (limits : HeapLimits) (w : World) (fixed : FixedText) → Grows (empty_world limits) w → text_at w.pool (span_of fixed) ≡ text_of fixed

@@ -1,0 +1,16 @@
+ghost use Rattle.rip_heap.specs.Laws.{PutsAreRead, PutsLeaveOthers, FixedTextsStand};
+
+/// What is put is read.
+pub fn puts_are_read()
+    ensures { PutsAreRead }
+{}
+
+/// What is put changes no other property.
+pub fn puts_leave_others()
+    ensures { PutsLeaveOthers }
+{}
+
+/// Each fixed text stands at its span in every world that came of an empty one.
+pub fn fixed_texts_stand()
+    ensures { FixedTextsStand }
+{}
