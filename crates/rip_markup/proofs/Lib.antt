@@ -1,0 +1,16 @@
+pub mod Adding
+pub mod Choice
+pub mod Classes
+pub mod Decoding
+pub mod Fronts
+pub mod Having
+pub mod Items
+pub mod Numbers
+pub mod Parts
+pub mod Runs
+pub mod Standing
+pub mod Tagging
+pub mod Tokenizing
+pub mod Turns
+pub mod Unique
+pub mod Within

@@ -1,0 +1,9 @@
+use Rattle.std.proofs.Common.{◌+◌, ◌≤◌, ◌∙◌, ◌==◌, ℕ, not, length, sym, ap, subst}
+use Rattle.std.specs.List.{prefix_len}
+use Rattle.rip_markup.proofs.Fronts.{doctype_form}
+use Rattle.rip_markup.proofs.reading.markup.Goals as goal
+
+pub returns-in-Doctype-clause-bound : goal.returns-in-Doctype-clause-bound
+returns-in-Doctype-clause-bound c =
+    let long = doctype_form c.args.text.now c.in-Doctype.ensures in
+    subst (λ n. n + 10 ≤ length c.args.text.now) (sym (c.count_to.ensures.value ∙ ap (λ u. prefix_len (λ (d : ℕ). not (d == 62)) u) c.split_at-in-Doctype.ensures.back)) long.1

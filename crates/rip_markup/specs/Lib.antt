@@ -1,0 +1,16 @@
+pub mod Attributes
+pub mod Ends
+pub mod Fault
+pub mod Forms
+pub mod Input
+pub mod Known
+pub mod Reads
+pub mod References
+pub mod Scans
+pub mod Steps
+pub mod Tags
+pub mod Texts
+pub mod Tokens
+pub mod Units
+pub mod Within
+pub mod Words
