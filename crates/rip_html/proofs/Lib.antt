@@ -1,0 +1,9 @@
+pub mod Accepting
+pub mod Bytes
+pub mod Choice
+pub mod Forming
+pub mod Lasting
+pub mod Numbering
+pub mod Paging
+pub mod Reaching
+pub mod Readings

@@ -1,0 +1,10 @@
+pub mod Building
+pub mod Forests
+pub mod Grammar
+pub mod Laws
+pub mod Nodes
+pub mod Pages
+pub mod Refusals
+pub mod Scripts
+pub mod Standings
+pub mod Tags
