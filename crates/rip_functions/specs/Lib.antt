@@ -1,0 +1,7 @@
+pub mod Apply
+pub mod Args
+pub mod Held
+pub mod Laws
+pub mod Operations
+pub mod Outcomes
+pub mod Places

@@ -1,0 +1,36 @@
+//! The functions of an application on its server, and the store in which they keep data.
+//!
+//! | what | its definition in `specs/` |
+//! |---|---|
+//! | [`Functions`] | each has a name, one of six operations, and a prefix of the places that it reaches |
+//! | [`Store`] | `Held.functions_of`, and `Held.stored_of`: places and data in the order of the places' bytes |
+//! | [`Store::apply`] | `Apply.apply`, by `Operations.operate`: one equation for each operation, its refusals in their order |
+//! | [`Refusal`] | `Apply.error`, the reply that tells it |
+//!
+//! A layer above may rest on this: what a call does and replies is a function of the functions, the store, the name
+//! and the args; a refusal leaves the store, and so does want of memory. A call takes time in proportion to what it
+//! touches (its args, the datum at its place, or the keys under its prefix) and to the logarithm of the keys.
+#![tactic(auto)]
+
+mod args;
+mod copy;
+mod failure;
+mod function;
+mod laws;
+mod operations;
+mod outcome;
+mod places;
+mod refusal;
+mod store;
+#[cfg(test)]
+mod tests;
+
+pub use function::{
+    Function, Functions, LONGEST_KEY, LONGEST_PREFIX, MOST_FUNCTIONS, MOST_KEYS, Operation,
+};
+pub use laws::{
+    arguments_are_not_of_the_form, kept_is_found, others_stay, put_is_got, refusal_leaves,
+    removed_is_absent, store_stays, taken_is_gone, unknown_is_no_function,
+};
+pub use refusal::Refusal;
+pub use store::{Replies, Store};

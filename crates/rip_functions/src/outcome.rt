@@ -1,0 +1,16 @@
+use rip_data::Datum;
+
+/// What a call does to a store.
+#[derive(Drop)]
+pub(crate) enum Write {
+    Nothing,
+    Keep(Vec<u8>, Datum),
+    Remove(Vec<u8>),
+}
+
+/// What a call gives that is not refused.
+#[derive(Drop)]
+pub(crate) struct Done {
+    pub write: Write,
+    pub reply: Datum,
+}
