@@ -1,0 +1,4 @@
+pub mod AnswerLemmas
+pub mod FunctionLemmas
+pub mod JsonLemmas
+pub mod LimitLemmas

@@ -1,0 +1,4 @@
+pub mod Functions
+pub mod Limits
+pub mod Manifest
+pub mod Names

@@ -1,0 +1,32 @@
+//! The manifest of an application: which functions its server has, and what a session may use.
+//!
+//! A manifest is JSON (RFC 8259) as `{"version":1,"functions":{..},"limits":{..}}` with exactly these members.
+//! A function is a member `NAME:[OP,PREFIX]`, a limit a member `LIMIT:NUMBER`; a limit that is not named has its default.
+//!
+//! | what | its definition in `specs/` |
+//! |---|---|
+//! | [`Manifest`] | contracts see `Manifest.Contents`: the functions and the limits |
+//! | [`read_manifest`] | `Manifest.ManifestOf`: which bytes are a manifest, and what it says |
+//! | why they are none ([`ManifestKind`], [`ManifestRefusal`]) | `Manifest.IsRefused`, a line for each, in order |
+//! | the functions | `Functions.AreFunctions`, by `Functions.Declares` and the table `Functions.word_of` |
+//! | the limits | `Limits.AreLimits`, by the tables `Limits.default` and `Limits.greatest`; `Limits.memory_of` |
+//! | names and prefixes | `Names.IsName`, `Names.IsPrefix` |
+//!
+//! A layer above may rest on this: for any bytes one answer alone stands, a manifest or the first cause of refusal; want
+//! of memory is the one refusal that no bytes cause; and the limits of a manifest are in range. A refusal is printed by
+//! the name of its kind.
+#![tactic(auto)]
+
+mod functions;
+mod limits;
+mod manifest;
+mod name;
+mod refusal;
+#[cfg(test)]
+mod tests;
+
+pub use functions::MOST_FUNCTIONS;
+pub use limits::MOST_MEMORY;
+pub use manifest::{Manifest, read_manifest};
+pub use name::MOST_LETTERS;
+pub use refusal::{ManifestKind, ManifestRefusal};
