@@ -1,2 +1,4 @@
 pub mod Statements
 pub mod Pages
+pub mod LoadLemmas
+pub mod ScriptLemmas

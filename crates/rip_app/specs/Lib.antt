@@ -1,2 +1,4 @@
+pub mod App
 pub mod Page
 pub mod Refusal
+pub mod Script

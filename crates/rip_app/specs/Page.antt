@@ -41,8 +41,8 @@ IsManifest bytes = IsTextOf bytes (codes "{\"version\":1,\"functions\":{},\"limi
 abbrev pub made_by : List Call → List (List ℕ)
 made_by calls = map call_text calls
 
--- an application: the calls that its page makes
-pub record IsApp (page manifest : List ℕ) (made : List (List ℕ)) : Type 0 where
+-- the calls that the page makes, beside the manifest
+pub record MakesCalls (page manifest : List ℕ) (made : List (List ℕ)) : Type 0 where
   pub calls : List Call
   pub page_is : IsPage page calls
   pub manifest_is : IsManifest manifest

@@ -1,106 +1,122 @@
-ghost use Rattle.std.specs.Prelude.{◌≡◌, IfOk, IsErrOf};
-ghost use Rattle.rip_app.specs.Page.{IsSomePage, IsManifest, IsApp, made_by};
+ghost use Rattle.std.specs.Prelude.{◌≡◌, IfErr, IfOk, length};
+ghost use Rattle.rip_values.specs.Limits.{AreInRange};
+ghost use Rattle.rip_html.specs.Pages.{PageOf};
+ghost use Rattle.rip_manifest.specs.Manifest.{ManifestOf};
+ghost use Rattle.rip_app.specs.App.{AppOf, IsAppRefusal};
+ghost use Rattle.rip_app.specs.Script.{RefusesManifest, RefusesPage};
 
-use crate::page::{is_manifest, read_page};
-use rip_values::{Bytes, List, NoMemory};
-use rip_wire::{Call, ReadError};
+use crate::refusal::AppRefusal;
+use crate::scripts::program_of;
+use rip_functions::Functions;
+use rip_html::read_page;
+use rip_manifest::{Manifest, read_manifest};
+use rip_tree::Program;
+use rip_values::{Bytes, Limits, Page};
 use std::alloc::Global;
-use std::error::Error;
-use std::fmt;
 use std::marker::Model;
 
-/// An application. Contracts see the canonical texts of the calls that its page makes, in order.
+/// An application: a page, the program of its scripts, and what its manifest says.
 #[derive(Debug, Drop)]
 pub struct App {
-    made: List<Bytes>,
+    page: Page,
+    bytes: Bytes,
+    program: Program,
+    manifest: Manifest,
 }
 
 impl Model for App {
-    ghost use Rattle.std.specs.Prelude.{List, ℕ};
+    ghost use Rattle.rip_app.specs.App.{Loaded};
 
-    ghost Value = { List (List ℕ) };
+    ghost Value = { Loaded };
 
-    ghost view = { λ a. a.made };
+    ghost view = { λ a. record { page = a.page; bytes = a.bytes; program = a.program; manifest = a.manifest } };
 }
 
 impl App {
-    /// The canonical texts of the calls that the page makes, in order.
-    pub fn made(&self) -> &[Bytes]
-        ensures { result.now ≡ self.now }
+    /// The page.
+    pub fn page(&self) -> &Page
+        ensures { result.now ≡ self.now.page }
     {
-        self.made.as_slice()
+        &self.page
+    }
+
+    /// The program of the page's scripts.
+    pub fn program(&self) -> &Program
+        ensures { result.now ≡ self.now.program }
+    {
+        &self.program
+    }
+
+    /// The functions that the manifest declares, in the order of their names.
+    pub fn functions(&self) -> &Functions
+        ensures { result.now ≡ self.now.manifest.functions }
+    {
+        self.manifest.functions()
+    }
+
+    /// The limits of each session.
+    pub fn limits(&self) -> &Limits
+        ensures value { result.now ≡ self.now.manifest.limits }
+        ensures in_range { AreInRange self.now.manifest.limits Limits.GREATEST }
+    {
+        self.manifest.limits()
+    }
+
+    /// The bytes of the page, as they were read.
+    pub fn bytes(&self) -> &[u8]
+        ensures { result.now ≡ self.now.bytes }
+    {
+        self.bytes.as_slice()
+    }
+
+    /// How many nodes the page has, the document included.
+    pub fn node_count(&self) -> u32
+        ensures { result ≡ length self.now.page.nodes }
+    {
+        self.page.count()
     }
 }
 
-/// Why an application is refused.
-#[derive(Clone, Copy, Debug, PartialEq, Eq)]
-pub enum AppRefusal {
-    /// The page is a spelling of no list of calls.
-    Page,
-    /// The page is one, and the manifest is not the manifest.
-    Manifest,
-    /// Want of memory.
-    Memory,
-}
-
-impl fmt::Display for AppRefusal {
-    fn fmt<W: fmt::Write>(&self, f: &mut fmt::Formatter<W>) -> fmt::Result {
-        match self {
-            AppRefusal::Page => f.write_str("the page is not of the form"),
-            AppRefusal::Manifest => f.write_str("the manifest is not of the form"),
-            AppRefusal::Memory => f.write_str("out of memory"),
-        }
-    }
-}
-
-impl Error for AppRefusal {}
-
-impl From<ReadError> for AppRefusal {
-    ghost use Rattle.rip_app.specs.Refusal.{page_refusal};
-
-    ghost from_gives = { λ e r. r ≡ page_refusal e };
-
-    fn from(error: ReadError) -> AppRefusal {
-        match error {
-            ReadError::Form => AppRefusal::Page,
-            ReadError::Memory => AppRefusal::Memory,
-        }
-    }
-}
-
-impl From<NoMemory> for AppRefusal {
-    ghost use Rattle.rip_app.specs.declared.app.AppRefusal.TheVariants.{Memory};
-
-    ghost from_gives = { λ _ r. r ≡ Memory };
-
-    fn from(_: NoMemory) -> AppRefusal {
-        AppRefusal::Memory
-    }
-}
-
-/// The canonical texts of these calls.
-fn texts_of(alloc: Global, calls: &[Call]) -> Result<List<Bytes>, NoMemory>
-    ensures { IfOk result (λ texts. texts ≡ made_by calls.now) }
-{
-    let mut texts = Vec::new(alloc);
-    for call in calls {
-        texts.push(call.text(alloc)?)?;
-    }
-    Ok(List::from_vec(texts))
-}
-
-/// The application of this page and this manifest.
+/// The application of this page and this manifest, or the first cause why they are none, in the order: the page, the
+/// tokens and the tree of each script, the early errors of all scripts, the manifest. A page of 2^32 bytes or more is want
+/// of memory, and so is a script of as many units.
 pub fn load(alloc: Global, page: &[u8], manifest: &[u8]) -> Result<App, AppRefusal>
-    ensures ok { IfOk result (λ app. IsApp page.now manifest.now app) }
-    ensures page { IsErrOf result AppRefusal.Page → ¬ (IsSomePage page.now) }
-    ensures page_first { IsErrOf result AppRefusal.Manifest → IsSomePage page.now }
-    ensures manifest { IsErrOf result AppRefusal.Manifest → ¬ (IsManifest manifest.now) }
+    ensures loaded { IfOk result (AppOf page.now manifest.now) }
+    ensures refused { IfErr result (IsAppRefusal page.now manifest.now) }
 {
-    let calls = read_page(alloc, page)?;
-    if !is_manifest(manifest) {
-        return Err(AppRefusal::Manifest);
-    }
+    let bytes = Bytes::from_slice(alloc, page)?;
+    let page = page_of(alloc, page)?;
+    let program = program_of(alloc, &page)?;
+    let manifest = manifest_of(alloc, manifest)?;
     Ok(App {
-        made: texts_of(alloc, calls.as_slice())?,
+        page,
+        bytes,
+        program,
+        manifest,
     })
+}
+
+/// The page that these bytes are.
+fn page_of(alloc: Global, bytes: &[u8]) -> Result<Page, AppRefusal>
+    ensures found { IfOk result (PageOf bytes.now) }
+    ensures refused { IfErr result (RefusesPage bytes.now) }
+{
+    if bytes.len() > u32::MAX as usize {
+        return Err(AppRefusal::Memory);
+    }
+    match read_page(alloc, bytes) {
+        Ok(page) => Ok(page),
+        Err(refusal) => Err(AppRefusal::of_page(refusal)),
+    }
+}
+
+/// The manifest that these bytes are.
+fn manifest_of(alloc: Global, bytes: &[u8]) -> Result<Manifest, AppRefusal>
+    ensures found { IfOk result (ManifestOf bytes.now) }
+    ensures refused { IfErr result (RefusesManifest bytes.now) }
+{
+    match read_manifest(alloc, bytes) {
+        Ok(manifest) => Ok(manifest),
+        Err(refusal) => Err(AppRefusal::of_manifest(refusal)),
+    }
 }

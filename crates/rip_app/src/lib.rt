@@ -1,13 +1,31 @@
 //! The application: a page and a manifest, and what they say.
 //!
-//! In this stage a page's script is a list of remote calls, and a page and a manifest have one spelling each, behind
-//! which one line feed may stand. An application is the list of the canonical texts of the calls that its page makes.
+//! [`load`] answers the application: its page, the program of the page's scripts, and what the manifest says, or the first
+//! cause why there is none. Beside it stands [`load_calls`], which reads a page whose script is a list of remote calls.
+//!
+//! | what | its definition in `specs/` |
+//! |---|---|
+//! | the trees of a page's scripts | `App.HaveTrees` |
+//! | [`load`] | `App.AppOf`, or `App.IsAppRefusal`: the first cause in the order of its lines |
+//! | [`load_calls`] | `Page.MakesCalls` |
+//!
+//! The file `Script` of `specs/` says what the functions below [`load`] do, and no public clause cites it.
 #![tactic(auto)]
 
 mod app;
+mod calls;
+#[cfg(test)]
+mod early_rows;
+#[cfg(test)]
+mod load_tests;
 mod page;
+mod refusal;
+mod script;
+mod scripts;
 #[cfg(test)]
 mod tests;
 
-pub use app::{App, AppRefusal, load};
+pub use app::{App, load};
+pub use calls::{Calls, CallsRefusal, load_calls};
 pub use page::{MAX_CALLS, pages_tell_apart};
+pub use refusal::AppRefusal;

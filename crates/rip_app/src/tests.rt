@@ -1,4 +1,4 @@
-use crate::{App, AppRefusal, load};
+use crate::{Calls, CallsRefusal, load_calls};
 use std::alloc::{AllocError, Global};
 use std::test::Fail;
 
@@ -22,8 +22,8 @@ fn full_page(alloc: Global, calls: u64) -> Result<String, AllocError> {
     page_of(alloc, script.as_str())
 }
 
-fn app_of(alloc: Global, page: &str, manifest: &str) -> Result<App, AppRefusal> {
-    load(alloc, page.as_bytes(), manifest.as_bytes())
+fn calls_of(alloc: Global, page: &str, manifest: &str) -> Result<Calls, CallsRefusal> {
+    load_calls(alloc, page.as_bytes(), manifest.as_bytes())
 }
 
 #[test]
@@ -33,8 +33,8 @@ fn made_calls_are_canonical_texts(rt: HostRuntime) -> Result<(), Fail> {
         alloc,
         "ripley.call(\"f\",[1],null);ripley.call(\"f\",[2],null);",
     )?;
-    let app = app_of(alloc, page.as_str(), MANIFEST)?;
-    let made = app.made();
+    let calls = calls_of(alloc, page.as_str(), MANIFEST)?;
+    let made = calls.made();
     assert_eq!(rt; made.len(), 2);
     assert_eq!(rt; made[0].as_slice(), b"[\"f\",[1]]".as_slice());
     assert_eq!(rt; made[1].as_slice(), b"[\"f\",[2]]".as_slice());
@@ -46,11 +46,11 @@ fn full_pages_are_read(rt: HostRuntime) -> Result<(), Fail> {
     let alloc = rt.alloc();
     for (calls, is_read) in [(0, true), (1, true), (64, true), (65, false)] {
         let page = full_page(alloc, calls)?;
-        let made = app_of(alloc, page.as_str(), MANIFEST).map(|app| app.made().len() as u64);
+        let made = calls_of(alloc, page.as_str(), MANIFEST).map(|calls| calls.made().len() as u64);
         if is_read {
             assert_eq!(rt; made, Ok(calls));
         } else {
-            assert_eq!(rt; made, Err(AppRefusal::Page));
+            assert_eq!(rt; made, Err(CallsRefusal::Page));
         }
     }
     Ok(())
@@ -80,8 +80,8 @@ fn other_scripts_are_refused(rt: HostRuntime) -> Result<(), Fail> {
         "var a=1;",
     ] {
         let page = page_of(alloc, script)?;
-        let made = app_of(alloc, page.as_str(), MANIFEST).map(|app| app.made().len());
-        assert_eq!(rt; made, Err(AppRefusal::Page), "{script}");
+        let made = calls_of(alloc, page.as_str(), MANIFEST).map(|calls| calls.made().len());
+        assert_eq!(rt; made, Err(CallsRefusal::Page), "{script}");
     }
     Ok(())
 }
@@ -91,65 +91,65 @@ fn other_pages_and_manifests_are_refused(rt: HostRuntime) -> Result<(), Fail> {
     let alloc = rt.alloc();
     let front = "<html><head></head><body><script>\"use strict\";";
     for (page, manifest, refusal) in [
-        ("", MANIFEST, AppRefusal::Page),
-        (front, MANIFEST, AppRefusal::Page),
+        ("", MANIFEST, CallsRefusal::Page),
+        (front, MANIFEST, CallsRefusal::Page),
         (
             "<html><head></head><body><script></script></body></html>",
             MANIFEST,
-            AppRefusal::Page,
+            CallsRefusal::Page,
         ),
         (
             "<html><body><script>\"use strict\";</script></body></html>",
             MANIFEST,
-            AppRefusal::Page,
+            CallsRefusal::Page,
         ),
         (
             "<html><head></head><body><script>\"use strict\";</script></body></html>\n\n",
             MANIFEST,
-            AppRefusal::Page,
+            CallsRefusal::Page,
         ),
         (
             "<html><head></head><body><script>\"use strict\";</script></body></html>\r\n",
             MANIFEST,
-            AppRefusal::Page,
+            CallsRefusal::Page,
         ),
         (
             " <html><head></head><body><script>\"use strict\";</script></body></html>",
             MANIFEST,
-            AppRefusal::Page,
+            CallsRefusal::Page,
         ),
-        ("", "", AppRefusal::Page),
+        ("", "", CallsRefusal::Page),
         (
             "<html><head></head><body><script>\"use strict\";</script></body></html>\n",
             "",
-            AppRefusal::Manifest,
+            CallsRefusal::Manifest,
         ),
         (
             "<html><head></head><body><script>\"use strict\";</script></body></html>",
             "{\"version\":1,\"functions\":{},\"limits\":{}}\n\n",
-            AppRefusal::Manifest,
+            CallsRefusal::Manifest,
         ),
         (
             "<html><head></head><body><script>\"use strict\";</script></body></html>",
             "{\"version\":2,\"functions\":{},\"limits\":{}}",
-            AppRefusal::Manifest,
+            CallsRefusal::Manifest,
         ),
         (
             "<html><head></head><body><script>\"use strict\";</script></body></html>",
             "{\"version\": 1,\"functions\":{},\"limits\":{}}",
-            AppRefusal::Manifest,
+            CallsRefusal::Manifest,
         ),
     ] {
-        let made = app_of(alloc, page, manifest).map(|app| app.made().len());
+        let made = calls_of(alloc, page, manifest).map(|calls| calls.made().len());
         assert_eq!(rt; made, Err(refusal), "{page}{manifest}");
     }
     let page = "<html><head></head><body><script>\"use strict\";</script></body></html>\n";
-    let made = app_of(
+    let made = calls_of(
         alloc,
         page,
         "{\"version\":1,\"functions\":{},\"limits\":{}}\n",
     )
-    .map(|app| app.made().len());
+    .map(|calls| calls.made().len());
     assert_eq!(rt; made, Ok(0));
     Ok(())
 }

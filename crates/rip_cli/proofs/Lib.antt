@@ -1,3 +1,4 @@
 pub mod AskedLemmas
 pub mod WordLemmas
 pub mod RunLemmas
+pub mod SettleLemmas

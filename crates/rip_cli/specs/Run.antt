@@ -2,8 +2,8 @@
 use Rattle.std.specs.Prelude.{◌≡◌, ◌++◌, ◌⊎◌, ℕ, List, Option}
 use Rattle.rip_outer.specs.Outside.{Rose, Front, also}
 use Rattle.rip_outer.specs.declared.reading.NamedFile.{NamedFile}
-use Rattle.rip_cli.specs.Words.{Names, in_order, IsReplay, IsForm, usage_line}
-use Rattle.rip_cli.specs.Input.{IsContentOf, Refuses, IsLog}
+use Rattle.rip_cli.specs.Words.{Task, in_order, IsTask, IsForm, usage_line}
+use Rattle.rip_cli.specs.Input.{IsInputOf, Refuses, IsAnswer}
 use Rattle.rip_cli.specs.declared.input.Input.{Input}
 use Rattle.rip_cli.specs.declared.status.Status.{Status}
 use Rattle.rip_cli.specs.declared.status.Status.TheVariants.{Read, BadWords, BadInput, TurnsSpent, Outside, NoMemory}
@@ -22,14 +22,12 @@ pub record IsCalm (old new : Told) : Type 0 where
   pub files : new.reads_failed ≡ old.reads_failed
   pub sink : new.puts_failed ≡ old.puts_failed
 
--- the three named files were asked for, in the order of the words, and gave this input
+-- the named files were asked for, in the order of the words, and gave this input
 pub record Reads (words : List (List ℕ)) (old new : Told) (i : Input) : Type 0 where
-  pub names : Names
-  pub form : IsReplay words names
-  pub page : IsContentOf old.held names.page i.page
-  pub app : IsContentOf old.held names.app i.app
-  pub trace : IsContentOf old.held names.trace i.trace
-  pub asked : new.asked ≡ also (in_order names) old.asked
+  pub task : Task
+  pub form : IsTask words task
+  pub contents : IsInputOf old.held task i
+  pub asked : new.asked ≡ also (in_order task) old.asked
 
 -- other words: nothing is asked for, and the usage line was put
 pub record PutsUsage (words : List (List ℕ)) (old new : Told) : Type 0 where
@@ -45,21 +43,21 @@ pub record PutsRefusal (words : List (List ℕ)) (old new : Told) : Type 0 where
   pub refuses : Refuses input line
   pub put : new.put ≡ also line old.put
 
--- the input is accepted, and its log was put
-pub record PutsLog (words : List (List ℕ)) (old new : Told) : Type 0 where
+-- the input is accepted, and its answer was put: the line of `check`, or the log of `replay`
+pub record PutsAnswer (words : List (List ℕ)) (old new : Told) : Type 0 where
   pub input : Input
   pub reads : Reads words old new input
-  pub log : List ℕ
-  pub is_log : IsLog input log
-  pub put : new.put ≡ also log old.put
+  pub answer : List ℕ
+  pub is_answer : IsAnswer input answer
+  pub put : new.put ≡ also answer old.put
 
 -- the run stopped while it read: some of the files were asked for, from the first on, and nothing was put
 pub record StopsReading (words : List (List ℕ)) (old new : Told) : Type 0 where
-  pub names : Names
-  pub form : IsReplay words names
+  pub task : Task
+  pub form : IsTask words task
   pub first : List (List ℕ)
   pub others : List (List ℕ)
-  pub in_order : in_order names ≡ first ++ others
+  pub in_order : in_order task ≡ first ++ others
   pub asked : new.asked ≡ also first old.asked
   pub put : new.put ≡ old.put
 
@@ -74,7 +72,7 @@ pub record StopsPutting (words : List (List ℕ)) (old new : Told) : Type 0 wher
   pub input : Input
   pub reads : Reads words old new input
   pub due : List ℕ
-  pub is_due : Refuses input due ⊎ IsLog input due
+  pub is_due : Refuses input due ⊎ IsAnswer input due
   pub put : Front due old.put new.put
 
 -- the run stopped at the first call that failed: of the files, or of the sink
@@ -90,7 +88,7 @@ StopsMemory words old new =
 
 -- what a run did
 abbrev pub Ran : Status → List (List ℕ) → Told → Told → Type 0
-Ran Read words old new = IsCalm old new × PutsLog words old new
+Ran Read words old new = IsCalm old new × PutsAnswer words old new
 Ran BadWords words old new = IsCalm old new × PutsUsage words old new
 Ran BadInput words old new = IsCalm old new × PutsRefusal words old new
 Ran TurnsSpent words old new = ⊥

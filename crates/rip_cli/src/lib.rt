@@ -5,10 +5,13 @@
 #![tactic(auto)]
 
 mod input;
+mod lines;
+mod refusal;
 mod status;
 #[cfg(test)]
 mod tests;
 mod top;
+mod words;
 
 pub use status::Status;
 pub use top::ripley;

@@ -82,13 +82,16 @@ fn run(
 
 #[test]
 fn answers_words_that_are_no_form(rt: HostRuntime) -> Result<(), Fail> {
-    let table: [&[&str]; 6] = [
+    let table: [&[&str]; 9] = [
         &[],
         &["replay"],
         &["replay", "p", "a"],
         &["replay", "p", "a", "t", "t"],
-        &["check", "p", "a", "t"],
         &["Replay", "p", "a", "t"],
+        &["check"],
+        &["check", "p"],
+        &["check", "p", "a", "t"],
+        &["Check", "p", "a"],
     ];
     for words in table {
         let (status, put) = run(
@@ -137,24 +140,24 @@ fn replays_a_trace(rt: HostRuntime) -> Result<(), Fail> {
         (PAGE, APP, b"", Status::BadInput, "refused trace NotYet\n"),
         (
             &too_long,
-            APP,
-            TRACE,
-            Status::BadInput,
-            "refused page NotYet 0\n",
-        ),
-        (
-            PAGE,
             &too_long,
             TRACE,
             Status::BadInput,
-            "refused app NotYet\n",
+            "refused page TooLong\n",
         ),
         (
-            PAGE,
-            APP,
+            OTHER_PAGE,
+            &too_long,
             &too_long,
             Status::BadInput,
-            "refused trace NotYet\n",
+            "refused app TooLong\n",
+        ),
+        (
+            OTHER_PAGE,
+            OTHER_APP,
+            &too_long,
+            Status::BadInput,
+            "refused trace TooLong\n",
         ),
     ];
     for (page, app, trace, expected, text) in table {
@@ -182,5 +185,112 @@ fn stops_where_the_outside_fails(rt: HostRuntime) -> Result<(), Fail> {
     let (status, put) = run(rt.alloc(), &["replay", "p", "a", "t"], &named, &[2])?;
     assert_eq!(rt; status, Status::Outside);
     assert!(rt; put.as_slice() == OPENING.as_bytes());
+    Ok(())
+}
+
+#[test]
+fn checks_a_page_and_a_manifest(rt: HostRuntime) -> Result<(), Fail> {
+    let longest = vec![in rt.alloc(); b' '; MAX_FILE]?;
+    let too_long = vec![in rt.alloc(); b' '; MAX_FILE + 1]?;
+    let table: [(&[u8], &[u8], Status, &str); 10] = [
+        (
+            &too_long,
+            &too_long,
+            Status::BadInput,
+            "refused page TooLong\n",
+        ),
+        (b"", &too_long, Status::BadInput, "refused app TooLong\n"),
+        (
+            &longest,
+            &longest,
+            Status::BadInput,
+            "refused page MissingPart 16777216\n",
+        ),
+        (b"", b"", Status::BadInput, "refused page MissingPart 0\n"),
+        (
+            b"<html><head></head><body><b><i></b></i></body></html>",
+            b"",
+            Status::BadInput,
+            "refused page Misnested 31\n",
+        ),
+        (
+            b"<html><head></head><body><script>\"use strict\";var x=1.5;</script></body></html>",
+            b"",
+            Status::BadInput,
+            "refused script 1 FractionLiteral 19\n",
+        ),
+        (
+            b"<html><head></head><body><script>\"use strict\";var a,b;a b</script></body></html>",
+            b"",
+            Status::BadInput,
+            "refused script 1 Unexpected 23\n",
+        ),
+        (PAGE, OTHER_APP, Status::BadInput, "refused app Version\n"),
+        (
+            PAGE,
+            b"{\"version\":1,\"functions\":{},\"limits\":{\"sessions\":1020}}",
+            Status::BadInput,
+            "refused app LimitsTooLarge\n",
+        ),
+        (PAGE, APP, Status::Read, "ok nodes 6 scripts 1\n"),
+    ];
+    for (page, app, expected, text) in table {
+        let (status, put) = run(
+            rt.alloc(),
+            &["check", "p", "a"],
+            &[("p", page), ("a", app)],
+            &[],
+        )?;
+        assert_eq!(rt; status, expected, "{text}");
+        assert!(rt; put.as_slice() == text.as_bytes(), "{text}");
+    }
+    Ok(())
+}
+
+#[test]
+fn checks_early_errors(rt: HostRuntime) -> Result<(), Fail> {
+    let table: [(&[u8], &str); 4] = [
+        (
+            b"<html><head></head><body><script>var a=1;</script></body></html>",
+            "refused script 1 NotStrict 0\n",
+        ),
+        (
+            b"<html><head></head><body><script>\"use strict\";eval=1;</script></body></html>",
+            "refused script 1 BadBinding 13\n",
+        ),
+        (
+            b"<html><head></head><body><script>\"use strict\";return;</script></body></html>",
+            "refused script 1 BadJump 13\n",
+        ),
+        (
+            b"<html><head></head><body><script></script></body></html>\n",
+            "refused script 1 NotStrict 0\n",
+        ),
+    ];
+    for (page, text) in table {
+        let (status, put) = run(
+            rt.alloc(),
+            &["check", "p", "a"],
+            &[("p", page), ("a", b"")],
+            &[],
+        )?;
+        assert_eq!(rt; status, Status::BadInput, "{text}");
+        assert!(rt; put.as_slice() == text.as_bytes(), "{text}");
+    }
+    Ok(())
+}
+
+#[test]
+fn stops_a_check_where_the_outside_fails(rt: HostRuntime) -> Result<(), Fail> {
+    let named: [(&str, &[u8]); 2] = [("p", b""), ("a", APP)];
+    let table: [&[&str]; 2] = [&["check", "none", "a"], &["check", "p", "none"]];
+    for words in table {
+        let (status, put) = run(rt.alloc(), words, &named, &[])?;
+        assert_eq!(rt; status, Status::Outside);
+        assert!(rt; put.is_empty());
+    }
+    let (status, put) = run(rt.alloc(), &["check", "p", "a"], &named, &[1])?;
+    assert_eq!(rt; status, Status::Outside);
+    assert!(rt; put.is_empty());
     Ok(())
 }

@@ -1,42 +1,20 @@
-ghost use Rattle.std.specs.Prelude.{IfNone, IfSome, map, string_bytes, ◌≡◌};
-ghost use Rattle.rip_cli.specs.Steps.{Settles, CountsStatus, PutsLine, IsLineStatus, IsRefusedBy};
+ghost use Rattle.std.specs.Prelude.{length, map, string_bytes, ◌≡◌};
+ghost use Rattle.rip_cli.specs.Lines.{count_line};
+ghost use Rattle.rip_cli.specs.Steps.{Settles, CountsStatus, FitsAll, PutsLine, PutsLineOf, IsLineStatus, refusal_line};
 ghost use Rattle.rip_cli.specs.Run.{Ran};
-ghost use Rattle.rip_cli.specs.Words.{IsForm, IsReplay};
 
-use crate::input::{Input, ReadStop, Refusal, load_app, load_trace};
+use crate::input::{CheckInput, Input, ReadStop, ReplayInput};
+use crate::lines::count_line;
+use crate::refusal::Refusal;
 use crate::status::Status;
+use crate::words::command_of;
+use rip_app::App;
 use rip_outer::{Clock, Door, Files, Sink, SinkError, Words};
 use rip_server::{Stop, serve_trace};
 use std::alloc::Global;
 
 /// What other words are answered.
 const USAGE: &[u8] = b"usage: ripley check|replay|serve|drive|generate\n";
-
-/// The names of the three files that the words name.
-#[derive(Clone, Copy)]
-struct FileNames<'a> {
-    page: &'a str,
-    app: &'a str,
-    trace: &'a str,
-}
-
-/// The file names of the words `replay PAGE APP TRACE`, or none of other words.
-fn names_of(words: &[String]) -> Option<FileNames<'_>>
-    ensures other { IfNone result (¬ IsForm (map string_bytes words.now)) }
-    ensures form { IfSome result (λ n. IsReplay (map string_bytes words.now) (record { page = n.page.now; app = n.app.now; trace = n.trace.now })) }
-{
-    let [command, page, app, trace] = words else {
-        return None;
-    };
-    if command.as_str() != "replay" {
-        return None;
-    }
-    Some(FileNames {
-        page: page.as_str(),
-        app: app.as_str(),
-        trace: trace.as_str(),
-    })
-}
 
 /// Puts a line, after which the run ends with this status.
 fn put_line<S: Sink>(line: &[u8], status: Status, out: &mut S) -> Status
@@ -52,40 +30,79 @@ fn put_line<S: Sink>(line: &[u8], status: Status, out: &mut S) -> Status
 }
 
 /// Puts the line for a refusal.
-fn refuse<S: Sink>(input: &Input, refusal: Refusal, out: &mut S) -> Status
-    requires { IsRefusedBy input.now refusal }
-    ensures settles { Settles result input.now (S.held out.old) (S.held out.new) }
+fn refuse<S: Sink>(alloc: Global, refusal: Refusal, out: &mut S) -> Status
+    ensures put { PutsLineOf Status.BadInput result (refusal_line refusal) (S.held out.old) (S.held out.new) }
     ensures counted { CountsStatus result (S.count out.old) (S.count out.new) }
 {
-    match refusal {
-        Refusal::Memory => Status::NoMemory,
-        _ => put_line(refusal.line(), Status::BadInput, out),
+    match refusal.line(alloc) {
+        Ok(line) => put_line(line.as_slice(), Status::BadInput, out),
+        Err(_) => Status::NoMemory,
     }
 }
 
-/// Puts the log of the input, or the line that says why it is refused.
-fn settle<S: Sink>(alloc: Global, input: &Input, out: &mut S) -> Status
-    ensures settles { Settles result input.now (S.held out.old) (S.held out.new) }
+/// Puts the line that says how many nodes and scripts the application's page has.
+fn put_count<S: Sink>(alloc: Global, app: &App, out: &mut S) -> Status
+    ensures put { PutsLine Status.Read result (count_line (length app.now.page.nodes) (length app.now.program.grove.roots)) (S.held out.old) (S.held out.new) }
     ensures counted { CountsStatus result (S.count out.old) (S.count out.new) }
 {
-    let app = match load_app(alloc, input) {
-        Ok(app) => app,
-        Err(refusal) => return refuse(input, refusal, out),
+    match count_line(alloc, app.node_count(), app.program().scripts()) {
+        Ok(line) => put_line(line.as_slice(), Status::Read, out),
+        Err(_) => Status::NoMemory,
+    }
+}
+
+/// Puts what `check` says of the input, of which no file is too long.
+fn settle_check<S: Sink>(alloc: Global, input: &CheckInput, out: &mut S) -> Status
+    requires { FitsAll (Input.Check input.now) }
+    ensures settles { Settles result (Input.Check input.now) (S.held out.old) (S.held out.new) }
+    ensures counted { CountsStatus result (S.count out.old) (S.count out.new) }
+{
+    match input.load(alloc) {
+        Ok(app) => put_count(alloc, &app, out),
+        Err(cause) => refuse(alloc, Refusal::Application(cause), out),
+    }
+}
+
+/// Puts the log of the input, of which no file is too long, or the line that says why it is refused.
+fn settle_replay<S: Sink>(alloc: Global, input: &ReplayInput, out: &mut S) -> Status
+    requires { FitsAll (Input.Replay input.now) }
+    ensures settles { Settles result (Input.Replay input.now) (S.held out.old) (S.held out.new) }
+    ensures counted { CountsStatus result (S.count out.old) (S.count out.new) }
+{
+    let calls = match input.load_calls(alloc) {
+        Ok(calls) => calls,
+        Err(refusal) => return refuse(alloc, refusal, out),
     };
-    let trace = match load_trace(alloc, input) {
+    let trace = match input.load_trace(alloc) {
         Ok(trace) => trace,
-        Err(refusal) => return refuse(input, refusal, out),
+        Err(refusal) => return refuse(alloc, refusal, out),
     };
-    match serve_trace(alloc, app.made(), trace.batches.as_slice(), out) {
+    match serve_trace(alloc, calls.made(), trace.batches.as_slice(), out) {
         Stop::Idle => Status::Read,
         Stop::Outside => Status::Outside,
         Stop::Memory => Status::NoMemory,
     }
 }
 
-/// Does what the words say, over these files and this sink. The words are `replay PAGE APP TRACE`: the log of the trace
-/// is put, served by an application of this page and this manifest. The door, the clock and the random words are not
-/// used.
+/// Puts the answer to the input, or the line that says why it is refused.
+fn settle<S: Sink>(alloc: Global, input: &Input, out: &mut S) -> Status
+    ensures settles { Settles result input.now (S.held out.old) (S.held out.new) }
+    ensures counted { CountsStatus result (S.count out.old) (S.count out.new) }
+{
+    if let Some(file) = input.first_too_long() {
+        return refuse(alloc, Refusal::TooLong(file), out);
+    }
+    match input {
+        Input::Check(input) => settle_check(alloc, input, out),
+        Input::Replay(input) => settle_replay(alloc, input, out),
+    }
+}
+
+/// Does what the words say, over these files and this sink.
+///
+/// The words are `check PAGE APP`: what is put says that the page and the manifest are an application, or why they are
+/// none. Or they are `replay PAGE APP TRACE`: the log of the trace is put, served by an application of this page and this
+/// manifest. The door, the clock and the random words are not used.
 pub fn ripley<F: Files, D: Door, C: Clock, W: Words, S: Sink>(
     alloc: Global,
     words: &[String],
@@ -102,10 +119,10 @@ pub fn ripley<F: Files, D: Door, C: Clock, W: Words, S: Sink>(
     ensures clock { clock.new ≡ clock.old }
     ensures random { random.new ≡ random.old }
 {
-    let Some(names) = names_of(words) else {
+    let Some(command) = command_of(words) else {
         return put_line(USAGE, Status::BadWords, out);
     };
-    match Input::read(alloc, files, names.page, names.app, names.trace) {
+    match Input::read(alloc, files, &command) {
         Ok(input) => settle(alloc, &input, out),
         Err(ReadStop::Failed) => Status::Outside,
         Err(ReadStop::Memory) => Status::NoMemory,

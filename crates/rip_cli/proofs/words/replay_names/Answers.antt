@@ -1,7 +1,7 @@
 use Rattle.std.proofs.Common.{◌≡◌, map, ap, ◌∙◌, sym, arith, rules}
 use Rattle.std.specs.Prelude.{string_bytes, codes}
 use Rattle.rip_cli.proofs.WordLemmas.{four}
-use Rattle.rip_cli.proofs.top.names_of.Goals as goal
+use Rattle.rip_cli.proofs.words.replay_names.Goals as goal
 
 pub returns-clause-form : goal.returns-clause-form
 returns-clause-form c =

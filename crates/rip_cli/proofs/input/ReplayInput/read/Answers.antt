@@ -3,7 +3,7 @@ use Rattle.rip_outer.proofs.Composing.{also-nil, also-also}
 use Rattle.std.proofs.Common.{◌≡◌, ap, ◌∙◌}
 use Rattle.rip_outer.specs.Outside.{also}
 use Rattle.rip_cli.proofs.AskedLemmas.{asked_part, asked_err}
-use Rattle.rip_cli.proofs.input.Input.read.Goals as goal
+use Rattle.rip_cli.proofs.input.ReplayInput.read.Goals as goal
 
 pub returns-in_err-page-clause-asked : goal.returns-in_err-page-clause-asked
 returns-in_err-page-clause-asked g c =

@@ -1,6 +1,6 @@
 use Rattle.std.proofs.Common.{◌≡◌, map, take}
 use Rattle.rip_wire.specs.Call.{call_text}
-use Rattle.rip_app.proofs.app.texts_of.Given as goal
+use Rattle.rip_app.proofs.calls.texts_of.Given as goal
 
 -- the texts of the calls so far
 abbrev pub invariant-loop-call : goal.invariant-loop-call

@@ -1,0 +1,147 @@
+ghost use Rattle.std.specs.Prelude.{◌≡◌, ◌++◌, IfOk, OnOk, codes, decimal};
+ghost use Rattle.rip_cli.specs.Lines.{count_line, early_word, lex_word, manifest_line, manifest_word, page_line, page_word, parse_word, script_line, too_long_line};
+
+use rip_early::EarlyKind;
+use rip_lexer::LexKind;
+use rip_manifest::ManifestKind;
+use rip_parser::ParseKind;
+use rip_values::{Bytes, NoMemory, PageKind};
+use rip_wire::Writer;
+use std::alloc::Global;
+
+/// What `check` says of an application whose page has so many nodes and scripts.
+pub fn count_line(alloc: Global, nodes: u32, scripts: u32) -> Result<Bytes, NoMemory>
+    ensures { IfOk result (λ line. line ≡ count_line nodes scripts) }
+{
+    let mut out = Writer::new(alloc);
+    out.text(b"ok nodes ")?;
+    out.number(u64::from(nodes))?;
+    out.text(b" scripts ")?;
+    out.number(u64::from(scripts))?;
+    out.text(b"\n")?;
+    Ok(out.into_bytes())
+}
+
+/// The line for a file that is too long, by its word.
+pub fn too_long_line(alloc: Global, file: &[u8]) -> Result<Bytes, NoMemory>
+    ensures { IfOk result (λ line. line ≡ too_long_line file.now) }
+{
+    let mut out = Writer::new(alloc);
+    out.text(b"refused ")?;
+    out.text(file)?;
+    out.text(b" TooLong\n")?;
+    Ok(out.into_bytes())
+}
+
+/// The line for a page: what is wrong, and the place in bytes.
+pub fn page_line(alloc: Global, kind: &[u8], place: u32) -> Result<Bytes, NoMemory>
+    ensures { IfOk result (λ line. line ≡ page_line kind.now place) }
+{
+    let mut out = Writer::new(alloc);
+    out.text(b"refused page ")?;
+    out.text(kind)?;
+    out.text(b" ")?;
+    out.number(u64::from(place))?;
+    out.text(b"\n")?;
+    Ok(out.into_bytes())
+}
+
+/// The line for a manifest: what is wrong.
+pub fn manifest_line(alloc: Global, kind: &[u8]) -> Result<Bytes, NoMemory>
+    ensures { IfOk result (λ line. line ≡ manifest_line kind.now) }
+{
+    let mut out = Writer::new(alloc);
+    out.text(b"refused app ")?;
+    out.text(kind)?;
+    out.text(b"\n")?;
+    Ok(out.into_bytes())
+}
+
+/// The line for a script: its number from 1, what is wrong, and the place in units.
+pub fn script_line(alloc: Global, number: u32, kind: &[u8], place: u32) -> Result<Bytes, NoMemory>
+    ensures { IfOk result (λ line. line ≡ script_line number kind.now place) }
+{
+    let mut out = Writer::new(alloc);
+    out.text(b"refused script ")?;
+    out.number(u64::from(number))?;
+    out.text(b" ")?;
+    out.text(kind)?;
+    out.text(b" ")?;
+    out.number(u64::from(place))?;
+    out.text(b"\n")?;
+    Ok(out.into_bytes())
+}
+
+/// The word for what is wrong with a page.
+pub fn page_word(kind: PageKind) -> &'static [u8]
+    ensures { result.now ≡ page_word kind }
+{
+    match kind {
+        PageKind::NotUtf8 => b"NotUtf8",
+        PageKind::MissingPart => b"MissingPart",
+        PageKind::BadTag => b"BadTag",
+        PageKind::BadAttribute => b"BadAttribute",
+        PageKind::DoubleAttribute => b"DoubleAttribute",
+        PageKind::BadReference => b"BadReference",
+        PageKind::OpenComment => b"OpenComment",
+        PageKind::Misnested => b"Misnested",
+        PageKind::TextOutside => b"TextOutside",
+        PageKind::ScriptNotLast => b"ScriptNotLast",
+        PageKind::ExternalScript => b"ExternalScript",
+        PageKind::NotInSubset => b"NotInSubset",
+        PageKind::TooNested => b"TooNested",
+    }
+}
+
+/// The word for what is wrong with a manifest.
+pub fn manifest_word(kind: ManifestKind) -> &'static [u8]
+    ensures { result.now ≡ manifest_word kind }
+{
+    match kind {
+        ManifestKind::Syntax => b"Syntax",
+        ManifestKind::Member => b"Member",
+        ManifestKind::Version => b"Version",
+        ManifestKind::Function => b"Function",
+        ManifestKind::LimitRange => b"LimitRange",
+    }
+}
+
+/// The word for what is wrong with tokens.
+pub fn lex_word(kind: LexKind) -> &'static [u8]
+    ensures { result.now ≡ lex_word kind }
+{
+    match kind {
+        LexKind::BadCharacter => b"BadCharacter",
+        LexKind::OpenText => b"OpenText",
+        LexKind::OpenComment => b"OpenComment",
+        LexKind::FractionLiteral => b"FractionLiteral",
+        LexKind::OctalLiteral => b"OctalLiteral",
+        LexKind::LiteralTooLarge => b"LiteralTooLarge",
+        LexKind::BadEscape => b"BadEscape",
+    }
+}
+
+/// The word for what is wrong with a tree.
+pub fn parse_word(kind: ParseKind) -> &'static [u8]
+    ensures { result.now ≡ parse_word kind }
+{
+    match kind {
+        ParseKind::Unexpected => b"Unexpected",
+        ParseKind::TooNested => b"TooNested",
+    }
+}
+
+/// The word for an early error.
+pub fn early_word(kind: EarlyKind) -> &'static [u8]
+    ensures { result.now ≡ early_word kind }
+{
+    match kind {
+        EarlyKind::NotStrict => b"NotStrict",
+        EarlyKind::Duplicate => b"Duplicate",
+        EarlyKind::BadBinding => b"BadBinding",
+        EarlyKind::BadDelete => b"BadDelete",
+        EarlyKind::UnknownGlobal => b"UnknownGlobal",
+        EarlyKind::NoGlobalObject => b"NoGlobalObject",
+        EarlyKind::BadJump => b"BadJump",
+    }
+}

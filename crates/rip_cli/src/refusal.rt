@@ -1,0 +1,72 @@
+ghost use Rattle.std.specs.Prelude.{◌≡◌, IfOk, Some};
+ghost use Rattle.rip_cli.specs.Lines.{app_line};
+ghost use Rattle.rip_cli.specs.Steps.{refusal_line};
+
+use crate::input::InputFile;
+use crate::lines::{
+    early_word, lex_word, manifest_line, manifest_word, page_line, page_word, parse_word,
+    script_line, too_long_line,
+};
+use rip_app::AppRefusal;
+use rip_values::{Bytes, NoMemory};
+use std::alloc::Global;
+
+/// Why input is refused.
+#[derive(Clone, Copy, Debug, PartialEq, Eq)]
+pub enum Refusal {
+    /// The file is longer than a file may be.
+    TooLong(InputFile),
+    /// The page and the manifest are no application.
+    Application(AppRefusal),
+    /// The page is no list of calls.
+    Page,
+    /// The manifest is another.
+    App,
+    /// The trace is none of the form.
+    Trace,
+    /// Want of memory.
+    Memory,
+}
+
+/// The line for a page and a manifest that are no application; want of memory has none.
+fn app_line(alloc: Global, cause: AppRefusal) -> Result<Bytes, NoMemory>
+    ensures { IfOk result (λ line. app_line cause ≡ Some line) }
+{
+    match cause {
+        AppRefusal::Page { place, kind } => page_line(alloc, page_word(kind), place),
+        AppRefusal::Lex {
+            script,
+            place,
+            kind,
+        } => script_line(alloc, script, lex_word(kind), place),
+        AppRefusal::Parse {
+            script,
+            place,
+            kind,
+        } => script_line(alloc, script, parse_word(kind), place),
+        AppRefusal::Early {
+            script,
+            place,
+            kind,
+        } => script_line(alloc, script, early_word(kind), place),
+        AppRefusal::Manifest(kind) => manifest_line(alloc, manifest_word(kind)),
+        AppRefusal::LimitsTooLarge => manifest_line(alloc, b"LimitsTooLarge"),
+        AppRefusal::Memory => Err(NoMemory),
+    }
+}
+
+impl Refusal {
+    /// The line that says so; want of memory has none.
+    pub fn line(self, alloc: Global) -> Result<Bytes, NoMemory>
+        ensures { IfOk result (λ line. refusal_line self ≡ Some line) }
+    {
+        match self {
+            Refusal::TooLong(file) => too_long_line(alloc, file.word()),
+            Refusal::Application(cause) => app_line(alloc, cause),
+            Refusal::Page => Bytes::from_slice(alloc, b"refused page NotYet 0\n"),
+            Refusal::App => Bytes::from_slice(alloc, b"refused app NotYet\n"),
+            Refusal::Trace => Bytes::from_slice(alloc, b"refused trace NotYet\n"),
+            Refusal::Memory => Err(NoMemory),
+        }
+    }
+}
