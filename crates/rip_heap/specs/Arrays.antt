@@ -42,6 +42,10 @@ with_item w n place v = with_elements w n (λ items. slice_set items place v) (a
 abbrev pub popped : World → ℕ → World
 popped w n = with_elements w n without_last (as_array (object_at w n))
 
+-- the array with as many of its elements as that, or all where it has fewer
+abbrev pub cut : World → ℕ → ℕ → World
+cut w n count = with_elements w n (take count) (as_array (object_at w n))
+
 -- the array with one element more, or the world as it was where there is no array
 abbrev pub push_in : World → ℕ → Value → Option Object → Option World
 push_in w n v None = Some w

@@ -2,10 +2,12 @@ pub mod Arrays
 pub mod Conversions
 pub mod Growth
 pub mod Host
+pub mod Keys
 pub mod Laws
 pub mod Lending
 pub mod Names
 pub mod Objects
+pub mod Outcome
 pub mod Scopes
 pub mod Sound
 pub mod Step

@@ -12,3 +12,7 @@ new_text w text =
 -- the texts of two spans joined to a new one
 abbrev pub concat : World → Span → Span → Option (Span × World)
 concat w a b = new_text w (joined w.pool a b)
+
+-- a name of the program, which costs nothing
+abbrev pub name_added : World → List ℕ → Span × World
+name_added w text = (span_behind w.pool text, record w { pool = with_text w.pool text 0 })

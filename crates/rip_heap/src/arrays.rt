@@ -1,7 +1,7 @@
 ghost use Rattle.std.specs.Prelude.{◌≡◌, ◌+◌, ◌^◌, ◌<◌, ⊤, IfOk, MatchOption, slice_get, length};
 ghost use Rattle.rip_values.specs.declared.value.Value.{Value};
 ghost use Rattle.rip_heap.specs.Growth.{Grows};
-ghost use Rattle.rip_heap.specs.Arrays.{new_array, elements_at, last_of, with_item, popped, push_item};
+ghost use Rattle.rip_heap.specs.Arrays.{new_array, cut, elements_at, last_of, with_item, popped, push_item};
 ghost use Rattle.rip_heap.specs.Step.{Makes, Changes};
 ghost use Rattle.rip_heap.specs.World.{object_at, as_array, first_object, IsObject};
 
@@ -82,6 +82,18 @@ impl Heap {
         let at = self.place_of_array(array)?;
         let target = &mut self.objects[at];
         target.pop_element()
+    }
+
+    /// Takes the elements from this count on away. No cell is given back.
+    pub fn cut_items(&mut self, array: u32, count: u32)
+        ensures left { self.new ≡ cut self.old array count }
+        ensures grows { Grows self.old self.new }
+    {
+        let Some(at) = self.place_of_array(array) else {
+            return;
+        };
+        let target = &mut self.objects[at];
+        target.cut_elements(count as usize);
     }
 
     // The array of that number.

@@ -32,6 +32,7 @@ mod class;
 mod convert;
 mod heap;
 mod host;
+mod keys;
 mod laws;
 mod limits;
 mod names;
@@ -52,7 +53,13 @@ pub use convert::{
 };
 pub use heap::Heap;
 pub use host::{EmptyHost, Host, HostDone};
-pub use laws::{fixed_texts_stand, puts_are_read, puts_leave_others};
+pub use keys::{
+    Found, Key, Reference, index_of, is_barred, is_index, is_named, is_of_object_prototype,
+    is_underscored, look_up,
+};
+pub use laws::{
+    fixed_texts_stand, names_are_looked_up_along_prototypes, puts_are_read, puts_leave_others,
+};
 pub use limits::{HeapLimits, Used};
 pub use names::same_text;
 pub use outcome::{Halt, OpDone};

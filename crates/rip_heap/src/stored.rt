@@ -1,4 +1,4 @@
-ghost use Rattle.std.specs.Prelude.{◌≡◌, ◌<◌, ◌∷◌, ◌++◌, [], length, remove, slice_set, IfOk, IfSome, OnOk, OnErr, replicate};
+ghost use Rattle.std.specs.Prelude.{◌≡◌, ◌<◌, ◌∷◌, ◌++◌, [], length, remove, slice_set, IfOk, IfSome, OnOk, OnErr, replicate, take};
 ghost use Rattle.rip_heap.specs.Arrays.{array_object, last_of, without_last};
 ghost use Rattle.rip_heap.specs.Growth.{KeepsObject};
 ghost use Rattle.rip_heap.specs.Names.{place_of};
@@ -152,6 +152,14 @@ impl StoredObject {
         ensures keeps { KeepsObject self.old self.new }
     {
         self.elements.pop()
+    }
+
+    /// Takes the elements from this count on away.
+    pub fn cut_elements(&mut self, count: usize)
+        ensures edited { self.new ≡ record self.old { elements = take count self.old.elements } }
+        ensures keeps { KeepsObject self.old self.new }
+    {
+        self.elements.truncate(count);
     }
 }
 

@@ -1,4 +1,4 @@
-ghost use Rattle.std.specs.Prelude.{◌≡◌, IfOk};
+ghost use Rattle.std.specs.Prelude.{◌≡◌, IfOk, OnErr};
 ghost use Rattle.std.specs.Borrow.{sem};
 ghost use Rattle.std.specs.Fmt.{signed_decimal};
 ghost use Rattle.rip_heap.specs.Growth.{Grows};
@@ -6,11 +6,11 @@ ghost use Rattle.rip_values.specs.Pool.{text_at, joined};
 ghost use Rattle.rip_heap.specs.Conversions.{text_made};
 ghost use Rattle.rip_heap.specs.Lending.{LendsPool};
 ghost use Rattle.rip_heap.specs.Step.{Makes, TakesNoMemory};
-ghost use Rattle.rip_heap.specs.Texts.{concat, new_text};
+ghost use Rattle.rip_heap.specs.Texts.{concat, name_added, new_text};
 
 use crate::heap::Heap;
 use crate::outcome::Halt;
-use rip_values::{Limit, Pool, Refused, Span, Whole, text_of_whole};
+use rip_values::{Limit, NoMemory, Pool, Refused, Span, Whole, text_of_whole};
 use std::alloc::Global;
 
 impl Heap {
@@ -22,6 +22,26 @@ impl Heap {
         ensures grows { Grows self.old self.new }
     {
         Ok(self.pool.add_joined(a, b)?)
+    }
+
+    /// A new text of these units, at its length.
+    pub fn add_text(&mut self, alloc: Global, text: &[u16]) -> Result<Span, Refused>
+        ensures made { Makes Limit.Units (new_text self.old text.now) self.old result self.new }
+        ensures stands { IfOk result (λ span. text_at self.new.pool span ≡ text.now) }
+        ensures room { TakesNoMemory result }
+        ensures grows { Grows self.old self.new }
+    {
+        self.pool.add(alloc, text)
+    }
+
+    /// A name of the program, which costs nothing.
+    pub fn add_name(&mut self, alloc: Global, text: &[u16]) -> Result<Span, NoMemory>
+        ensures made { IfOk result (λ span. (span, self.new) ≡ name_added self.old text.now) }
+        ensures kept { OnErr result (self.new ≡ self.old) }
+        ensures stands { IfOk result (λ span. text_at self.new.pool span ≡ text.now) }
+        ensures grows { Grows self.old self.new }
+    {
+        self.pool.add_fixed(alloc, text)
     }
 
     // A new text: the decimal numeral of the number (ECMA-262 9.8.1).

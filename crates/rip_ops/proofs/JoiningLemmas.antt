@@ -13,8 +13,8 @@ use Rattle.rip_heap.specs.declared.outcome.Halt.TheVariants.{Fault as HaltFault,
 use Rattle.rip_heap.specs.Conversions.{text_of_value, text_made}
 use Rattle.rip_heap.specs.Texts.{new_text, concat}
 use Rattle.rip_heap.specs.World.{World}
-use Rattle.rip_ops.specs.Addition.{joining, judged, room_for, after_text, text_or_limit}
-use Rattle.rip_ops.specs.Outcome.{Gives, Faults}
+use Rattle.rip_ops.specs.Addition.{joining, room_for}
+use Rattle.rip_heap.specs.Outcome.{Gives, Faults, after_text, judged, text_or_limit}
 
 take-taken : (c : ℕ) (xs : List ℕ) → take (length (take c xs)) xs ≡ take c xs
 take-taken zero xs = refl

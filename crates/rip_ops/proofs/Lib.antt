@@ -1,4 +1,3 @@
 pub mod JoiningLemmas
 pub mod AlongLemmas
-pub mod LookUpLemmas
 pub mod QuotientLemmas

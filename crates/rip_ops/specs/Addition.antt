@@ -15,7 +15,7 @@ use Rattle.rip_heap.specs.World.{World}
 use Rattle.rip_ops.specs.Arithmetic.{sum}
 use Rattle.rip_ops.specs.Numbers.{of_numbers}
 use Rattle.rip_ops.specs.Order.{is_object}
-use Rattle.rip_ops.specs.Outcome.{Outcome, Gives, Faults, Exceeds, number_or_fault}
+use Rattle.rip_heap.specs.Outcome.{Outcome, Gives, Faults, after_text, judged, number_or_fault}
 
 -- the text of a value (ECMA-262 9.8); an object has none
 abbrev pub text_in : World → Value → List ℕ
@@ -27,27 +27,6 @@ text_in w (Num z) = signed_decimal z
 text_in w NaN = text_at w.pool (span_of NaNText)
 text_in w (Text span) = text_at w.pool span
 text_in w (Object n) = []
-
--- how an operator ends where a conversion halts
-abbrev pub halting : Halt → Outcome
-halting (HaltFault fault) = Faults fault
-halting (HaltLimit limit) = Exceeds limit
-
-abbrev pub after_span : Result Span Halt → World → (Span → World → Outcome) → Outcome
-after_span (Ok span) w further = further span w
-after_span (Err halt) w further = halting halt
-
--- what follows a conversion to text, or how it halts
-abbrev pub after_text : Result Span Halt × World → (Span → World → Outcome) → Outcome
-after_text made further = after_span made.0 made.1 further
-
-abbrev pub text_or_limit : Option (Span × World) → Outcome
-text_or_limit None = Exceeds Units
-text_or_limit (Some made) = Gives (Text made.0) made.1
-
--- a new text, whose length is judged before it is charged
-abbrev pub judged : World → List ℕ → Outcome
-judged w text = if nat_le (length text) w.pool.text_limit then text_or_limit (new_text w text) else Faults TextTooLong
 
 -- both operands to texts, the left one first, and then the two texts joined to a new one
 abbrev pub joining : World → Value → Value → Outcome

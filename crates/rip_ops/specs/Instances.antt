@@ -8,7 +8,7 @@ use Rattle.rip_heap.specs.declared.class.Class.{Class}
 use Rattle.rip_heap.specs.declared.class.Class.TheVariants.{Plain, Prototype, Array, Function, Error, TypeError, RangeError, ThrownTypeError, ThrownReferenceError, Code, Event}
 use Rattle.rip_heap.specs.Objects.{own, prototype_name}
 use Rattle.rip_heap.specs.World.{World, object_at, class_of, proto_of, first_object}
-use Rattle.rip_ops.specs.Outcome.{Outcome, Gives, Throws, Faults}
+use Rattle.rip_heap.specs.Outcome.{Outcome, Gives, Throws, Faults}
 
 -- THE THREE BUILT-INS OF ERRORS (ECMA-262 15.11)
 

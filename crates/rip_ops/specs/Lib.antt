@@ -7,4 +7,3 @@ pub mod Members
 pub mod Numbers
 pub mod Operators
 pub mod Order
-pub mod Outcome

@@ -18,7 +18,7 @@ use Rattle.rip_ops.specs.Instances.{instance_of}
 use Rattle.rip_ops.specs.Members.{contained}
 use Rattle.rip_ops.specs.Numbers.{of_numbers, of_number}
 use Rattle.rip_ops.specs.Order.{order_of, is_so}
-use Rattle.rip_ops.specs.Outcome.{Outcome, Gives, number_or_fault, truth_or_fault}
+use Rattle.rip_heap.specs.Outcome.{Outcome, Gives, number_or_fault, truth_or_fault}
 
 -- an operator of numbers, of the two operands as numbers
 abbrev pub calculating : World → (Numeral → Numeral → Result Numeral Fault) → Value → Value → Outcome

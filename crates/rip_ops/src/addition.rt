@@ -2,9 +2,10 @@ ghost use Rattle.std.specs.Prelude.{◌≡◌, ◌++◌, length};
 ghost use Rattle.std.specs.Fmt.{signed_decimal};
 ghost use Rattle.rip_values.specs.Pool.{text_at, joined};
 ghost use Rattle.rip_values.specs.declared.value.Value.TheVariants.{Num, Text};
-ghost use Rattle.rip_ops.specs.Addition.{added, joining, judged, room_for};
+ghost use Rattle.rip_heap.specs.Growth.{Grows};
+ghost use Rattle.rip_ops.specs.Addition.{added, joining, room_for};
 ghost use Rattle.rip_ops.specs.Numbers.{of_numbers};
-ghost use Rattle.rip_ops.specs.Outcome.{Answers};
+ghost use Rattle.rip_heap.specs.Outcome.{Answers, judged};
 ghost use Rattle.rip_ops.specs.Arithmetic.{sum};
 
 use crate::arithmetic::sum;
@@ -17,7 +18,8 @@ use std::alloc::Global;
 
 /// `+` (ECMA-262 11.6.1).
 pub fn added(alloc: Global, heap: &mut Heap, a: Value, b: Value) -> OpDone
-    ensures { Answers (added heap.old a b) heap.old result heap.new }
+    ensures answers { Answers (added heap.old a b) heap.old result heap.new }
+    ensures grows { Grows heap.old heap.new }
 {
     if either_is_object(&a, &b) {
         return OpDone::Fault(Fault::ObjectToPrimitive);
@@ -41,7 +43,8 @@ fn sum_of(heap: &Heap, a: Value, b: Value) -> Result<Numeral, Fault>
 }
 
 fn text_and(alloc: Global, heap: &mut Heap, x: Span, b: Value) -> OpDone
-    ensures { Answers (joining heap.old (Text x) b) heap.old result heap.new }
+    ensures answers { Answers (joining heap.old (Text x) b) heap.old result heap.new }
+    ensures grows { Grows heap.old heap.new }
 {
     match b {
         Value::Num(number) => text_and_numeral(alloc, heap, x, number),
@@ -53,7 +56,8 @@ fn text_and(alloc: Global, heap: &mut Heap, x: Span, b: Value) -> OpDone
 }
 
 fn and_text(alloc: Global, heap: &mut Heap, a: Value, y: Span) -> OpDone
-    ensures { Answers (joining heap.old a (Text y)) heap.old result heap.new }
+    ensures answers { Answers (joining heap.old a (Text y)) heap.old result heap.new }
+    ensures grows { Grows heap.old heap.new }
 {
     match a {
         Value::Num(number) => numeral_and_text(alloc, heap, number, y),
@@ -66,7 +70,8 @@ fn and_text(alloc: Global, heap: &mut Heap, a: Value, y: Span) -> OpDone
 
 // The two texts joined to a new one.
 fn join(alloc: Global, heap: &mut Heap, x: Span, y: Span) -> OpDone
-    ensures { Answers (judged heap.old (joined heap.old.pool x y)) heap.old result heap.new }
+    ensures answers { Answers (judged heap.old (joined heap.old.pool x y)) heap.old result heap.new }
+    ensures grows { Grows heap.old heap.new }
 {
     let pool = heap.pool();
     let length = pool.get(x).len() + pool.get(y).len();
@@ -82,7 +87,8 @@ fn join(alloc: Global, heap: &mut Heap, x: Span, y: Span) -> OpDone
 
 // A text with a number behind it. Nothing is made before all is judged.
 fn text_and_numeral(alloc: Global, heap: &mut Heap, x: Span, number: Whole) -> OpDone
-    ensures { Answers (joining heap.old (Text x) (Num number)) heap.old result heap.new }
+    ensures answers { Answers (joining heap.old (Text x) (Num number)) heap.old result heap.new }
+    ensures grows { Grows heap.old heap.new }
 {
     let text = held(heap.pool(), x);
     match room_for(heap, number, text.count) {
@@ -99,7 +105,8 @@ fn text_and_numeral(alloc: Global, heap: &mut Heap, x: Span, number: Whole) -> O
 
 // A number with a text behind it.
 fn numeral_and_text(alloc: Global, heap: &mut Heap, number: Whole, y: Span) -> OpDone
-    ensures { Answers (joining heap.old (Num number) (Text y)) heap.old result heap.new }
+    ensures answers { Answers (joining heap.old (Num number) (Text y)) heap.old result heap.new }
+    ensures grows { Grows heap.old heap.new }
 {
     let text = held(heap.pool(), y);
     match room_for(heap, number, text.count) {

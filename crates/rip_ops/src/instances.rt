@@ -1,7 +1,7 @@
 ghost use Rattle.std.specs.Prelude.{◌≡◌};
 ghost use Rattle.rip_heap.specs.World.{object_at, class_of};
 ghost use Rattle.rip_ops.specs.Instances.{instance_of, instance_of_builtin, instance_of_class, has_instance, has_above, is_above, is_of, is_error, is_type_error, is_range_error};
-ghost use Rattle.rip_ops.specs.Outcome.{Answers};
+ghost use Rattle.rip_heap.specs.Outcome.{Answers};
 
 use rip_heap::{Class, Heap, OpDone};
 use rip_values::{Builtin, FIRST_HEAP_OBJECT, Fault, FixedText, Value};

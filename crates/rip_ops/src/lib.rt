@@ -2,7 +2,7 @@
 //!
 //! [`binary`] and [`unary`] answer an operator of two operands or of one. Contracts see an outcome over worlds: a value
 //! with the world after it, a TypeError to be thrown, a fault of the profile, or a limit that would be passed. Each
-//! answer comes exactly where the outcome is that one (`Outcome.Answers`); where it is no value the heap is as before,
+//! answer comes exactly where the outcome is that one (`Outcome.Answers` of the heap's crate); where it is no value the heap is as before,
 //! what was charged on the way included; and memory is never wanting.
 //!
 //! Numbers are whole numbers of at most 2^53 - 1, or NaN: what would be a fraction, infinite or past the range is a
@@ -11,7 +11,7 @@
 //! | what | its definition in `specs/` |
 //! |---|---|
 //! | [`binary`], [`unary`] | `Operators.binary`, `Operators.unary`: the table, one equation for each operator |
-//! | what an answer says of an outcome | `Outcome.Answers` |
+//! | what an answer says of an outcome | `Outcome.Answers` of the heap's crate |
 //! | `*` `/` `%` `-`, `+` of numbers, shifts, bits | `Arithmetic`, one definition for each; `Numbers.of_numbers` converts the operands |
 //! | `+` ([`added`]) | `Addition.added`; `Addition.joining` where one side is a text |
 //! | `<` `>` `<=` `>=` ([`order_of`]) | `Order.order_of` |
@@ -45,7 +45,7 @@ pub use arithmetic::{
 };
 pub use equality::{loosely_equal, loosely_unequal};
 pub use instances::instance_of;
-pub use laws::{instances_follow_prototypes, names_are_looked_up_along_prototypes};
+pub use laws::instances_follow_prototypes;
 pub use members::contained;
 pub use numbers::numbers_of;
 pub use operators::{UnaryOp, binary, unary};

@@ -1,24 +1,16 @@
-ghost use Rattle.std.specs.Prelude.{◌≡◌, ◌+◌, length, nat_eq, nat_le};
-ghost use Rattle.std.specs.Cmp.Lexicographic.{pointwise};
+ghost use Rattle.std.specs.Prelude.{◌≡◌, ◌+◌, length, nat_le};
 ghost use Rattle.std.specs.Fmt.{signed_decimal};
 ghost use Rattle.rip_heap.specs.World.{object_at};
-ghost use Rattle.rip_ops.specs.Members.{contained, in_holder, in_plain, in_array, numeral_in_plain, number_in_array, not_in_profile, holder_of, look_up, is_barred, absent, is_underscored, is_of_object_prototype, is_named, is_index, index_of, index_if};
-ghost use Rattle.rip_ops.specs.Outcome.{Answers};
+ghost use Rattle.rip_heap.specs.Growth.{Grows};
+ghost use Rattle.rip_ops.specs.Members.{contained, in_holder, in_plain, in_array, numeral_in_plain, number_in_array, not_in_profile, holder_of, absent};
+ghost use Rattle.rip_heap.specs.Outcome.{Answers};
 
-use rip_heap::{Class, Heap, OpDone, same_text, to_number, to_text};
-use rip_values::{
-    FIRST_HEAP_OBJECT, Fault, FixedText, Limit, Numeral, Span, Value, Whole, text_of_whole,
+use rip_heap::{
+    Class, Found, Heap, OpDone, index_of, is_index, is_named, is_of_object_prototype,
+    is_underscored, look_up, to_text,
 };
+use rip_values::{FIRST_HEAP_OBJECT, Fault, FixedText, Limit, Span, Value, Whole, text_of_whole};
 use std::alloc::Global;
-
-/// Where a look-up of a name along prototypes ends.
-#[derive(Clone, Copy, Debug, PartialEq, Eq)]
-pub enum Found {
-    Here,
-    /// At an object on which every use of the name is outside the profile.
-    Barred,
-    Nowhere,
-}
 
 /// What an object is to `in`.
 #[derive(Clone, Copy, Debug, PartialEq, Eq)]
@@ -28,14 +20,10 @@ pub enum Holder {
     OtherObject,
 }
 
-const UNDERSCORE: u16 = 0x5F;
-
-/// The greatest index of an array.
-const GREATEST_INDEX: i64 = 4_294_967_294;
-
 /// `in` (ECMA-262 11.8.7).
 pub fn contained(alloc: Global, heap: &mut Heap, a: Value, b: Value) -> OpDone
-    ensures { Answers (contained heap.old a b) heap.old result heap.new }
+    ensures answers { Answers (contained heap.old a b) heap.old result heap.new }
+    ensures grows { Grows heap.old heap.new }
 {
     match b {
         Value::Object(number) => {
@@ -60,7 +48,8 @@ fn holder_of(heap: &Heap, number: u32) -> Holder
 }
 
 fn in_holder(alloc: Global, heap: &mut Heap, holder: Holder, a: Value, number: u32) -> OpDone
-    ensures { Answers (in_holder holder heap.old a number) heap.old result heap.new }
+    ensures answers { Answers (in_holder holder heap.old a number) heap.old result heap.new }
+    ensures grows { Grows heap.old heap.new }
 {
     match holder {
         Holder::PlainObject => in_plain_object(alloc, heap, a, number),
@@ -94,7 +83,8 @@ fn has_room(heap: &Heap, number: Whole) -> bool
 }
 
 fn in_plain_object(alloc: Global, heap: &mut Heap, a: Value, number: u32) -> OpDone
-    ensures { Answers (in_holder Holder.PlainObject heap.old a number) heap.old result heap.new }
+    ensures answers { Answers (in_holder Holder.PlainObject heap.old a number) heap.old result heap.new }
+    ensures grows { Grows heap.old heap.new }
 {
     match a {
         Value::Num(key) => numeral_in_plain(alloc, heap, key, number),
@@ -106,7 +96,8 @@ fn in_plain_object(alloc: Global, heap: &mut Heap, a: Value, number: u32) -> OpD
 }
 
 fn numeral_in_plain(alloc: Global, heap: &mut Heap, key: Whole, number: u32) -> OpDone
-    ensures { Answers (numeral_in_plain heap.old key number) heap.old result heap.new }
+    ensures answers { Answers (numeral_in_plain heap.old key number) heap.old result heap.new }
+    ensures grows { Grows heap.old heap.new }
 {
     match to_text(alloc, heap, Value::Num(key)) {
         Ok(name) => OpDone::Value(Value::Bool(heap.find(number, name).is_some())),
@@ -127,43 +118,6 @@ fn in_plain(heap: &Heap, number: u32, name: Span) -> OpDone
     }
 }
 
-fn is_underscored(name: &[u16]) -> bool
-    ensures { result ≡ is_underscored name.now }
-{
-    match name {
-        [first, second, ..] => *first == UNDERSCORE && *second == UNDERSCORE,
-        _ => false,
-    }
-}
-
-// Where the look-up of the name ends, from the object on and along its prototypes.
-fn look_up(heap: &Heap, object: u32, name: Span) -> Found
-    ensures { result ≡ look_up heap.now object name }
-{
-    let mut at = Some(object);
-    while let Some(number) = at {
-        if is_barred(heap, name, heap.class(number)) {
-            return Found::Barred;
-        }
-        if heap.own(number, name).is_some() {
-            return Found::Here;
-        }
-        at = heap.proto(number);
-    }
-    Found::Nowhere
-}
-
-fn is_barred(heap: &Heap, name: Span, class: Class) -> bool
-    ensures { result ≡ is_barred heap.now.pool name class }
-{
-    match class {
-        Class::Code => is_named(heap, name, FixedText::Name)
-            || is_named(heap, name, FixedText::Message),
-        Class::Prototype => is_named(heap, name, FixedText::Constructor),
-        _ => false,
-    }
-}
-
 // The answer for a name that is found nowhere.
 fn absent(heap: &Heap, name: Span) -> OpDone
     ensures { Answers (absent heap.now name) heap.now result heap.now }
@@ -177,25 +131,9 @@ fn absent(heap: &Heap, name: Span) -> OpDone
     }
 }
 
-fn is_of_object_prototype(heap: &Heap, name: Span) -> bool
-    ensures { result ≡ is_of_object_prototype heap.now.pool name }
-{
-    is_named(heap, name, FixedText::Constructor)
-        || is_named(heap, name, FixedText::ToString)
-        || is_named(heap, name, FixedText::ToLocaleString)
-        || is_named(heap, name, FixedText::ValueOf)
-        || is_named(heap, name, FixedText::IsPrototypeOf)
-        || is_named(heap, name, FixedText::PropertyIsEnumerable)
-}
-
-fn is_named(heap: &Heap, name: Span, fixed: FixedText) -> bool
-    ensures { result ≡ is_named heap.now.pool name fixed }
-{
-    same_text(heap.pool(), name, fixed.span())
-}
-
 fn in_array_object(alloc: Global, heap: &mut Heap, a: Value, number: u32) -> OpDone
-    ensures { Answers (in_holder Holder.ArrayObject heap.old a number) heap.old result heap.new }
+    ensures answers { Answers (in_holder Holder.ArrayObject heap.old a number) heap.old result heap.new }
+    ensures grows { Grows heap.old heap.new }
 {
     match a {
         Value::Num(key) => number_in_array(heap, key, number),
@@ -216,12 +154,6 @@ fn number_in_array(heap: &Heap, key: Whole, number: u32) -> OpDone
     }
 }
 
-fn is_index(key: i64) -> bool
-    ensures { result ≡ is_index key }
-{
-    0 <= key && key <= GREATEST_INDEX
-}
-
 fn in_array(heap: &Heap, number: u32, name: Span) -> OpDone
     ensures { Answers (in_array heap.now number name) heap.now result heap.now }
 {
@@ -233,35 +165,4 @@ fn in_array(heap: &Heap, number: u32, name: Span) -> OpDone
             OpDone::Fault(Fault::NotInProfile)
         },
     }
-}
-
-// The index whose decimal numeral the name is.
-fn index_of(heap: &Heap, name: Span) -> Option<u32>
-    ensures { result ≡ index_of heap.now.pool name }
-{
-    match to_number(heap, Value::Text(name)) {
-        Ok(number) => index_if(heap.pool().get(name), number),
-        Err(_) => None,
-    }
-}
-
-fn index_if(name: &[u16], number: Numeral) -> Option<u32>
-    ensures { result ≡ index_if name.now (Ok number) }
-{
-    match number {
-        Numeral::Num(whole) => if is_index(whole.get()) && is_numeral(name, whole) {
-            Some(whole.get() as u32)
-        } else {
-            None
-        },
-        Numeral::NaN => None,
-    }
-}
-
-fn is_numeral(name: &[u16], number: Whole) -> bool
-    ensures { result ≡ pointwise nat_eq name.now (signed_decimal number) }
-{
-    let mut room = [0; 17];
-    let count = text_of_whole(number, &mut room);
-    name == &room[..count]
 }

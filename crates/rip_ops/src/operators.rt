@@ -1,8 +1,9 @@
 ghost use Rattle.std.specs.Prelude.{◌≡◌};
+ghost use Rattle.rip_heap.specs.Growth.{Grows};
 ghost use Rattle.rip_ops.specs.Numbers.{of_numbers, of_number};
 ghost use Rattle.rip_ops.specs.Arithmetic.{negative, bits_not};
 ghost use Rattle.rip_ops.specs.Operators.{binary, unary, calculated};
-ghost use Rattle.rip_ops.specs.Outcome.{Answers};
+ghost use Rattle.rip_heap.specs.Outcome.{Answers};
 
 use crate::addition::added;
 use crate::arithmetic::{
@@ -31,7 +32,8 @@ pub enum UnaryOp {
 /// What the operator answers of these operands, and the heap after it. An answer other than a value leaves the heap as
 /// it was, and memory is never wanting.
 pub fn binary(alloc: Global, heap: &mut Heap, op: BinaryOperator, a: Value, b: Value) -> OpDone
-    ensures { Answers (binary heap.old op a b) heap.old result heap.new }
+    ensures answers { Answers (binary heap.old op a b) heap.old result heap.new }
+    ensures grows { Grows heap.old heap.new }
 {
     match op {
         BinaryOperator::Add => added(alloc, heap, a, b),
@@ -60,7 +62,8 @@ pub fn binary(alloc: Global, heap: &mut Heap, op: BinaryOperator, a: Value, b: V
 
 /// What the operator answers of this operand. The heap stays as it is.
 pub fn unary(alloc: Global, heap: &mut Heap, op: UnaryOp, a: Value) -> OpDone
-    ensures { Answers (unary heap.old op a) heap.old result heap.new }
+    ensures answers { Answers (unary heap.old op a) heap.old result heap.new }
+    ensures grows { Grows heap.old heap.new }
 {
     let _ = alloc;
     match op {

@@ -1,5 +1,5 @@
 ghost use Rattle.std.specs.Prelude.{◌≡◌};
-ghost use Rattle.rip_ops.specs.Outcome.{Answers, number_or_fault, truth_or_fault, value_of};
+ghost use Rattle.rip_heap.specs.Outcome.{Answers, number_or_fault, truth_or_fault, value_of};
 
 use rip_heap::{Heap, OpDone};
 use rip_values::{Fault, Numeral, Value};

@@ -8,7 +8,7 @@ use Rattle.rip_heap.specs.declared.outcome.OpDone.{OpDone}
 use Rattle.rip_heap.specs.World.{World}
 use Rattle.rip_ops.specs.Numbers.{of_numbers}
 use Rattle.rip_ops.specs.Operators.{binary, calculated}
-use Rattle.rip_ops.specs.Outcome.{Answers, number_or_fault}
+use Rattle.rip_heap.specs.Outcome.{Answers, number_or_fault}
 use Rattle.rip_ops.proofs.operators.binary.Goals as goal
 
 -- what an operator of numbers answers is what its row says
@@ -59,5 +59,5 @@ row op (inr (inr (inr (inr (inr (inr (inr (inl e)))))))) = subst Row (sym e) bit
 row op (inr (inr (inr (inr (inr (inr (inr (inr (inl e))))))))) = subst Row (sym e) bit_xor
 row op (inr (inr (inr (inr (inr (inr (inr (inr (inr e))))))))) = subst Row (sym e) bit_or
 
-pub returns-in-Multiply : goal.returns-in-Multiply
-returns-in-Multiply c = row c.args.op c.in-Multiply.is c.args.heap.now c.args.a c.args.b c.of_numbers.result c.number_done.result c.of_numbers.ensures c.number_done.ensures
+pub returns-in-Multiply-clause-answers : goal.returns-in-Multiply-clause-answers
+returns-in-Multiply-clause-answers c = row c.args.op c.in-Multiply.is c.args.heap.now c.args.a c.args.b c.of_numbers.result c.number_done.result c.of_numbers.ensures c.number_done.ensures
