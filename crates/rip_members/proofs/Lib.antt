@@ -1,0 +1,4 @@
+pub mod BuiltinLemmas
+pub mod ObjectLemmas
+pub mod PlainLemmas
+pub mod ArrayLemmas

@@ -1,0 +1,7 @@
+pub mod Base
+pub mod Calls
+pub mod Deleting
+pub mod Keys
+pub mod Laws
+pub mod Reading
+pub mod Writing
