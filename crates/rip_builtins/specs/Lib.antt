@@ -1,0 +1,14 @@
+pub mod Arguments
+pub mod Arrays
+pub mod Borders
+pub mod Builtins
+pub mod Errors
+pub mod Globals
+pub mod Joining
+pub mod Laws
+pub mod Numbers
+pub mod OwnProperties
+pub mod ParseInt
+pub mod Receivers
+pub mod Search
+pub mod Texts

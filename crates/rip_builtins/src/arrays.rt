@@ -1,0 +1,171 @@
+ghost use Rattle.std.specs.Prelude.{◌≡◌, ◌+◌, ◌^◌, ◌<◌, ◌≤◌, IfOk, OnOk, length, nat_le, true, Ok, false, slice_get, slice_range};
+ghost use Rattle.std.specs.Option.{option_map_or};
+ghost use Rattle.rip_values.specs.declared.value.Value.{Value};
+ghost use Rattle.rip_heap.specs.Conversions.{strictly_equal};
+ghost use Rattle.rip_heap.specs.Arrays.{elements_at, new_array};
+ghost use Rattle.rip_heap.specs.Growth.{Grows};
+ghost use Rattle.rip_heap.specs.Outcome.{Answers, AnswersOrLacks};
+ghost use Rattle.rip_builtins.specs.Arguments.{value_or_fault, object_or_limit};
+ghost use Rattle.rip_builtins.specs.Arrays.{push, pop, slice, slice_between, index_of, index_in, place_from_end, place_or_none, place_of_value, first_equal, with_more};
+ghost use Rattle.rip_heap.specs.World.{paid, is_array, class_of, object_at};
+
+use crate::arguments::{argument, count_value, integer_of};
+use crate::texts::end_of;
+use rip_heap::{Heap, OpDone, strictly_equal};
+use rip_values::{Fault, Limit, NoMemory, Refused, Value, Whole};
+use std::alloc::Global;
+
+// `push` (ECMA-262 15.4.4.7).
+pub fn push(alloc: Global, heap: &mut Heap, array: u32, args: &[Value]) -> OpDone
+    requires { is_array (class_of (object_at heap.old array)) ≡ true }
+    ensures answers { AnswersOrLacks (push heap.old array args.now) heap.old result heap.new }
+    ensures grows { Grows heap.old heap.new }
+{
+    if args.len() > heap.free_cells() as usize {
+        return OpDone::Limit(Limit::Cells);
+    }
+    match push_all(alloc, heap, array, args) {
+        Ok(()) => OpDone::Value(count_value(heap.count(array))),
+        Err(_) => OpDone::Memory,
+    }
+}
+
+// Puts the values behind the elements of the array, for which there are cells.
+fn push_all(alloc: Global, heap: &mut Heap, array: u32, args: &[Value]) -> Result<(), Refused>
+    requires array { is_array (class_of (object_at heap.old array)) ≡ true }
+    requires room { heap.old.cells + length args.now ≤ heap.old.limit }
+    ensures pushed { OnOk result (heap.new ≡ with_more (paid (length args.now) heap.old) array args.now) }
+    ensures grows { Grows heap.old heap.new }
+{
+    for v in args {
+        heap.push_item(alloc, array, *v)?;
+    }
+    Ok(())
+}
+
+// `pop` (ECMA-262 15.4.4.6).
+pub fn pop(heap: &mut Heap, array: u32) -> OpDone
+    ensures answers { Answers (pop heap.old array) heap.old result heap.new }
+    ensures grows { Grows heap.old heap.new }
+{
+    OpDone::Value(heap.pop_item(array).unwrap_or(Value::Undefined))
+}
+
+// `slice` (ECMA-262 15.4.4.10).
+pub fn slice(alloc: Global, heap: &mut Heap, array: u32, args: &[Value]) -> OpDone
+    ensures answers { AnswersOrLacks (slice heap.old array args.now) heap.old result heap.new }
+    ensures grows { Grows heap.old heap.new }
+{
+    match integer_of(heap, argument(args, 0)) {
+        Ok(a) => match end_of(heap, heap.count(array) as usize, argument(args, 1)) {
+            Ok(b) => slice_between(alloc, heap, array, a, b),
+            Err(fault) => OpDone::Fault(fault),
+        },
+        Err(fault) => OpDone::Fault(fault),
+    }
+}
+
+// A new array of the elements between two places.
+fn slice_between(alloc: Global, heap: &mut Heap, array: u32, a: i64, b: i64) -> OpDone
+    ensures answers { AnswersOrLacks (slice_between heap.old (elements_at heap.old array) a b) heap.old result heap.new }
+    ensures grows { Grows heap.old heap.new }
+{
+    let count = heap.count(array);
+    let from = place_from_end(count, a);
+    let to = place_from_end(count, b);
+    match elements(alloc, heap, array, from, to) {
+        Ok(items) => match heap.new_array(alloc, &items) {
+            Ok(made) => OpDone::Value(Value::Object(made)),
+            Err(Refused::Limit(limit)) => OpDone::Limit(limit),
+            Err(Refused::Memory) => OpDone::Memory,
+        },
+        Err(NoMemory) => OpDone::Memory,
+    }
+}
+
+// The place in a list of so many, which negative integers count from its end.
+fn place_from_end(count: u32, place: i64) -> u32
+    ensures place { result ≡ place_from_end count place }
+    ensures within { result ≤ count }
+{
+    if place >= 0 {
+        place.min(i64::from(count)) as u32
+    } else {
+        (i64::from(count) + place.max(-i64::from(count))) as u32
+    }
+}
+
+// The elements of the array from one place up to another.
+pub fn elements(
+    alloc: Global,
+    heap: &Heap,
+    array: u32,
+    from: u32,
+    to: u32,
+) -> Result<Vec<Value>, NoMemory>
+    requires { to ≤ length (elements_at heap.now array) }
+    ensures { IfOk result (λ items. items.items ≡ slice_range (elements_at heap.now array) from to) }
+{
+    let mut items = Vec::new(alloc);
+    for place in from..to {
+        items.push(heap.item(array, place).unwrap_or(Value::Undefined))?;
+    }
+    Ok(items)
+}
+
+// `indexOf` (ECMA-262 15.4.4.14).
+pub fn index_of(heap: &Heap, array: u32, args: &[Value]) -> OpDone
+    ensures { Answers (index_of heap.now array args.now) heap.now result heap.now }
+{
+    let count = heap.count(array);
+    if count == 0 {
+        return OpDone::Value(place_or_none(None));
+    }
+    match integer_of(heap, argument(args, 1)) {
+        Ok(from) => OpDone::Value(place_of_value(heap, array, argument(args, 0), from)),
+        Err(fault) => OpDone::Fault(fault),
+    }
+}
+
+// Where the value stands from an integer on.
+fn place_of_value(heap: &Heap, array: u32, v: Value, from: i64) -> Value
+    ensures { result ≡ place_of_value heap.now.pool v (elements_at heap.now array) from }
+{
+    let start = place_from_end(heap.count(array), from);
+    place_or_none(first_equal(heap, array, v, start))
+}
+
+// The place as a value, or -1 where there is none.
+pub fn place_or_none(place: Option<u32>) -> Value
+    ensures { result ≡ place_or_none place }
+{
+    match place {
+        Some(place) => count_value(place),
+        None => match Whole::new(-1) {
+            Some(whole) => Value::Num(whole),
+            None => Value::NaN,
+        },
+    }
+}
+
+// The first place from this one on at which the value stands.
+fn first_equal(heap: &Heap, array: u32, v: Value, from: u32) -> Option<u32>
+    ensures { result ≡ first_equal heap.now.pool v (elements_at heap.now array) from }
+{
+    for place in from..heap.count(array) {
+        if is_equal_at(heap, array, &v, place) {
+            return Some(place);
+        }
+    }
+    None
+}
+
+// Whether the value stands at this place.
+fn is_equal_at(heap: &Heap, array: u32, v: &Value, place: u32) -> bool
+    ensures { result ≡ option_map_or (strictly_equal heap.now.pool v.now) (slice_get (elements_at heap.now array) place) false }
+{
+    match heap.item(array, place) {
+        Some(item) => strictly_equal(heap, *v, item),
+        None => false,
+    }
+}

@@ -1,0 +1,123 @@
+ghost use Rattle.std.specs.Prelude.{◌≡◌};
+ghost use Rattle.rip_heap.specs.Growth.{Grows};
+ghost use Rattle.rip_heap.specs.Outcome.{AnswersOrLacks};
+ghost use Rattle.rip_builtins.specs.Builtins.{builtin, array_function, text_function};
+ghost use Rattle.rip_builtins.specs.Receivers.{array_of, text_of, on};
+
+use crate::arrays::{index_of, pop, push, slice};
+use crate::errors::error;
+use crate::globals::string;
+use crate::joining::join;
+use crate::numbers::{Extreme, is_nan, math_abs, math_extreme, math_floor, number};
+use crate::own_properties::has_own_property;
+use crate::parse_int::parse_int;
+use crate::receivers::{array_of, refused, text_of};
+use crate::text_search::place_of;
+use crate::texts::{char_at, char_code_at, substring};
+use rip_heap::{Class, Heap, OpDone};
+use rip_values::{Builtin, Fault, Value};
+use std::alloc::Global;
+
+/// The functions of arrays.
+#[derive(Clone, Copy, Debug, PartialEq, Eq)]
+pub enum ArrayFunction {
+    Push,
+    Pop,
+    Slice,
+    IndexOf,
+    Join,
+}
+
+/// The functions of texts. `PlaceOf` is `indexOf`.
+#[derive(Clone, Copy, Debug, PartialEq, Eq)]
+pub enum TextFunction {
+    CharAt,
+    CharCodeAt,
+    Substring,
+    PlaceOf,
+}
+
+/// What a built-in function answers where it is called on `this` with these arguments (ECMA-262 15). An answer other
+/// than a value leaves the heap as it was; of the heap at want of memory nothing is said. What is no function of
+/// this table is outside the profile here: the objects among the built-ins, and the functions of `ripley`, the
+/// document, nodes and events, which others answer.
+pub fn builtin(
+    alloc: Global,
+    heap: &mut Heap,
+    which: Builtin,
+    this: Value,
+    args: &[Value],
+) -> OpDone
+    ensures answers { AnswersOrLacks (builtin heap.old which this args.now) heap.old result heap.new }
+    ensures grows { Grows heap.old heap.new }
+{
+    match which {
+        Builtin::ParseInt => parse_int(alloc, heap, args),
+        Builtin::IsNaN => is_nan(heap, args),
+        Builtin::String => string(alloc, heap, args),
+        Builtin::Number => number(heap, args),
+        Builtin::Error => error(alloc, heap, Class::Error, args),
+        Builtin::TypeError => error(alloc, heap, Class::TypeError, args),
+        Builtin::RangeError => error(alloc, heap, Class::RangeError, args),
+        Builtin::MathAbs => math_abs(heap, args),
+        Builtin::MathFloor => math_floor(heap, args),
+        Builtin::MathMin => math_extreme(Extreme::Least, heap, args),
+        Builtin::MathMax => math_extreme(Extreme::Greatest, heap, args),
+        Builtin::HasOwnProperty => has_own_property(alloc, heap, this, args),
+        Builtin::ArrayPush => on_array(alloc, heap, ArrayFunction::Push, this, args),
+        Builtin::ArrayPop => on_array(alloc, heap, ArrayFunction::Pop, this, args),
+        Builtin::ArraySlice => on_array(alloc, heap, ArrayFunction::Slice, this, args),
+        Builtin::ArrayIndexOf => on_array(alloc, heap, ArrayFunction::IndexOf, this, args),
+        Builtin::ArrayJoin => on_array(alloc, heap, ArrayFunction::Join, this, args),
+        Builtin::TextCharAt => on_text(alloc, heap, TextFunction::CharAt, this, args),
+        Builtin::TextCharCodeAt => on_text(alloc, heap, TextFunction::CharCodeAt, this, args),
+        Builtin::TextSubstring => on_text(alloc, heap, TextFunction::Substring, this, args),
+        Builtin::TextIndexOf => on_text(alloc, heap, TextFunction::PlaceOf, this, args),
+        _ => OpDone::Fault(Fault::NotInProfile),
+    }
+}
+
+// A function of arrays, called on a value that may be none.
+fn on_array(
+    alloc: Global,
+    heap: &mut Heap,
+    function: ArrayFunction,
+    this: Value,
+    args: &[Value],
+) -> OpDone
+    ensures answers { AnswersOrLacks (on (array_of heap.old this) (λ array. array_function function heap.old array args.now)) heap.old result heap.new }
+    ensures grows { Grows heap.old heap.new }
+{
+    match array_of(heap, this) {
+        Ok(array) => match function {
+            ArrayFunction::Push => push(alloc, heap, array, args),
+            ArrayFunction::Pop => pop(heap, array),
+            ArrayFunction::Slice => slice(alloc, heap, array, args),
+            ArrayFunction::IndexOf => index_of(heap, array, args),
+            ArrayFunction::Join => join(alloc, heap, array, args),
+        },
+        Err(reason) => refused(heap, reason),
+    }
+}
+
+// A function of texts, called on a value that may be none.
+fn on_text(
+    alloc: Global,
+    heap: &mut Heap,
+    function: TextFunction,
+    this: Value,
+    args: &[Value],
+) -> OpDone
+    ensures answers { AnswersOrLacks (on (text_of this) (λ text. text_function function heap.old text args.now)) heap.old result heap.new }
+    ensures grows { Grows heap.old heap.new }
+{
+    match text_of(this) {
+        Ok(text) => match function {
+            TextFunction::CharAt => char_at(heap, text, args),
+            TextFunction::CharCodeAt => char_code_at(heap, text, args),
+            TextFunction::Substring => substring(heap, text, args),
+            TextFunction::PlaceOf => place_of(alloc, heap, text, args),
+        },
+        Err(reason) => refused(heap, reason),
+    }
+}

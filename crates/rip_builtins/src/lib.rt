@@ -1,0 +1,53 @@
+//! The built-in functions of the script language (ECMA-262 5.1, section 15), over the heap of a session.
+//!
+//! [`builtin`] answers a call of one of them on a value with some arguments. Contracts see an outcome over worlds: a
+//! value with the world after it, a TypeError to be thrown, a fault of the profile, or a limit that would be passed.
+//! Each answer comes exactly where the outcome is that one (`Outcome.AnswersOrLacks` of the heap's crate); where it is
+//! no value the heap is as before, what was charged on the way included. Of the heap at want of memory nothing is said.
+//!
+//! Arguments that are absent are undefined. They are converted in the order of the standard, and the receiver of a
+//! function of arrays or texts is judged before them. Numbers are whole numbers of at most 2^53 - 1, or NaN. Texts are
+//! read as they stand before the call.
+//!
+//! | what | its definition in `specs/` |
+//! |---|---|
+//! | [`builtin`] | `Builtins.builtin`: the table, one equation for each built-in |
+//! | the receivers of functions of arrays and texts | `Receivers.on` |
+//! | `Math.abs` `Math.floor` `Math.min` `Math.max`, `isNaN`, `Number` | `Numbers` |
+//! | `String` | `Globals` |
+//! | `parseInt` | `ParseInt.parse_int`; `ParseInt.integer_at_start` of a text |
+//! | `Error` `TypeError` `RangeError` | `Errors.error_call` |
+//! | `push` `pop` `slice` `indexOf` of arrays | `Arrays` |
+//! | `join` | `Joining.join`; `Joining.joined_by` of texts |
+//! | `charAt` `charCodeAt` `substring` | `Texts` |
+//! | `indexOf` of texts | `Search.text_index_of`; `Laws.FindsFirstPlaces`, the law of [`texts_are_found_first`] |
+//! | `hasOwnProperty` | `OwnProperties.has_own_property` |
+//!
+//! What is no function of this table is outside the profile here: the objects `Math` and `ripley`, `call` of script
+//! functions, and the functions of `ripley`, the document, nodes and events, which layers above answer.
+//!
+//! A layer above may rest on this: each call is total, a number that is no object of the heap included, and takes time
+//! linear in the arguments, the array and the texts that it reads.
+#![tactic(auto)]
+
+mod arguments;
+mod arrays;
+mod builtins;
+mod errors;
+mod globals;
+mod joining;
+mod laws;
+mod numbers;
+mod numerals;
+mod outcome;
+mod own_properties;
+mod parse_int;
+mod receivers;
+mod search;
+#[cfg(test)]
+mod tests;
+mod text_search;
+mod texts;
+
+pub use builtins::builtin;
+pub use laws::texts_are_found_first;
