@@ -1,0 +1,10 @@
+pub mod Beginnings
+pub mod Children
+pub mod Clauses
+pub mod Filling
+pub mod Loads
+pub mod Resumes
+pub mod Scopes
+pub mod StepLaws
+pub mod TextsStand
+pub mod Vars

@@ -1,0 +1,111 @@
+-- From the steps of a call to what `resume` promises.
+use Rattle.std.proofs.Common.{◌≡◌, ℕ, ◌+◌, ◌-◌, ◌<◌, ◌≤◌, min, Bool, true, false, nat_lt, nat_le, List, [], refl, ap, sym, ◌∙◌, arith}
+use Rattle.std.proofs.lemmas.Bool.{ltb-true, ltb-false, le-leb, leb-false, leb-true}
+use Rattle.rip_values.specs.declared.value.Limit.TheVariants.{Fuel}
+use Rattle.rip_heap.specs.World.{World}
+use Rattle.rip_frames.specs.declared.completion.Completion.{Completion}
+use Rattle.rip_frames.specs.declared.completion.Completion.TheVariants.{Normal, Thrown, Returned, Broken, Continued, Referred, Method}
+use Rattle.rip_frames.specs.declared.completion.Stop.{Stop}
+use Rattle.rip_frames.specs.declared.completion.Stop.TheVariants.{Fault as AtFault, Limit as AtLimit}
+use Rattle.rip_frames.specs.declared.next.Control.{Control}
+use Rattle.rip_frames.specs.declared.next.Control.TheVariants.{Enter, Give, Halted}
+use Rattle.rip_frames.specs.declared.part.Part.{Part}
+use Rattle.rip_frames.specs.Cut.{capped, conclude, run_of}
+use Rattle.rip_frames.specs.Rest.{control_of, rest, unwind}
+use Rattle.rip_frames.specs.Row.{Row, Table}
+use Rattle.rip_frames.specs.Run.{Completes, Stops, Cuts, Calling, run}
+use Rattle.rip_frames.specs.Stack.{Open}
+use Rattle.rip_frames.proofs.Laws.{rest-next, unwind-stops, unwind-cuts}
+use Rattle.rip_machine.specs.Law.{Begins, Standing, Stands, Resumes, end_of, left, turned_of}
+
+conclude_completes : {S : Type 0} (b : Bool) (c : Completion) (u : ℕ) (w : World) (s : S) → conclude b (Completes c u w s) ≡ Completes c u w s
+conclude_completes true c u w s = refl
+conclude_completes false c u w s = refl
+
+conclude_stops : {S : Type 0} (b : Bool) (stop : Stop) (u : ℕ) (w : World) (s : S) → conclude b (Stops stop u w s) ≡ Stops stop u w s
+conclude_stops true stop u w s = refl
+conclude_stops false stop u w s = refl
+
+not_leb : (a b : ℕ) (t : Bool) → nat_le a b ≡ t → b < a → nat_le a b ≡ false
+not_leb a b true e h = absurd (let g = leb-true a b e in omega arith)
+not_leb a b false e h = e
+
+same_leb : (a b c d : ℕ) (t : Bool) → nat_le a b ≡ t → (a ≤ b → c ≤ d) → (b < a → d < c) → nat_le a b ≡ nat_le c d
+same_leb a b c d true e f g = e ∙ sym (le-leb c d (f (leb-true a b e)))
+same_leb a b c d false e f g = e ∙ sym (not_leb c d (nat_le c d) refl (g (leb-false a b e)))
+
+-- the rest where a completion meets no frame
+rest_of_give : {S : Type 0} (h : Calling S) (t : Table) (c : Completion) (frames : List Open) (u : ℕ) (w : World) (s : S) → frames ≡ [] → rest h t (Give c) frames u w s ≡ Completes c u w s
+unfolding rest unwind
+rest_of_give h t c frames u w s e = ap (λ fs. rest h t (Give c) fs u w s) e
+
+rest_of_halt : {S : Type 0} (h : Calling S) (t : Table) (stop : Stop) (room : ℕ) (frames : List Open) (u : ℕ) (w : World) (s : S) → rest h t (Halted stop room) frames u w s ≡ Stops stop u w s
+unfolding rest
+rest_of_halt h t stop room frames u w s = unwind-stops h t frames stop u w s
+
+rest_of_cut : {S : Type 0} (h : Calling S) (t : Table) (part : Part) (frames : List Open) (w : World) (s : S) → rest h t (Enter part) frames 0 w s ≡ Cuts w s
+unfolding rest
+rest_of_cut h t part frames w s = unwind-cuts h t frames w s
+
+-- a run that has completed
+ends_give : {S : Type 0} (h : Calling S) (t : Table) (m n : Standing) (w x : World) (s r : S) (k u : ℕ) (c : Completion)
+    → left h t m w s k ≡ Completes c u x r → n.spent + u ≡ m.spent + min k m.fuel → Resumes h t m w s k n x r (turned_of (Give c) true)
+ends_give h t m n w x s r k u (Normal v) e p = (u, ap end_of e, p)
+ends_give h t m n w x s r k u (Thrown v) e p = (u, ap end_of e, p)
+ends_give h t m n w x s r k u (Returned v) e p = (u, ap end_of e, p)
+ends_give h t m n w x s r k u Broken e p = (u, ap end_of e, p)
+ends_give h t m n w x s r k u Continued e p = (u, ap end_of e, p)
+ends_give h t m n w x s r k u (Referred target) e p = (u, ap end_of e, p)
+ends_give h t m n w x s r k u (Method f this) e p = (u, ap end_of e, p)
+
+ends_halt : {S : Type 0} (h : Calling S) (t : Table) (m n : Standing) (w x : World) (s r : S) (k u room : ℕ) (stop : Stop)
+    → left h t m w s k ≡ Stops stop u x r → n.spent + u ≡ m.spent + min k m.fuel → Resumes h t m w s k n x r (turned_of (Halted stop room) true)
+ends_halt h t m n w x s r k u room (AtFault fault) e p = (u, ap end_of e, p)
+ends_halt h t m n w x s r k u room (AtLimit limit) e p = (u, ap end_of e, p)
+
+-- what is left after a cut is what was left, later
+resumes_later : {S : Type 0} (h : Calling S) (t : Table) (m n : Standing) (w x : World) (s r : S) (k u j : ℕ) (c : Control)
+    → k < m.fuel → u ≡ 0 → ((j : ℕ) → rest h t c n.frames (u + j) x r ≡ rest h t m.control m.frames (min k m.fuel + j) w s)
+    → n.control ≡ c → n.fuel ≡ m.fuel - k → left h t n x r j ≡ left h t m w s (k + j)
+resumes_later h t m n w x s r k u j c less none e control fuel =
+    let i : ℕ = min n.fuel j in
+    ap (λ d. conclude (nat_le n.fuel j) (rest h t d n.frames i x r)) control
+    ∙ ap (λ q. conclude (nat_le n.fuel j) (rest h t c n.frames q x r)) (omega arith)
+    ∙ ap (conclude (nat_le n.fuel j)) (e i)
+    ∙ ap (λ b. conclude b (rest h t m.control m.frames (min k m.fuel + i) w s)) (same_leb n.fuel j m.fuel (k + j) (nat_le n.fuel j) refl (λ a. omega arith) (λ a. omega arith))
+    ∙ ap (λ q. conclude (nat_le m.fuel (k + j)) (rest h t m.control m.frames q w s)) (omega arith)
+
+-- the law, from what the steps of a call leave
+pub resumes : {S : Type 0} (h : Calling S) (t : Table) (m n : Standing) (w x : World) (s r : S) (k u : ℕ) (c : Control) (more : Bool)
+    → ((j : ℕ) → rest h t c n.frames (u + j) x r ≡ rest h t m.control m.frames (min k m.fuel + j) w s)
+    → Stands c n.frames u → u ≤ min k m.fuel → n.control ≡ c → n.fuel ≡ m.fuel - (min k m.fuel - u) → n.spent ≡ m.spent + (min k m.fuel - u) → nat_lt k m.fuel ≡ more
+    → Resumes h t m w s k n x r (turned_of c more)
+resumes h t m n w x s r k u (Give c) more e stands within control fuel spent lt =
+    let a : rest h t m.control m.frames (min m.fuel k) w s ≡ Completes c u x r =
+    ap (λ j. rest h t m.control m.frames j w s) (omega arith) ∙ sym (e 0) ∙ ap (λ j. rest h t (Give c) n.frames j x r) (omega arith) ∙ rest_of_give h t c n.frames u x r stands in
+    ends_give h t m n w x s r k u c (ap (conclude (nat_le m.fuel k)) a ∙ conclude_completes (nat_le m.fuel k) c u x r) (omega arith)
+resumes h t m n w x s r k u (Halted stop room) more e stands within control fuel spent lt =
+    let a : rest h t m.control m.frames (min m.fuel k) w s ≡ Stops stop u x r =
+    ap (λ j. rest h t m.control m.frames j w s) (omega arith) ∙ sym (e 0) ∙ ap (λ j. rest h t (Halted stop room) n.frames j x r) (omega arith) ∙ rest_of_halt h t stop room n.frames u x r in
+    ends_halt h t m n w x s r k u room stop (ap (conclude (nat_le m.fuel k)) a ∙ conclude_stops (nat_le m.fuel k) stop u x r) (omega arith)
+resumes h t m n w x s r k u (Enter part) false e stands within control fuel spent lt =
+    let le : m.fuel ≤ k = ltb-false k m.fuel lt in
+    let a : rest h t m.control m.frames (min m.fuel k) w s ≡ Cuts x r =
+    ap (λ j. rest h t m.control m.frames j w s) (omega arith) ∙ sym (e 0) ∙ ap (λ j. rest h t (Enter part) n.frames j x r) (omega arith) ∙ rest_of_cut h t part n.frames x r in
+    let b : left h t m w s k ≡ Stops (AtLimit Fuel) 0 x r = ap (λ b. conclude b (rest h t m.control m.frames (min m.fuel k) w s)) (le-leb m.fuel k le) ∙ ap (conclude true) a in
+    (0, ap end_of b, omega arith)
+resumes h t m n w x s r k u (Enter part) true e stands within control fuel spent lt =
+    let less : k < m.fuel = ltb-true k m.fuel lt in
+    let a : rest h t m.control m.frames (min m.fuel k) w s ≡ Cuts x r =
+    ap (λ j. rest h t m.control m.frames j w s) (omega arith) ∙ sym (e 0) ∙ ap (λ j. rest h t (Enter part) n.frames j x r) (omega arith) ∙ rest_of_cut h t part n.frames x r in
+    let b : left h t m w s k ≡ Cuts x r = ap (λ b. conclude b (rest h t m.control m.frames (min m.fuel k) w s)) (not_leb m.fuel k (nat_le m.fuel k) refl less) ∙ a in
+    (b, λ j. resumes_later h t m n w x s r k u j (Enter part) less stands e control (omega arith), omega arith)
+
+-- what is left of a run that begins is the whole run
+pub begins_whole : {S : Type 0} (h : Calling S) (t : Table) (row : Row) (fuel : ℕ) (w : World) (s : S) (m : Standing) → Begins t row fuel w m → (k : ℕ) → left h t m w s k ≡ run_of h t row s fuel k
+unfolding unwind
+begins_whole h t row fuel w s m b k =
+    let all : rest h t m.control m.frames (min m.fuel k) w s ≡ run h t row (min m.fuel k) s =
+    ap (λ c. rest h t c m.frames (min m.fuel k) w s) b.0.2 ∙ ap (λ fs. rest h t (control_of m.depth b.0.0) fs (min m.fuel k) w s) b.0.3
+    ∙ sym (rest-next h t m.depth b.0.0 [] [] (min m.fuel k) w s) ∙ ap (λ r. run h t r (min m.fuel k) s) b.0.1 in
+    ap (conclude (nat_le m.fuel k)) all ∙ ap (λ n. capped n (λ u. run h t row u s) k) b.1

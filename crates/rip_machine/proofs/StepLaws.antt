@@ -1,0 +1,71 @@
+-- What one step leaves of a run.
+use Rattle.std.proofs.Common.{◌≡◌, ℕ, ◌+◌, ◌*◌, ◌<◌, ◌≤◌, List, [], ◌∷◌, ◌++◌, length, Result, Ok, Err, IfOk, OnOk, refl, ap, sym, ◌∙◌, arith, add-one, append-nil}
+use Rattle.std.proofs.lemmas.List.{length_push}
+use Rattle.rip_values.specs.declared.value.Value.{Value}
+use Rattle.rip_heap.specs.World.{World}
+use Rattle.rip_frames.specs.declared.completion.Completion.{Completion}
+use Rattle.rip_frames.specs.declared.next.Control.{Control}
+use Rattle.rip_frames.specs.declared.next.Control.TheVariants.{Enter, Give}
+use Rattle.rip_frames.specs.declared.next.Next.{Next}
+use Rattle.rip_frames.specs.declared.next.Next.TheVariants.{End, Halt, Ask, Keep, Turn}
+use Rattle.rip_frames.specs.declared.part.Part.{Part}
+use Rattle.rip_frames.specs.Rest.{as_row, control_of, frame_of, rest, unwind}
+use Rattle.rip_frames.specs.Row.{Row, Table, entered}
+use Rattle.rip_frames.specs.Run.{Calling, run}
+use Rattle.rip_frames.specs.Stack.{Open}
+use Rattle.rip_frames.specs.Settle.{settle}
+use Rattle.rip_frames.proofs.Laws.{rest-next, rest-enters, rest-gives}
+use Rattle.rip_frames.proofs.Settles.{run-settles}
+use Rattle.rip_machine.specs.Law.{StopsWith, weight}
+
+-- two facts of the value of an answer
+pub ok_both : {T E : Type 0} (r : Result T E) (P Q : T → Type 0) (F : Type 0) → IfOk r P → OnOk r F → ((x : T) → P x → F → Q x) → IfOk r Q
+ok_both (Ok x) P Q F p f go = go x p f
+ok_both (Err e) P Q F p f go = tt
+
+-- after a part was entered
+pub enter_rest : {S : Type 0} (h : Calling S) (t : Table) (room : ℕ) (part : Part) (next : Next) (os frames : List Open) (control : Control) (w x : World) (s : S) (u : ℕ)
+    → ((values : List Value) → as_row t next values x ≡ entered t part w) → control ≡ control_of room next → frames ≡ os ++ frame_of next []
+    → rest h t control frames u x s ≡ rest h t (Enter part) os (u + 1) w s
+enter_rest h t room part next os frames control w x s u row c f =
+    ap (λ d. rest h t d frames u x s) c ∙ ap (λ fs. rest h t (control_of room next) fs u x s) f
+    ∙ sym (rest-next h t room next [] os u x s) ∙ ap (λ r. unwind h t os (run h t r u s)) (row []) ∙ sym (rest-enters h t part os u w s)
+    ∙ ap (λ n. rest h t (Enter part) os n w s) (sym (add-one u))
+
+-- after a completion was given to the innermost frame, and the host was asked
+pub give_rest : {S : Type 0} (h : Calling S) (t : Table) (room : ℕ) (c : Completion) (next : Next) (below os frames : List Open) (o : Open) (control : Control) (w x : World) (s r : S) (u : ℕ)
+    → (as_row t next o.values x, r) ≡ settle h (t.rest o c w) s → os ≡ below ++ o ∷ [] → control ≡ control_of room next → frames ≡ below ++ frame_of next o.values
+    → rest h t control frames u x r ≡ rest h t (Give c) os u w s
+give_rest {S = S} h t room c next below os frames o control w x s r u row is d f =
+    ap (λ e. rest h t e frames u x r) d ∙ ap (λ fs. rest h t (control_of room next) fs u x r) f
+    ∙ sym (rest-next h t room next o.values below u x r) ∙ ap (λ (after : Row × S). unwind h t below (run h t after.0 u after.1)) row
+    ∙ ap (unwind h t below) (run-settles h t (t.rest o c w) u s) ∙ sym (rest-gives h t c below o u w s)
+    ∙ ap (λ fs. rest h t (Give c) fs u w s) (sym is)
+
+next_weight : (room : ℕ) (next : Next) (values : List Value) (os : List Open) → weight (control_of room next) (os ++ frame_of next values) ≤ 2 * length os + 2
+next_weight room (End c) values os = rw append-nil (omega arith)
+next_weight room (Halt stop) values os = rw append-nil (omega arith)
+next_weight room (Ask part frame) values os = omega (arith, length_push os (record { frame = frame; values = [] }))
+next_weight room (Keep part frame v) values os = omega (arith, length_push os (record { frame = frame; values = values ++ v ∷ [] }))
+next_weight room (Turn part frame) values os = omega (arith, length_push os (record { frame = frame; values = [] }))
+
+pub enter_weight : (room : ℕ) (next : Next) (os frames : List Open) (control : Control) → control ≡ control_of room next → frames ≡ os ++ frame_of next [] → weight control frames ≤ 2 * length os + 2
+enter_weight room next os frames control c f = rw (c, f) (next_weight room next [] os)
+
+pub give_weight : (room : ℕ) (c : Completion) (next : Next) (values : List Value) (below os frames : List Open) (o : Open) (control : Control) → os ≡ below ++ o ∷ [] → control ≡ control_of room next
+    → frames ≡ below ++ frame_of next values → weight control frames < weight (Give c) os
+give_weight room c next values below os frames o control is d f =
+    let n : length os ≡ length below + 1 = ap length is ∙ length_push below o in
+    let m : weight control frames ≤ 2 * length below + 2 = rw (d, f) (next_weight room next values below) in
+    omega arith
+
+-- what stops the run leaves the depth inside the part
+pub stops_with : (room : ℕ) (next : Next) (control : Control) → control ≡ control_of room next → StopsWith room control
+stops_with room next control c = rw c (all room next)
+  where
+    all : (room : ℕ) (next : Next) → StopsWith room (control_of room next)
+    all room (End c) = tt
+    all room (Halt stop) = refl
+    all room (Ask part frame) = tt
+    all room (Keep part frame v) = tt
+    all room (Turn part frame) = tt

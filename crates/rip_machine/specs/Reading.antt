@@ -1,0 +1,115 @@
+-- What rows read of a program. Reading is total: a child that is absent counts as node 0, and a node past the last as an
+-- empty statement.
+use Rattle.std.specs.Prelude.{ℕ, ◌-◌, Bool, true, false, List, [], ◌∷◌, drop, Option, None, Some, unwrap_or, slice_index_or}
+use Rattle.rip_values.specs.declared.operator.BinaryOperator.{BinaryOperator}
+use Rattle.rip_values.specs.declared.operator.BinaryOperator.TheVariants.{Add}
+use Rattle.rip_values.specs.declared.operator.LogicalOperator.{LogicalOperator}
+use Rattle.rip_values.specs.declared.operator.LogicalOperator.TheVariants.{And}
+use Rattle.rip_values.specs.declared.operator.StepOperator.{StepOperator}
+use Rattle.rip_values.specs.declared.operator.StepOperator.TheVariants.{Increment}
+use Rattle.rip_values.specs.declared.operator.UnaryOperator.{UnaryOperator}
+use Rattle.rip_values.specs.declared.operator.UnaryOperator.TheVariants.{Void}
+use Rattle.rip_values.specs.declared.value.Span.{Span}
+use Rattle.rip_tree.specs.declared.form.Form.{Form}
+use Rattle.rip_tree.specs.declared.form.Form.TheVariants as form
+use Rattle.rip_tree.specs.declared.node.Node.{Node}
+use Rattle.rip_tree.specs.declared.program.Resolved.{Resolved}
+use Rattle.rip_tree.specs.declared.program.Scoping.{Scoping}
+use Rattle.rip_tree.specs.Branches.{child_of, links_of, node_of}
+use Rattle.rip_tree.specs.Program.{Code, scoping_of}
+use Rattle.rip_frames.specs.declared.part.Part.{Part}
+use Rattle.rip_frames.specs.declared.part.Role.{Role}
+use Rattle.rip_frames.specs.declared.part.Role.TheVariants.{Value, Target}
+
+-- a program whose literals are loaded: of each node the span of the text that it is
+pub record Loaded : Type 0 where
+  pub code : Code
+  pub literals : List Span
+
+abbrev pub form_in : Option Node → Form
+form_in None = form.Empty
+form_in (Some node) = node.form
+
+-- the form of a node
+abbrev pub form_of : Loaded → ℕ → Form
+form_of p id = form_in (node_of p.code.grove.branches id)
+
+-- the operators of nodes; of a node that has none it does not matter which
+abbrev pub operator_in : Form → BinaryOperator
+operator_in (form.Binary op) = op
+operator_in (form.Compound op) = op
+operator_in f = Add
+
+abbrev pub operator : Loaded → ℕ → BinaryOperator
+operator p id = operator_in (form_of p id)
+
+abbrev pub logical_in : Form → LogicalOperator
+logical_in (form.Logical op) = op
+logical_in f = And
+
+abbrev pub logical_operator : Loaded → ℕ → LogicalOperator
+logical_operator p id = logical_in (form_of p id)
+
+abbrev pub unary_in : Form → UnaryOperator
+unary_in (form.Unary op) = op
+unary_in f = Void
+
+abbrev pub unary_operator : Loaded → ℕ → UnaryOperator
+unary_operator p id = unary_in (form_of p id)
+
+abbrev pub step_in : Form → StepOperator
+step_in (form.Prefix op) = op
+step_in (form.Postfix op) = op
+step_in f = Increment
+
+abbrev pub step_operator : Loaded → ℕ → StepOperator
+step_operator p id = step_in (form_of p id)
+
+-- whether a node is a postfix operator
+abbrev pub is_postfix_form : Form → Bool
+is_postfix_form (form.Postfix op) = true
+is_postfix_form f = false
+
+abbrev pub is_postfix : Loaded → ℕ → Bool
+is_postfix p id = is_postfix_form (form_of p id)
+
+-- the child of a node at this place, or none
+abbrev pub child_at : Loaded → ℕ → ℕ → Option ℕ
+child_at p id place = child_of p.code.grove.branches id place
+
+-- the same, or node 0
+abbrev pub child : Loaded → ℕ → ℕ → ℕ
+child p id place = unwrap_or (child_at p id place) 0
+
+-- the children up to the first that is absent
+abbrev pub leading : List (Option ℕ) → List ℕ
+leading [] = []
+leading (None ∷ cs) = []
+leading (Some c ∷ cs) = c ∷ leading cs
+
+-- the children of a node from this place on
+abbrev pub children_from : Loaded → ℕ → ℕ → List ℕ
+children_from p id place = leading (drop place (links_of p.code.grove.branches id))
+
+-- what the rules of scope say of a node
+abbrev pub scoping : Loaded → ℕ → Scoping
+scoping p id = scoping_of p.code.scoping id
+
+-- the span of the text that a node is
+abbrev pub literal : Loaded → ℕ → Span
+literal p id = slice_index_or p.literals id (record { start = 0; count = 0 })
+
+-- a node as a part of the open part: one of depth less is left for it
+abbrev pub part : Part → ℕ → Part
+part at id = record at { node = id; room = at.room - 1; role = Value }
+
+-- the same node as a target
+abbrev pub target : Part → ℕ → Part
+target at id = record at { node = id; room = at.room - 1; role = Target }
+
+-- the child at this place as a part
+abbrev pub part_at : Loaded → Part → ℕ → Part
+part_at p at place = part at (child p at.node place)
+
+abbrev pub target_at : Loaded → Part → ℕ → Part
+target_at p at place = target at (child p at.node place)

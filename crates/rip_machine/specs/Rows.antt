@@ -1,0 +1,12 @@
+pub mod Calls
+pub mod Constructing
+pub mod Exceptions
+pub mod Expressions
+pub mod Functions
+pub mod Host
+pub mod Literals
+pub mod Members
+pub mod Names
+pub mod Scripts
+pub mod Statements
+pub mod Switch

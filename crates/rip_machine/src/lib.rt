@@ -1,0 +1,56 @@
+//! The evaluator of scripts, which can be cut after any unit (ECMA-262 5.1, sections 10 to 14).
+//!
+//! The meaning of a program is its table of rows, one for each form of node, in the order of the standard
+//! (`specs/Table.antt`). A [`Machine`] runs it in small steps: the functions of the rows stand in modules by families, and
+//! the contract of each says that what it does up to the next part is the row of the meaning. [`Machine::resume`] carries
+//! the law of cuts: after it answered `More`, the world is that of the run cut after exactly these units, and what is left
+//! is what was left, later; after `Done` both are those of the end of the run.
+//!
+//! Every form of node has its row. What a row asks of the host is made at once, and counts no unit.
+//!
+//! | what | its definition in `specs/` |
+//! |---|---|
+//! | the row of each form | `Table.row_by`; what remains of it at each frame `Table.rest_by` |
+//! | names, and the errors that are thrown | `Rows/Names.antt` |
+//! | expressions; literals of arrays and objects | `Rows/Expressions.antt`, `Rows/Literals.antt` |
+//! | functions; calls; `new` | `Rows/Functions.antt`, `Rows/Calls.antt`, `Rows/Constructing.antt` |
+//! | members, what targets mean, and `delete` | `Rows/Members.antt` |
+//! | what is asked of the host | `Rows/Host.antt` |
+//! | statements and loops; `switch`; exceptions | `Rows/Statements.antt`, `Rows/Switch.antt`, `Rows/Exceptions.antt` |
+//! | how a script begins | `Rows/Scripts.antt` |
+//! | [`Machine`] | contracts see `Law.Standing` |
+//! | [`Machine::load`] | `Loading.Loads`; where each text stands then `Loading.TextsStand` |
+//! | [`Machine::start`], [`Machine::resume`] | `Law.Starts`, `Law.Resumes`; what a start comes to `Starting.begun` |
+//! | [`Machine::depth`] | `Law.open_depth` |
+//! | worked scripts, with their units and cells | `Worked.antt` |
+//!
+//! Reading is total: a child that is absent counts as node 0, a name that is bound nowhere is not bound, so that the law
+//! holds for every program, heap and machine.
+#![tactic(auto)]
+
+mod arguments;
+mod calls;
+mod constructing;
+mod dispatch;
+mod exceptions;
+mod expressions;
+mod functions;
+mod hosted;
+mod law;
+mod literals;
+mod loading;
+mod machine;
+mod members;
+mod names;
+mod outcome;
+mod scripts;
+mod source;
+mod statements;
+mod steps;
+mod switch;
+mod worked;
+
+pub use law::begun_is_whole;
+pub use machine::Machine;
+pub use outcome::{Outcome, Start, Turned};
+pub use worked::{closing_is_worked, counting_is_worked};

@@ -1,0 +1,159 @@
+ghost use Rattle.std.specs.Prelude.{◌≡◌, [], ◌∷◌, Some, None, IfOk, List, MatchResult};
+ghost use Rattle.rip_heap.specs.Growth.{Grows};
+ghost use Rattle.rip_heap.specs.World.{World};
+ghost use Rattle.rip_frames.specs.Rest.{as_row};
+ghost use Rattle.rip_frames.specs.Row.{Row};
+ghost use Rattle.rip_machine.specs.Reading.{children_from};
+ghost use Rattle.rip_machine.specs.Rows.Literals.{array_row, elements, entries, entry_put, object_row};
+ghost use Rattle.rip_machine.specs.Table.{rest_by, table};
+
+use crate::expressions::{give, value_of};
+use crate::source::{Source, part};
+use rip_frames::{Completion, Frame, Next, Part, Stop};
+use rip_heap::{Heap, is_underscored};
+use rip_values::{Fault, NoMemory, Refused, Value};
+use std::alloc::Global;
+
+// ARRAYS
+
+/// The elements from this place on.
+#[tactic(auto, using(crate::proofs::Children::children_some, crate::proofs::Children::children_none))]
+fn elements(p: &Source, at: &Part, array: u32, place: u32) -> Next
+    ensures { (values : List Value) (w : World) → as_row (table p.now) result values w ≡ elements p.now at.now array (children_from p.now at.now.node place) w }
+{
+    match p.child_at(at.node, place) {
+        Some(e) => {
+            let frame = Frame::Element {
+                at: *at,
+                place,
+                array,
+            };
+            Next::Ask(part(at, e), frame)
+        },
+        None => give(Value::Object(array)),
+    }
+}
+
+pub(crate) fn begin_array(
+    alloc: Global,
+    p: &Source,
+    heap: &mut Heap,
+    at: &Part,
+) -> Result<Next, NoMemory>
+    ensures row { IfOk result (λ next. (values : List Value) → as_row (table p.now) next values heap.new ≡ array_row p.now at.now heap.old) }
+    ensures grows { Grows heap.old heap.new }
+{
+    match heap.new_array(alloc, &[]) {
+        Ok(array) => Ok(elements(p, at, array, 0)),
+        Err(Refused::Limit(limit)) => Ok(Next::Halt(Stop::Limit(limit))),
+        Err(Refused::Memory) => Err(NoMemory),
+    }
+}
+
+pub(crate) fn after_element(
+    alloc: Global,
+    p: &Source,
+    heap: &mut Heap,
+    at: &Part,
+    place: u32,
+    array: u32,
+    c: Completion,
+) -> Result<Next, NoMemory>
+    ensures row { IfOk result (λ next. (values : List Value) → as_row (table p.now) next values heap.new ≡ rest_by p.now (Frame.Element at.now place array) [] c heap.old) }
+    ensures grows { Grows heap.old heap.new }
+{
+    if place == u32::MAX {
+        return Err(NoMemory);
+    }
+    match value_of(c) {
+        Ok(v) => match heap.push_item(alloc, array, v) {
+            Ok(()) => Ok(elements(p, at, array, place + 1)),
+            Err(Refused::Limit(limit)) => Ok(Next::Halt(Stop::Limit(limit))),
+            Err(Refused::Memory) => Err(NoMemory),
+        },
+        Err(next) => Ok(next),
+    }
+}
+
+// OBJECTS
+
+/// The entries from this place on.
+#[tactic(auto, using(crate::proofs::Children::children_some, crate::proofs::Children::children_none))]
+fn entries(p: &Source, at: &Part, object: u32, place: u32) -> Next
+    ensures { (values : List Value) (w : World) → as_row (table p.now) result values w ≡ entries p.now at.now object (children_from p.now at.now.node place) w }
+{
+    match p.child_at(at.node, place) {
+        Some(e) => {
+            let frame = Frame::Entry {
+                at: *at,
+                place,
+                object,
+            };
+            Next::Ask(part(at, p.child(e, 0)), frame)
+        },
+        None => give(Value::Object(object)),
+    }
+}
+
+pub(crate) fn begin_object(
+    alloc: Global,
+    p: &Source,
+    heap: &mut Heap,
+    at: &Part,
+) -> Result<Next, NoMemory>
+    ensures row { IfOk result (λ next. (values : List Value) → as_row (table p.now) next values heap.new ≡ object_row p.now at.now heap.old) }
+    ensures grows { Grows heap.old heap.new }
+{
+    match heap.new_object(alloc, None) {
+        Ok(object) => Ok(entries(p, at, object, 0)),
+        Err(Refused::Limit(limit)) => Ok(Next::Halt(Stop::Limit(limit))),
+        Err(Refused::Memory) => Err(NoMemory),
+    }
+}
+
+/// Puts the value of an entry under its key, or answers why the run stops.
+fn put_entry(
+    alloc: Global,
+    p: &Source,
+    heap: &mut Heap,
+    object: u32,
+    e: u32,
+    v: Value,
+) -> Result<Result<(), Next>, NoMemory>
+    ensures put { IfOk result (λ put. MatchResult put (λ _. (go : World → Row) → entry_put p.now object e v heap.old go ≡ go heap.new) (λ next. (values : List Value) (go : World → Row) → as_row (table p.now) next values heap.new ≡ entry_put p.now object e v heap.old go)) }
+    ensures grows { Grows heap.old heap.new }
+{
+    let name = p.literal(e);
+    if is_underscored(heap.pool().get(name)) {
+        return Ok(Err(Next::Halt(Stop::Fault(Fault::NotInProfile))));
+    }
+    match heap.put(alloc, object, name, v) {
+        Ok(()) => Ok(Ok(())),
+        Err(Refused::Limit(limit)) => Ok(Err(Next::Halt(Stop::Limit(limit)))),
+        Err(Refused::Memory) => Err(NoMemory),
+    }
+}
+
+pub(crate) fn after_entry(
+    alloc: Global,
+    p: &Source,
+    heap: &mut Heap,
+    at: &Part,
+    place: u32,
+    object: u32,
+    c: Completion,
+) -> Result<Next, NoMemory>
+    ensures row { IfOk result (λ next. (values : List Value) → as_row (table p.now) next values heap.new ≡ rest_by p.now (Frame.Entry at.now place object) [] c heap.old) }
+    ensures grows { Grows heap.old heap.new }
+{
+    if place == u32::MAX {
+        return Err(NoMemory);
+    }
+    match value_of(c) {
+        Ok(v) => match put_entry(alloc, p, heap, object, p.child(at.node, place), v)? {
+            Ok(()) => Ok(entries(p, at, object, place + 1)),
+            Err(next) => Ok(next),
+        },
+        Err(next) => Ok(next),
+    }
+}

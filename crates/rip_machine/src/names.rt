@@ -1,0 +1,108 @@
+ghost use Rattle.std.specs.Prelude.{◌≡◌, [], Ok, Err, IfOk, OnErr, MatchResult, List};
+ghost use Rattle.rip_heap.specs.Growth.{Grows};
+ghost use Rattle.rip_frames.specs.Rest.{as_row};
+ghost use Rattle.rip_machine.specs.Rows.Names.{bound, found, global_value, outer, scope_up, throws, written, written_to};
+ghost use Rattle.rip_machine.specs.Table.{table};
+
+use crate::source::Source;
+use rip_frames::{Completion, Next, Stop};
+use rip_heap::{Class, Heap};
+use rip_tree::{Resolved, Scoping};
+use rip_values::{Builtin, FIRST_NODE, Limit, NoMemory, Refused, Value};
+use std::alloc::Global;
+
+/// Throws a new error of this class.
+pub(crate) fn throw(
+    alloc: Global,
+    p: &Source,
+    heap: &mut Heap,
+    class: Class,
+) -> Result<Next, NoMemory>
+    ensures row { IfOk result (λ next. (values : List Value) → as_row (table p.now) next values heap.new ≡ throws class heap.old) }
+    ensures grows { Grows heap.old heap.new }
+{
+    let _ = p;
+    match heap.new_of(alloc, class) {
+        Ok(error) => Ok(Next::End(Completion::Thrown(Value::Object(error)))),
+        Err(Refused::Limit(limit)) => Ok(Next::Halt(Stop::Limit(limit))),
+        Err(Refused::Memory) => Err(NoMemory),
+    }
+}
+
+/// The value of a global, by its number (ECMA-262 15.1).
+fn global_value(n: u32) -> Value
+    ensures { result ≡ global_value n }
+{
+    match n {
+        0 => Value::Object(FIRST_NODE),
+        1 => Value::Object(Builtin::Ripley.number()),
+        2 => Value::Object(Builtin::Math.number()),
+        3 => Value::Object(Builtin::ParseInt.number()),
+        4 => Value::Object(Builtin::IsNaN.number()),
+        5 => Value::Object(Builtin::String.number()),
+        6 => Value::Object(Builtin::Number.number()),
+        7 => Value::Object(Builtin::Error.number()),
+        8 => Value::Object(Builtin::TypeError.number()),
+        9 => Value::Object(Builtin::RangeError.number()),
+        11 => Value::NaN,
+        _ => Value::Undefined,
+    }
+}
+
+/// The scope so many scopes further out.
+#[tactic(auto, using(crate::proofs::Scopes::scope_up_none, crate::proofs::Scopes::scope_up_more))]
+fn scope_up(heap: &Heap, scope: u32, up: u32) -> u32
+    ensures { result ≡ scope_up heap.now scope up }
+{
+    let mut at = scope;
+    for _i in 0..up {
+        at = heap.scope_parent(at).unwrap_or(0);
+    }
+    at
+}
+
+/// What a name means from this scope on, or none where it is not bound yet.
+pub(crate) fn found(heap: &Heap, scope: u32, name: Option<Resolved>) -> Option<Value>
+    ensures { result ≡ found heap.now scope name }
+{
+    match name {
+        Some(Resolved::Binding { up, place }) => heap.binding(scope_up(heap, scope, up), place),
+        Some(Resolved::Global(n)) => Some(global_value(n)),
+        None => Some(Value::Undefined),
+    }
+}
+
+/// Writes a value to what a name means from this scope on, or answers the class of the error to be thrown.
+pub(crate) fn write(heap: &mut Heap, scope: u32, scoping: Scoping, v: Value) -> Result<(), Class>
+    ensures written { MatchResult result (λ _. written heap.old scope scoping v ≡ Ok heap.new) (λ class. written heap.old scope scoping v ≡ Err class) }
+    ensures kept { OnErr result (heap.new ≡ heap.old) }
+    ensures grows { Grows heap.old heap.new }
+{
+    if scoping.is_own {
+        return Err(Class::ThrownTypeError);
+    }
+    match scoping.resolved {
+        Some(Resolved::Binding { up, place }) => {
+            let target = scope_up(heap, scope, up);
+            match heap.binding(target, place) {
+                Some(_) => {
+                    heap.set_binding(target, place, v);
+                    Ok(())
+                },
+                None => Err(Class::ThrownReferenceError),
+            }
+        },
+        _ => Ok(()),
+    }
+}
+
+/// Gives a binding a value, whether it has one or not.
+pub(crate) fn bind(heap: &mut Heap, scope: u32, name: Option<Resolved>, v: Value)
+    ensures bound { heap.new ≡ bound heap.old scope name v }
+    ensures grows { Grows heap.old heap.new }
+{
+    if let Some(Resolved::Binding { up, place }) = name {
+        let target = scope_up(heap, scope, up);
+        heap.set_binding(target, place, v);
+    }
+}

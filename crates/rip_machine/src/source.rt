@@ -1,0 +1,183 @@
+ghost use Rattle.std.specs.Prelude.{◌≡◌, length};
+ghost use Rattle.rip_machine.specs.Reading.{child, child_at, form_of, is_postfix, literal, logical_operator, operator, part, part_at, scoping, step_operator, target_at, unary_operator, logical_in, operator_in, step_in, unary_in, is_postfix_form};
+
+use rip_frames::{Part, Role};
+use rip_tree::{Form, Program, Scoping};
+use rip_values::{BinaryOperator, LogicalOperator, Span, StepOperator, UnaryOperator};
+use std::marker::Model;
+
+/// A program whose literals are loaded, as the rows read it: of each node that is a text, its span.
+#[derive(Drop)]
+pub(crate) struct Source<'a> {
+    pub program: &'a Program,
+    pub literals: &'a [Span],
+}
+
+impl<'a> Model for Source<'a> {
+    ghost use Rattle.rip_machine.specs.Reading.{Loaded};
+
+    ghost Value = { Loaded };
+
+    ghost view = { λ s. record { code = s.program.now; literals = s.literals.now } };
+}
+
+impl Source<'_> {
+    /// How many nodes the program has.
+    pub fn count(&self) -> u32
+        ensures { result ≡ length self.now.code.grove.branches }
+    {
+        self.program.count()
+    }
+
+    /// The form of a node; past the last it is that of an empty statement.
+    pub fn form(&self, id: u32) -> Form
+        ensures { result ≡ form_of self.now id }
+    {
+        match self.program.node_at(id) {
+            Some(node) => node.form,
+            None => Form::Empty,
+        }
+    }
+
+    /// The child at a place, or none.
+    pub fn child_at(&self, id: u32, place: u32) -> Option<u32>
+        ensures { result ≡ child_at self.now id place }
+    {
+        self.program.child(id, place)
+    }
+
+    /// The child at a place, or node 0.
+    pub fn child(&self, id: u32, place: u32) -> u32
+        ensures { result ≡ child self.now id place }
+    {
+        self.program.child(id, place).unwrap_or(0)
+    }
+
+    /// The child at a place as a part of the open part.
+    pub fn part_at(&self, at: &Part, place: u32) -> Part
+        ensures { result ≡ part_at self.now at.now place }
+    {
+        part(at, self.child(at.node, place))
+    }
+
+    /// The same child as a target.
+    pub fn target_at(&self, at: &Part, place: u32) -> Part
+        ensures { result ≡ target_at self.now at.now place }
+    {
+        Part {
+            node: self.child(at.node, place),
+            scope: at.scope,
+            this: at.this,
+            room: at.room.saturating_sub(1),
+            role: Role::Target,
+        }
+    }
+
+    /// What the rules of scope say of a node.
+    pub fn scoping(&self, id: u32) -> Scoping
+        ensures { result ≡ scoping self.now id }
+    {
+        Scoping {
+            names: self.program.names(id),
+            resolved: self.program.resolved(id),
+            is_own: self.program.is_own_name(id),
+        }
+    }
+
+    /// The span of the text that a node is.
+    pub fn literal(&self, id: u32) -> Span
+        ensures { result ≡ literal self.now id }
+    {
+        if id as usize >= self.literals.len() {
+            return Span { start: 0, count: 0 };
+        }
+        self.literals[id as usize]
+    }
+
+    pub fn operator(&self, id: u32) -> BinaryOperator
+        ensures { result ≡ operator self.now id }
+    {
+        operator_in(self.form(id))
+    }
+
+    pub fn logical_operator(&self, id: u32) -> LogicalOperator
+        ensures { result ≡ logical_operator self.now id }
+    {
+        logical_in(self.form(id))
+    }
+
+    pub fn unary_operator(&self, id: u32) -> UnaryOperator
+        ensures { result ≡ unary_operator self.now id }
+    {
+        unary_in(self.form(id))
+    }
+
+    pub fn step_operator(&self, id: u32) -> StepOperator
+        ensures { result ≡ step_operator self.now id }
+    {
+        step_in(self.form(id))
+    }
+
+    pub fn is_postfix(&self, id: u32) -> bool
+        ensures { result ≡ is_postfix self.now id }
+    {
+        is_postfix_form(self.form(id))
+    }
+}
+
+/// A node as a part of the open part: one of depth less is left for it.
+pub(crate) fn part(at: &Part, id: u32) -> Part
+    ensures { result ≡ part at.now id }
+{
+    Part {
+        node: id,
+        scope: at.scope,
+        this: at.this,
+        room: at.room.saturating_sub(1),
+        role: Role::Value,
+    }
+}
+
+fn operator_in(form: Form) -> BinaryOperator
+    ensures { result ≡ operator_in form }
+{
+    match form {
+        Form::Binary(op) => op,
+        Form::Compound(op) => op,
+        _ => BinaryOperator::Add,
+    }
+}
+
+fn logical_in(form: Form) -> LogicalOperator
+    ensures { result ≡ logical_in form }
+{
+    match form {
+        Form::Logical(op) => op,
+        _ => LogicalOperator::And,
+    }
+}
+
+fn unary_in(form: Form) -> UnaryOperator
+    ensures { result ≡ unary_in form }
+{
+    match form {
+        Form::Unary(op) => op,
+        _ => UnaryOperator::Void,
+    }
+}
+
+fn step_in(form: Form) -> StepOperator
+    ensures { result ≡ step_in form }
+{
+    match form {
+        Form::Prefix(op) => op,
+        Form::Postfix(op) => op,
+        _ => StepOperator::Increment,
+    }
+}
+
+fn is_postfix_form(form: Form) -> bool
+    ensures { result ≡ is_postfix_form form }
+{
+    matches!(form, Form::Postfix(_))
+}
