@@ -1,5 +1,0 @@
-use Rattle.rip_ops.proofs.AlongLemmas.{looks}
-use Rattle.rip_ops.proofs.laws.names_are_looked_up_along_prototypes.Goals as goal
-
-pub returns : goal.returns
-returns c = looks c.args.heap.now c.objects-count.ensures.older
