@@ -44,4 +44,5 @@ part_of (frame.AssignValue at target) = at
 part_of (frame.CompoundTarget at) = at
 part_of (frame.CompoundValue at target old) = at
 part_of (frame.CommaLeft at) = at
+part_of (frame.Called at function this) = at
 part_of (frame.Last at) = at

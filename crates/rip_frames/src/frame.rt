@@ -4,7 +4,7 @@ ghost use Rattle.rip_frames.specs.Frame.{part_of};
 use crate::completion::Completion;
 use crate::part::Part;
 use rip_heap::Reference;
-use rip_values::Value;
+use rip_values::{Builtin, Value};
 
 /// What becomes of the completion of a list of statements.
 #[derive(Clone, Copy, Debug, PartialEq, Eq)]
@@ -193,6 +193,12 @@ pub enum Frame {
     CommaLeft {
         at: Part,
     },
+    /// A built-in function that was called from outside. Its arguments are beside the frame.
+    Called {
+        at: Part,
+        function: Builtin,
+        this: Value,
+    },
     /// The last part: the open one ends as it does.
     Last {
         at: Part,
@@ -245,6 +251,7 @@ impl Frame {
             | Frame::CompoundTarget { at, .. }
             | Frame::CompoundValue { at, .. }
             | Frame::CommaLeft { at, .. }
+            | Frame::Called { at, .. }
             | Frame::Last { at, .. } => *at,
         }
     }

@@ -1,5 +1,5 @@
 -- What a start answers, once it is known what it comes to.
-use Rattle.std.proofs.Common.{◌≡◌, ℕ, List, Option, Some, Result, Ok, Err, IfErr, OnOk, ap}
+use Rattle.std.proofs.Common.{◌≡◌, ℕ, List, Some, Result, Ok, Err, IfErr, OnOk, ap}
 use Rattle.std.proofs.lemmas.Bool.{ne_eqb}
 use Rattle.rip_values.specs.declared.value.Refused.{Refused}
 use Rattle.rip_values.specs.declared.value.Refused.TheVariants.{Limit as At, Memory as NoRoom}
@@ -7,6 +7,8 @@ use Rattle.rip_values.specs.declared.value.Value.{Value}
 use Rattle.rip_heap.specs.World.{World}
 use Rattle.rip_frames.specs.declared.frame.Ending.TheVariants.{Call}
 use Rattle.rip_frames.specs.Row.{Row, Table}
+use Rattle.rip_machine.specs.declared.calls.Invocable.{Invocable}
+use Rattle.rip_machine.specs.declared.calls.Invocable.TheVariants.{OfScript}
 use Rattle.rip_machine.specs.Law.{Begins, Standing, Starts}
 use Rattle.rip_machine.specs.Reading.{Loaded}
 use Rattle.rip_machine.specs.Rows.Functions.{body, function_entered}
@@ -20,8 +22,8 @@ starts t beginning row fuel w x m n (Err (At limit)) F e f h go = absurd (cc)
 starts t beginning row fuel w x m n (Err NoRoom) F e f h go = tt
 
 -- the call of a function of the script runs its statements
-pub runs_function : (p : Loaded) (depth : ℕ) (this : Value) (args : List Value) (code : Option (ℕ × ℕ)) (w x : World) (f scope made : ℕ)
-    → (depth ≡ 0 → ⊥) → code ≡ Some (f, scope) → function_entered p f scope args w ≡ Some (made, x)
-    → call_begun p depth this args code w ≡ Runs (statements p (function_part f made this depth) Call (body p f) x)
-runs_function p depth this args code w x f scope made some is entered =
+pub runs_function : (p : Loaded) (depth : ℕ) (this : Value) (args : List Value) (callee : Invocable) (w x : World) (f scope made : ℕ)
+    → (depth ≡ 0 → ⊥) → callee ≡ OfScript f scope → function_entered p f scope args w ≡ Some (made, x)
+    → call_begun p depth this args callee w ≡ Runs (statements p (function_part f made this depth) Call (body p f) x)
+runs_function p depth this args callee w x f scope made some is entered =
     rw is (rw (ne_eqb depth 0 some) (ap (function_begun p depth f this) entered))

@@ -1,5 +1,5 @@
 -- From the steps of a call to what `resume` promises.
-use Rattle.std.proofs.Common.{◌≡◌, ℕ, ◌+◌, ◌-◌, ◌<◌, ◌≤◌, min, Bool, true, false, nat_lt, nat_le, List, [], refl, ap, sym, ◌∙◌, arith}
+use Rattle.std.proofs.Common.{◌≡◌, ℕ, ◌+◌, ◌-◌, ◌<◌, ◌≤◌, min, Bool, true, false, nat_lt, nat_le, List, [], refl, ap, sym, ◌∙◌, inl, inr, arith}
 use Rattle.std.proofs.lemmas.Bool.{ltb-true, ltb-false, le-leb, leb-false, leb-true}
 use Rattle.rip_values.specs.declared.value.Limit.TheVariants.{Fuel}
 use Rattle.rip_heap.specs.World.{World}
@@ -15,8 +15,8 @@ use Rattle.rip_frames.specs.Rest.{control_of, rest, unwind}
 use Rattle.rip_frames.specs.Row.{Row, Table}
 use Rattle.rip_frames.specs.Run.{Completes, Stops, Cuts, Calling, run}
 use Rattle.rip_frames.specs.Stack.{Open}
-use Rattle.rip_frames.proofs.Laws.{rest-next, unwind-stops, unwind-cuts}
-use Rattle.rip_machine.specs.Law.{Begins, Standing, Stands, Resumes, end_of, left, turned_of}
+use Rattle.rip_frames.proofs.Laws.{rest-next, rest-gives, unwind-stops, unwind-cuts}
+use Rattle.rip_machine.specs.Law.{Begins, Standing, Stands, StandsAt, Resumes, end_of, left, turned_of}
 
 conclude_completes : {S : Type 0} (b : Bool) (c : Completion) (u : ℕ) (w : World) (s : S) → conclude b (Completes c u w s) ≡ Completes c u w s
 conclude_completes true c u w s = refl
@@ -101,11 +101,18 @@ resumes h t m n w x s r k u (Enter part) true e stands within control fuel spent
     let b : left h t m w s k ≡ Cuts x r = ap (λ b. conclude b (rest h t m.control m.frames (min m.fuel k) w s)) (not_leb m.fuel k (nat_le m.fuel k) refl less) ∙ a in
     (b, λ j. resumes_later h t m n w x s r k u j (Enter part) less stands e control (omega arith), omega arith)
 
+-- a run that stands at the beginning of a row runs that row
+stands_rest : {S : Type 0} (h : Calling S) (t : Table) (row : Row) (room u : ℕ) (w : World) (s : S) (control : Control) (frames : List Open)
+    → StandsAt t row room w control frames → rest h t control frames u w s ≡ run h t row u s
+unfolding unwind
+stands_rest h t row room u w s control frames (inl (next, is, c, f)) =
+    ap (λ d. rest h t d frames u w s) c ∙ ap (λ fs. rest h t (control_of room next) fs u w s) f
+    ∙ sym (rest-next h t room next [] [] u w s) ∙ ap (λ r. run h t r u s) is
+stands_rest h t row room u w s control frames (inr (given, o, is, c, f)) =
+    ap (λ d. rest h t d frames u w s) c ∙ ap (λ fs. rest h t (Give given) fs u w s) f
+    ∙ rest-gives h t given [] o u w s ∙ ap (λ r. run h t r u s) is
+
 -- what is left of a run that begins is the whole run
 pub begins_whole : {S : Type 0} (h : Calling S) (t : Table) (row : Row) (fuel : ℕ) (w : World) (s : S) (m : Standing) → Begins t row fuel w m → (k : ℕ) → left h t m w s k ≡ run_of h t row s fuel k
-unfolding unwind
 begins_whole h t row fuel w s m b k =
-    let all : rest h t m.control m.frames (min m.fuel k) w s ≡ run h t row (min m.fuel k) s =
-    ap (λ c. rest h t c m.frames (min m.fuel k) w s) b.0.2 ∙ ap (λ fs. rest h t (control_of m.depth b.0.0) fs (min m.fuel k) w s) b.0.3
-    ∙ sym (rest-next h t m.depth b.0.0 [] [] (min m.fuel k) w s) ∙ ap (λ r. run h t r (min m.fuel k) s) b.0.1 in
-    ap (conclude (nat_le m.fuel k)) all ∙ ap (λ n. capped n (λ u. run h t row u s) k) b.1
+    ap (conclude (nat_le m.fuel k)) (stands_rest h t row m.depth (min m.fuel k) w s m.control m.frames b.0) ∙ ap (λ n. capped n (λ u. run h t row u s) k) b.1

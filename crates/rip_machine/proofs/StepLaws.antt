@@ -23,6 +23,11 @@ pub ok_both : {T E : Type 0} (r : Result T E) (P Q : T → Type 0) (F : Type 0) 
 ok_both (Ok x) P Q F p f go = go x p f
 ok_both (Err e) P Q F p f go = tt
 
+-- what holds of a value with each y holds of it with this one
+pub ok_at : {T E A : Type 0} (r : Result T E) (P : T → A → Type 0) (y : A) → IfOk r (λ x. (z : A) → P x z) → IfOk r (λ x. P x y)
+ok_at (Ok x) P y p = p y
+ok_at (Err e) P y p = tt
+
 -- after a part was entered
 pub enter_rest : {S : Type 0} (h : Calling S) (t : Table) (room : ℕ) (part : Part) (next : Next) (os frames : List Open) (control : Control) (w x : World) (s : S) (u : ℕ)
     → ((values : List Value) → as_row t next values x ≡ entered t part w) → control ≡ control_of room next → frames ≡ os ++ frame_of next []

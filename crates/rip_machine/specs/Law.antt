@@ -1,5 +1,5 @@
 -- What is left of a run that stands, and what `resume` leaves of it.
-use Rattle.std.specs.Prelude.{◌≡◌, ℕ, ◌+◌, ◌-◌, ◌*◌, min, slice_get, Bool, true, false, List, [], length, Option, None, Some, Result, Ok, Err}
+use Rattle.std.specs.Prelude.{◌≡◌, ℕ, ◌+◌, ◌-◌, ◌*◌, ◌⊎◌, min, slice_get, Bool, true, false, List, [], ◌∷◌, length, Option, None, Some, Result, Ok, Err}
 use Rattle.rip_values.specs.declared.value.Limit.TheVariants.{Fuel}
 use Rattle.rip_values.specs.declared.value.Refused.{Refused}
 use Rattle.rip_values.specs.declared.value.Refused.TheVariants.{Limit as At, Memory as NoRoom}
@@ -135,9 +135,17 @@ Resumes h t m w s n m' w' s' (Done Memory) = Unit {0}
 abbrev pub loaded : Code → Standing → Loaded
 loaded code m = record { code = code; literals = m.literals }
 
--- a run for which so much depth is left stands at the beginning of this row, and no other frame is open
+-- the run goes on with what a part does next, for which this row stands and so much depth is left
+abbrev pub GoesOn : Table → Row → ℕ → World → Control → List Open → Type 0
+GoesOn t row room w control frames = (next : Next) × (as_row t next [] w ≡ row) × (control ≡ control_of room next) × (frames ≡ frame_of next [])
+
+-- the run gives a completion to its only frame, and this row is what remains there
+abbrev pub GivesToFrame : Table → Row → World → Control → List Open → Type 0
+GivesToFrame t row w control frames = (c : Completion) × (o : Open) × (t.rest o c w ≡ row) × (control ≡ Give c) × (frames ≡ o ∷ [])
+
+-- a run for which so much depth is left stands at the beginning of this row, in one of these two ways
 abbrev pub StandsAt : Table → Row → ℕ → World → Control → List Open → Type 0
-StandsAt t row room w control frames = (next : Next) × (as_row t next [] w ≡ row) × (control ≡ control_of room next) × (frames ≡ frame_of next [])
+StandsAt t row room w control frames = GoesOn t row room w control frames ⊎ GivesToFrame t row w control frames
 
 -- the machine stands at the beginning of a run of this row with so much fuel, of which nothing is spent
 abbrev pub Begins : Table → Row → ℕ → World → Standing → Type 0

@@ -1,18 +1,23 @@
 -- How a run begins: that of a script, or of a function that is called from outside (ECMA-262 10.4, 13.2.1, 14).
-use Rattle.std.specs.Prelude.{ℕ, ◌==◌, if◌then◌else◌, List, Option, None, Some}
+use Rattle.std.specs.Prelude.{ℕ, ◌+◌, ◌==◌, if◌then◌else◌, List, length, Option, None, Some}
+use Rattle.rip_values.specs.declared.builtin.Builtin.{Builtin}
 use Rattle.rip_values.specs.declared.value.Limit.{Limit}
 use Rattle.rip_values.specs.declared.value.Limit.TheVariants.{Cells, Depth}
 use Rattle.rip_values.specs.declared.value.Value.{Value}
+use Rattle.rip_values.specs.declared.value.Value.TheVariants.{Object}
 use Rattle.rip_heap.specs.declared.class.Class.TheVariants.{ThrownTypeError}
-use Rattle.rip_heap.specs.World.{World, code_of, object_at}
+use Rattle.rip_heap.specs.World.{World, charging}
 use Rattle.rip_tree.specs.Program.{root_of}
 use Rattle.rip_frames.specs.declared.frame.Ending.TheVariants as ending
 use Rattle.rip_frames.specs.declared.part.Part.{Part}
 use Rattle.rip_frames.specs.declared.part.Role.TheVariants as role
 use Rattle.rip_frames.specs.Row.{Row}
+use Rattle.rip_machine.specs.declared.calls.Invocable.{Invocable}
+use Rattle.rip_machine.specs.declared.calls.Invocable.TheVariants.{OfScript, OfBuiltin, NotCallable}
 use Rattle.rip_machine.specs.declared.outcome.Start.{Start}
 use Rattle.rip_machine.specs.declared.outcome.Start.TheVariants as start
 use Rattle.rip_machine.specs.Reading.{Loaded}
+use Rattle.rip_machine.specs.Rows.Calls.{answered_by, answerer_of, callable}
 use Rattle.rip_machine.specs.Rows.Functions.{body, function_entered}
 use Rattle.rip_machine.specs.Rows.Names.{throws}
 use Rattle.rip_machine.specs.Rows.Scripts.{script_entered, script_row}
@@ -37,13 +42,24 @@ abbrev pub function_begun : Loaded → ℕ → ℕ → Value → Option (ℕ × 
 function_begun p depth f this None = Exceeds Cells
 function_begun p depth f this (Some made) = Runs (statements p (function_part f made.0 this depth) ending.Call (body p f) made.1)
 
--- the depth of a function is judged first; what is no function of the script throws a TypeError (11.2.3)
-abbrev pub call_begun : Loaded → ℕ → Value → List Value → Option (ℕ × ℕ) → World → Beginning
-call_begun p depth this args None w = Runs (throws ThrownTypeError w)
-call_begun p depth this args (Some code) w =
-    if depth == 0 then Exceeds Depth else function_begun p depth code.0 this (function_entered p code.0 code.1 args w)
+-- the place outside all code where a built-in function is called, so that a function of the script that `call` calls there
+-- takes a depth of 1, as one that is called from outside does (15.3.4.4)
+abbrev pub outside : ℕ → Value → Part
+outside depth this = record { node = 0; scope = 0; this = this; room = depth + 1; role = role.Value }
+
+-- a built-in function stands at its own work, where the charge of its arguments fits
+abbrev pub builtin_begun : Loaded → ℕ → Builtin → Value → List Value → Option World → Beginning
+builtin_begun p depth b this args None = Exceeds Cells
+builtin_begun p depth b this args (Some x) = Runs (answered_by p (outside depth this) (answerer_of b) b this args x)
+
+-- the depth of a function of the script is judged first; what is no function throws a TypeError (11.2.3)
+abbrev pub call_begun : Loaded → ℕ → Value → List Value → Invocable → World → Beginning
+call_begun p depth this args (OfScript f scope) w =
+    if depth == 0 then Exceeds Depth else function_begun p depth f this (function_entered p f scope args w)
+call_begun p depth this args (OfBuiltin b) w = builtin_begun p depth b this args (charging (length args) w (λ x. x))
+call_begun p depth this args NotCallable w = Runs (throws ThrownTypeError w)
 
 -- what a start comes to, where so much depth is left for the run
 abbrev pub begun : Loaded → ℕ → Start → World → Beginning
 begun p depth (start.Script n) w = script_begun p depth (root_of p.code.grove n) (script_entered p (root_of p.code.grove n) w)
-begun p depth (start.Function f this args) w = call_begun p depth this args.now (code_of (object_at w f)) w
+begun p depth (start.Function f this args) w = call_begun p depth this args.now (callable w (Object f)) w

@@ -17,7 +17,7 @@ use Rattle.rip_frames.specs.Stack.{Open}
 use Rattle.rip_machine.specs.Reading.{Loaded, form_of, literal}
 use Rattle.rip_machine.specs.Rows.Expressions.{gives, name_row, binary_row, right_end, logical_row, conditional_row, comma_row, unary_row, assign_row, assign_value, compound_row, compound_value, step_row}
 use Rattle.rip_machine.specs.Rows.Exceptions.{finally_end, finally_row, throw_end, throw_row, try_end, try_row}
-use Rattle.rip_machine.specs.Rows.Calls.{argument_end, call_row, callee_end}
+use Rattle.rip_machine.specs.Rows.Calls.{answered_by, answerer_of, argument_end, call_row, callee_end}
 use Rattle.rip_machine.specs.Rows.Constructing.{new_argument_end, new_row}
 use Rattle.rip_machine.specs.Rows.Functions.{function_row}
 use Rattle.rip_machine.specs.Rows.Literals.{array_row, element_end, entry_end, object_row}
@@ -134,6 +134,7 @@ rest_by p (frame.AssignValue at target) values c w = assign_value p at target c 
 rest_by p (frame.CompoundTarget at) values c w = after_first (compound_row p at) c w
 rest_by p (frame.CompoundValue at target old) values c w = compound_value p at target old c w
 rest_by p (frame.CommaLeft at) values c w = after_first (comma_row p at) c w
+rest_by p (frame.Called at b this) values c w = answered_by p at (answerer_of b) b this values w
 rest_by p (frame.Last at) values c w = Ends c w
 
 abbrev pub rest : Loaded → Open → Completion → World → Row

@@ -195,6 +195,29 @@ fn call_through(
     }
 }
 
+/// The own work of a built-in function, whose arguments are charged.
+fn answer_builtin<H: Host>(
+    alloc: Global,
+    p: &Source,
+    heap: &mut Heap,
+    host: &mut H,
+    at: &Part,
+    b: Builtin,
+    this: &Value,
+    args: &Arguments,
+) -> Result<Next, NoMemory>
+    requires { H.fits host.old heap.old }
+    ensures row { IfOk result (λ next. (values : List ScriptValue) → (as_row (table p.now) next values heap.new, host.new) ≡ settle (host_calls H.read_gives H.write_gives H.call_gives) (answered_by p.now at.now (answerer_of b) b this.now args.now heap.old) host.old) }
+    ensures fits { H.fits host.new heap.new }
+    ensures grows { Grows heap.old heap.new }
+{
+    match answerer_of(b) {
+        Answerer::Evaluator => call_through(alloc, p, heap, at, this, args),
+        Answerer::BuiltinTable => call_table(alloc, p, heap, b, this, args),
+        Answerer::HostItself => call_host(alloc, p, heap, host, b, this, args),
+    }
+}
+
 /// The call of a built-in function.
 fn call_builtin<H: Host>(
     alloc: Global,
@@ -212,14 +235,29 @@ fn call_builtin<H: Host>(
     ensures grows { Grows heap.old heap.new }
 {
     match charge(heap, args)? {
-        Ok(()) => {},
-        Err(next) => return Ok(next),
+        Ok(()) => answer_builtin(alloc, p, heap, host, at, b, this, args),
+        Err(next) => Ok(next),
     }
-    match answerer_of(b) {
-        Answerer::Evaluator => call_through(alloc, p, heap, at, this, args),
-        Answerer::BuiltinTable => call_table(alloc, p, heap, b, this, args),
-        Answerer::HostItself => call_host(alloc, p, heap, host, b, this, args),
-    }
+}
+
+/// What a built-in function does that was called from outside, with its arguments beside the frame.
+pub(crate) fn after_called<H: Host>(
+    alloc: Global,
+    p: &Source,
+    heap: &mut Heap,
+    host: &mut H,
+    at: &Part,
+    function: Builtin,
+    this: &Value,
+    values: &[Value],
+) -> Result<Next, NoMemory>
+    requires { H.fits host.old heap.old }
+    ensures row { IfOk result (λ next. (c : Completion) → (as_row (table p.now) next values.now heap.new, host.new) ≡ settle (host_calls H.read_gives H.write_gives H.call_gives) (rest_by p.now (Frame.Called at.now function this.now) values.now c heap.old) host.old) }
+    ensures fits { H.fits host.new heap.new }
+    ensures grows { Grows heap.old heap.new }
+{
+    let args = Arguments { values, last: None };
+    answer_builtin(alloc, p, heap, host, at, function, this, &args)
 }
 
 /// What the host answers.

@@ -6,7 +6,7 @@ ghost use Rattle.rip_frames.specs.Settle.{settle};
 ghost use Rattle.rip_machine.specs.Law.{host_calls};
 ghost use Rattle.rip_machine.specs.Table.{rest_by, row_by, table};
 
-use crate::calls::{after_argument, after_callee, begin_call};
+use crate::calls::{after_argument, after_called, after_callee, begin_call};
 use crate::constructing::{after_constructor, after_new_argument, begin_new};
 use crate::exceptions::{
     after_finally_block, after_throw_value, after_try_block, begin_throw, begin_try, finally,
@@ -122,6 +122,9 @@ pub(crate) fn finish<H: Host>(
             callee,
             this,
         } => after_argument(alloc, p, heap, host, at, *place, callee, this, values, c),
+        Frame::Called { at, function, this } => {
+            after_called(alloc, p, heap, host, at, *function, this, values)
+        },
         Frame::MemberBase { at } => after_member_base(alloc, p, heap, host, at, c),
         Frame::Subscript { at, base } => after_subscript(alloc, p, heap, host, at, base, c),
         Frame::StepTarget { at } => after_step_target(alloc, p, heap, host, at, c),
@@ -193,6 +196,7 @@ fn finish_inside(
         // These may ask the host, and are finished above.
         Frame::Callee { at: _ }
         | Frame::Argument { .. }
+        | Frame::Called { .. }
         | Frame::MemberBase { at: _ }
         | Frame::Subscript { .. }
         | Frame::StepTarget { at: _ }

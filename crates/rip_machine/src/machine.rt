@@ -1,30 +1,32 @@
-ghost use Rattle.std.specs.Prelude.{◌≡◌, [], ⊤, Some, None, IfOk, IfErr, OnOk, MatchOption};
+ghost use Rattle.std.specs.Prelude.{◌≡◌, [], ⊤, length, Some, None, IfOk, IfErr, OnOk, MatchOption};
 ghost use Rattle.std.specs.Bool.{MatchBool};
 ghost use Rattle.rip_heap.specs.declared.class.Class.TheVariants.{ThrownTypeError};
 ghost use Rattle.rip_heap.specs.Growth.{Grows};
-ghost use Rattle.rip_heap.specs.World.{World, code_of, object_at};
+ghost use Rattle.rip_heap.specs.World.{World, charging};
 ghost use Rattle.rip_tree.specs.Program.{root_of};
 ghost use Rattle.rip_machine.specs.Law.{Begins, Resumes, Starts, host_calls, loaded, open_depth, outcome_of, stop_outcome, turned_of};
 ghost use Rattle.rip_machine.specs.Loading.{Loads, TextsStand};
-ghost use Rattle.rip_machine.specs.Reading.{children_from};
+ghost use Rattle.rip_machine.specs.Reading.{Loaded, children_from};
+ghost use Rattle.rip_machine.specs.Rows.Calls.{answered_by, answerer_of, callable};
 ghost use Rattle.rip_machine.specs.Rows.Functions.{body, function_entered, parameters};
 ghost use Rattle.rip_machine.specs.Rows.Names.{throws};
 ghost use Rattle.rip_machine.specs.Rows.Scripts.{script_entered};
 ghost use Rattle.rip_machine.specs.Rows.Statements.{statements};
-ghost use Rattle.rip_machine.specs.Starting.{begun, call_begun, function_part, script_begun};
+ghost use Rattle.rip_machine.specs.Starting.{begun, builtin_begun, call_begun, function_part, outside, script_begun};
 ghost use Rattle.rip_machine.specs.Table.{table};
 
 use crate::arguments::Arguments;
+use crate::calls::{Invocable, callable};
 use crate::functions::{enter_function, parameters};
 use crate::loading::{fits, load_texts, values_needed};
 use crate::outcome::{Outcome, Start, Turned};
 use crate::scripts::{enter_script, script_part};
 use crate::source::Source;
-use crate::steps::{begin_list, begin_throw, steps};
+use crate::steps::{begin_called, begin_list, begin_throw, steps};
 use rip_frames::{Completion, Control, Ending, Part, Role, Stack, Stop};
 use rip_heap::{Heap, Host};
 use rip_tree::Program;
-use rip_values::{Limit, NoMemory, Refused, Span, Value};
+use rip_values::{Builtin, Limit, NoMemory, Refused, Span, Value};
 use std::alloc::Global;
 use std::marker::Model;
 
@@ -118,7 +120,9 @@ impl Machine {
     }
 
     /// Begins a run with so much fuel. A script binds what it declares in the top scope, scope 0 of the heap; a function
-    /// is entered, at its own charge, and what is none throws a TypeError. A start that would pass a limit does nothing.
+    /// of the script is entered, at its own charge. Of a built-in function the arguments are charged, a cell each; its own
+    /// work is done in `resume`, where the host may be asked, and takes no fuel. What is no function throws a TypeError. A
+    /// start that would pass a limit does nothing.
     pub fn start(
         &mut self,
         alloc: Global,
@@ -175,11 +179,11 @@ impl Machine {
         fuel: u64,
     ) -> Result<(), Refused>
         ensures keeps { IfOk result (λ _. (self.new.literals ≡ self.old.literals) × (self.new.depth ≡ self.old.depth)) }
-        ensures starts { Starts (table (loaded program.now self.old)) (call_begun (loaded program.now self.old) self.old.depth this.now args.now (code_of (object_at heap.old function)) heap.old) fuel heap.old heap.new self.old self.new result }
+        ensures starts { Starts (table (loaded program.now self.old)) (call_begun (loaded program.now self.old) self.old.depth this.now args.now (callable heap.old (Value.Object function)) heap.old) fuel heap.old heap.new self.old self.new result }
         ensures grows { Grows heap.old heap.new }
     {
-        match heap.function(function) {
-            Some((f, scope)) => {
+        match callable(heap, &Value::Object(function)) {
+            Invocable::OfScript(f, scope) => {
                 if self.depth == 0 {
                     return Err(Refused::Limit(Limit::Depth));
                 }
@@ -189,7 +193,60 @@ impl Machine {
                     Err(NoMemory) => Err(Refused::Memory),
                 }
             },
-            None => self.begin_throw(alloc, program, heap, fuel),
+            Invocable::OfBuiltin(b) => self.start_builtin(heap, b, this, args, fuel),
+            Invocable::NotCallable => self.begin_throw(alloc, program, heap, fuel),
+        }
+    }
+
+    /// Charges the arguments of a built-in function, and stands where it is called from outside.
+    fn start_builtin(
+        &mut self,
+        heap: &mut Heap,
+        b: Builtin,
+        this: &Value,
+        args: &[Value],
+        fuel: u64,
+    ) -> Result<(), Refused>
+        ensures keeps { IfOk result (λ _. (self.new.literals ≡ self.old.literals) × (self.new.depth ≡ self.old.depth)) }
+        ensures starts { (p : Loaded) → Starts (table p) (builtin_begun p self.old.depth b this.now args.now (charging (length args.now) heap.old (λ x. x))) fuel heap.old heap.new self.old self.new result }
+        ensures grows { Grows heap.old heap.new }
+    {
+        if args.len() > u32::MAX as usize {
+            return Err(Refused::Memory);
+        }
+        match heap.charge(args.len() as u32) {
+            Ok(()) => self.begin_called(b, this, args, fuel),
+            Err(limit) => Err(Refused::Limit(limit)),
+        }
+    }
+
+    /// Stands where a built-in function is called from outside, and its arguments are charged.
+    fn begin_called(
+        &mut self,
+        b: Builtin,
+        this: &Value,
+        args: &[Value],
+        fuel: u64,
+    ) -> Result<(), Refused>
+        ensures begins { OnOk result ((p : Loaded) (w : World) → Begins (table p) (answered_by p (outside self.old.depth this.now) (answerer_of b) b this.now args.now w) fuel w self.new) }
+        ensures memory { IfErr result (λ refused. refused ≡ Refused.Memory) }
+        ensures keeps { (self.new.literals ≡ self.old.literals) × (self.new.depth ≡ self.old.depth) }
+    {
+        let at = Part {
+            node: 0,
+            scope: 0,
+            this: *this,
+            room: self.depth + 1,
+            role: Role::Value,
+        };
+        match begin_called(&mut self.stack, &at, b, this, args) {
+            Ok(control) => {
+                self.control = control;
+                self.fuel = fuel;
+                self.spent = 0;
+                Ok(())
+            },
+            Err(NoMemory) => Err(Refused::Memory),
         }
     }
 

@@ -4,7 +4,7 @@ ghost use Rattle.rip_heap.specs.World.{World};
 ghost use Rattle.rip_frames.specs.Frame.{part_of};
 ghost use Rattle.rip_frames.specs.Rest.{control_of, frame_of, rest};
 ghost use Rattle.rip_frames.specs.Stack.{framed, last_values, without_last};
-ghost use Rattle.rip_machine.specs.Law.{Stands, StandsAt, StopsWith, host_calls, weight};
+ghost use Rattle.rip_machine.specs.Law.{GoesOn, Stands, StopsWith, host_calls, weight};
 ghost use Rattle.rip_heap.specs.declared.class.Class.TheVariants.{ThrownTypeError};
 ghost use Rattle.rip_machine.specs.Reading.{children_from};
 ghost use Rattle.rip_machine.specs.Rows.Names.{throws};
@@ -17,7 +17,7 @@ use crate::source::Source;
 use crate::statements::statements;
 use rip_frames::{Completion, Control, Ending, Frame, Next, Part, Stack};
 use rip_heap::{Class, Heap, Host};
-use rip_values::{Limit, NoMemory};
+use rip_values::{Builtin, Limit, NoMemory, Value};
 use std::alloc::Global;
 
 /// Opens the frame of what a part does next, inside which so much depth is left, and gives what the run goes on with. A
@@ -87,7 +87,7 @@ pub(crate) fn begin_list(
     place: u32,
     depth: u32,
 ) -> Result<Control, NoMemory>
-    ensures { IfOk result (λ control. (w : World) → StandsAt (table p.now) (statements p.now at.now ending (children_from p.now at.now.node place) w) depth w control stack.new.frames) }
+    ensures { IfOk result (λ control. (w : World) → GoesOn (table p.now) (statements p.now at.now ending (children_from p.now at.now.node place) w) depth w control stack.new.frames) }
 {
     stack.clear();
     match statements(p, at, ending, place) {
@@ -104,7 +104,7 @@ pub(crate) fn begin_throw(
     stack: &mut Stack,
     depth: u32,
 ) -> Result<Control, NoMemory>
-    ensures stands { IfOk result (λ control. StandsAt (table p.now) (throws ThrownTypeError heap.old) depth heap.new control stack.new.frames) }
+    ensures stands { IfOk result (λ control. GoesOn (table p.now) (throws ThrownTypeError heap.old) depth heap.new control stack.new.frames) }
     ensures grows { Grows heap.old heap.new }
 {
     stack.clear();
@@ -112,6 +112,42 @@ pub(crate) fn begin_throw(
         Ok(next) => open(stack, next, depth),
         Err(NoMemory) => Err(NoMemory),
     }
+}
+
+/// Stands where a completion is given to the frame of a built-in function, which is called from outside, with all its
+/// arguments beside the frame, and with no other frame. Where they have no room it is want of memory.
+pub(crate) fn begin_called(
+    stack: &mut Stack,
+    at: &Part,
+    function: Builtin,
+    this: &Value,
+    args: &[Value],
+) -> Result<Control, NoMemory>
+    ensures control { IfOk result (λ control. control ≡ Control.Give (Completion.Normal Value.Undefined)) }
+    ensures frames { OnOk result (stack.new.frames ≡ framed (Frame.Called at.now function this.now) args.now ∷ []) }
+{
+    let frame = Frame::Called {
+        at: *at,
+        function,
+        this: *this,
+    };
+    stack.clear();
+    match stack.push(frame) {
+        Ok(()) => {},
+        Err(_) => return Err(NoMemory),
+    }
+    keep_values(stack, &frame, args)?;
+    Ok(Control::Give(Completion::Normal(Value::Undefined)))
+}
+
+/// Puts values beside the only frame, which has none yet. Where they have no room it is want of memory.
+fn keep_values(stack: &mut Stack, frame: &Frame, values: &[Value]) -> Result<(), NoMemory>
+    ensures { OnOk result (stack.old.frames ≡ framed frame.now [] ∷ [] → stack.new.frames ≡ framed frame.now values.now ∷ []) }
+{
+    for v in values {
+        stack.keep(*frame, *v)?;
+    }
+    Ok(())
 }
 
 /// A part is entered, whose unit was taken.
