@@ -1,0 +1,82 @@
+use Rattle.std.proofs.Common.{◌++◌, ◌-◌, ◌∙◌, ap, sym, arith}
+use Rattle.std.specs.Prelude.{codes}
+use Rattle.rip_heap.specs.Arrays.{elements_at}
+use Rattle.rip_heap.specs.World.{object_at}
+use Rattle.rip_values.specs.Pool.{text_at}
+use Rattle.rip_script.specs.Values.{contents_text, is_around, properties_of, property_text, value_text}
+use Rattle.rip_script.proofs.Printing.{all_shown, listed, no_item, one_more, own_at-none, own_at-some, property_parts, shows_builtin, shows_contents, shows_cycle, shows_deep, shows_function, written_as}
+use Rattle.rip_script.proofs.print.Printer.+print.Goals as goal
+
+pub object-returns-in-Some-clause-written : goal.object-returns-in-Some-clause-written
+object-returns-in-Some-clause-written t c =
+    written_as c.write_builtin.result _ _ _ _ (shows_builtin c.args.heap.now c.args.program.now c.args.levels c.args.self.now.around.items c.args.number c.in-Some.builtin c.in-Some.ensures) c.write_builtin.ensures
+
+pub object-returns-then-is_function-clause-written : goal.object-returns-then-is_function-clause-written
+object-returns-then-is_function-clause-written t c =
+    written_as c.write_function.result _ _ _ _ (shows_function c.args.heap.now c.args.program.now c.args.levels c.args.self.now.around.items c.args.number c.class-class.result c.function.result c.in_default.ensures c.class-class.ensures (sym c.if-is_function.true ∙ c.is_function.ensures) c.function.ensures) c.write_function.ensures
+
+pub object-returns-then-is_around-clause-written : goal.object-returns-then-is_around-clause-written
+object-returns-then-is_around-clause-written t c =
+    written_as c.text.result _ _ _ _
+    (shows_cycle c.args.heap.now c.args.program.now c.args.levels c.args.self.now.around.items c.args.number c.class-class.result c.in_default.ensures c.class-class.ensures (sym c.if-is_function.false ∙ c.is_function.ensures)
+    (sym c.if-is_around.true ∙ c.is_around.ensures ∙ ap (λ around. is_around around c.args.number) c.as_slice.ensures.value))
+    c.text.ensures.ok
+
+pub object-returns-then-levels-eq0-clause-written : goal.object-returns-then-levels-eq0-clause-written
+object-returns-then-levels-eq0-clause-written t c =
+    written_as c.text-then-levels-eq0.result _ _ _ _
+    (shows_deep c.args.heap.now c.args.program.now c.args.levels c.args.self.now.around.items c.args.number c.class-class.result c.in_default.ensures c.class-class.ensures (sym c.if-is_function.false ∙ c.is_function.ensures)
+    (sym c.if-is_around.false ∙ c.is_around.ensures ∙ ap (λ around. is_around around c.args.number) c.as_slice.ensures.value) c.if-levels-eq0.true)
+    c.text-then-levels-eq0.ensures.ok
+
+pub object-returns-clause-written : goal.object-returns-clause-written
+object-returns-clause-written t c =
+    let w = c.args.heap.now in
+    let program = c.args.program.now in
+    c.in_ok-contents.ensures.written
+    ∙ ap (λ around. c.args.self.now.out ++ contents_text w (λ v. value_text w program (c.args.levels - 1) around v) c.args.number c.class-class.result) c.in_ok-push.ensures.items
+    ∙ ap (λ text. c.args.self.now.out ++ text)
+    (sym (shows_contents w program c.args.levels (c.args.levels - 1) c.args.self.now.around.items c.args.number c.class-class.result c.in_default.ensures c.class-class.ensures (sym c.if-is_function.false ∙ c.is_function.ensures)
+    (sym c.if-is_around.false ∙ c.is_around.ensures ∙ ap (λ around. is_around around c.args.number) c.as_slice.ensures.value) (omega arith)))
+
+pub elements-returns-in_default-clause-written : goal.elements-returns-in_default-clause-written
+elements-returns-in_default-clause-written t c =
+    let w = c.args.heap.now in
+    let items = elements_at w c.args.number in
+    listed c.text-in_default.result (codes "[") (codes "]") c.args.self.now.out c.text.new.self c.loop-place.self.out c.text-in_default.new.self _ _
+    c.in_ok-text.ensures.ok c.loop-place.invariant.out
+    (all_shown (λ v. value_text w c.args.program.now c.args.levels c.args.self.now.around.items v) items c.loop-place.place (no_item items c.loop-place.place (sym c.in_default.ensures)))
+    c.text-in_default.ensures.ok
+
+pub elements-loop-place-preserved : goal.elements-loop-place-preserved
+elements-loop-place-preserved t c =
+    let w = c.args.heap.now in
+    let program = c.args.program.now in
+    record {
+      out = one_more (λ v. value_text w program c.args.levels c.args.self.now.around.items v) (elements_at w c.args.number) c.loop-place.place c.in-Some.item c.text.new.self c.loop-place.self.out c.write_comma.new.out c.value.new.self.out
+          (sym c.in-Some.ensures) c.loop-place.invariant.out c.in_ok-write_comma.ensures
+          (c.in_ok-value.ensures.written ∙ ap (λ around. c.write_comma.new.out ++ value_text w program c.args.levels around c.in-Some.item) c.loop-place.invariant.around);
+      around = c.in_ok-value.ensures.around ∙ c.loop-place.invariant.around;
+    }
+
+pub properties-returns-in_default-clause-written : goal.properties-returns-in_default-clause-written
+properties-returns-in_default-clause-written t c =
+    let w = c.args.heap.now in
+    let properties = properties_of (object_at w c.args.number) in
+    listed c.text-in_default.result (codes "{") (codes "}") c.args.self.now.out c.text.new.self c.loop-place.self.out c.text-in_default.new.self _ _
+    c.in_ok-text.ensures.ok c.loop-place.invariant.out
+    (all_shown (property_text w.pool (λ v. value_text w c.args.program.now c.args.levels c.args.self.now.around.items v)) properties c.loop-place.place (own_at-none w c.args.number c.loop-place.place (sym c.in_default.ensures)))
+    c.text-in_default.ensures.ok
+
+pub properties-loop-place-preserved : goal.properties-loop-place-preserved
+properties-loop-place-preserved t c =
+    let w = c.args.heap.now in
+    let program = c.args.program.now in
+    record {
+      out = one_more (property_text w.pool (λ v. value_text w program c.args.levels c.args.self.now.around.items v)) (properties_of (object_at w c.args.number)) c.loop-place.place (record { name = c.in-Some.name; value = c.in-Some.v }) c.text.new.self c.loop-place.self.out c.write_comma.new.out c.value.new.self.out
+          (own_at-some w c.args.number c.loop-place.place c.in-Some.name c.in-Some.v (sym c.in-Some.ensures)) c.loop-place.invariant.out c.in_ok-write_comma.ensures
+          (property_parts w.pool (λ v. value_text w program c.args.levels c.args.self.now.around.items v) c.in-Some.name c.in-Some.v c.write_comma.new.out c.write_name.new.out c.text-in-loop-place.new.self c.value.new.self.out c.get.result.now
+          c.in_ok-write_name.ensures (c.get.ensures ∙ ap (λ pool. text_at pool c.in-Some.name) c.pool.ensures) c.in_ok-text-2.ensures.ok
+          (c.in_ok-value.ensures.written ∙ ap (λ around. c.text-in-loop-place.new.self ++ value_text w program c.args.levels around c.in-Some.v) c.loop-place.invariant.around));
+      around = c.in_ok-value.ensures.around ∙ c.loop-place.invariant.around;
+    }

@@ -1,0 +1,38 @@
+//! The program `script`: the words of the command line, real files and standard output, handed to the top call.
+#![tactic(auto)]
+
+mod files;
+mod sink;
+
+use files::HostFiles;
+use rip_script::{Status, script};
+use sink::HostSink;
+use std::alloc::Global;
+use std::process::ExitCode;
+use std::rt::Env;
+use std::{env, io};
+
+/// The words behind the program's name.
+fn words(rt: &(impl Env + AllocGlobal), alloc: Global) -> io::Result<Vec<String>> {
+    let mut words = Vec::new(alloc);
+    for word in env::args(rt)?.skip(1) {
+        words.push(word)?;
+    }
+    Ok(words)
+}
+
+/// Words that are no text are answered as other words are; want of memory for them ends the run.
+fn main(rt: HostRuntime) -> ExitCode {
+    let alloc = rt.alloc();
+    let words = match words(&rt, alloc) {
+        Ok(words) => words,
+        Err(error) if error.kind() == io::ErrorKind::OutOfMemory => {
+            return ExitCode::from(Status::NoMemory as u8);
+        }
+        Err(_) => Vec::new(alloc),
+    };
+    let mut files = HostFiles::new(&rt);
+    let mut sink = HostSink::new(io::writer(&rt));
+    let status = script(alloc, words.as_slice(), &mut files, &mut sink);
+    ExitCode::from(status as u8)
+}
