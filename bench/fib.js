@@ -1,0 +1,3 @@
+"use strict";
+function fib(n) { return n < 2 ? n : fib(n - 1) + fib(n - 2); }
+var r = fib(24);
