@@ -1,7 +1,7 @@
-ghost use Rattle.std.specs.Prelude.{◌≡◌, ◌≤◌, ◌^◌, ◌<◌, ℕ, Some, IfSome, length, slice_get, option_and_then};
+ghost use Rattle.std.specs.Prelude.{◌≡◌, ◌≤◌, ◌+◌, ◌^◌, ◌<◌, ℕ, Some, IfSome, length, slice_get, option_and_then};
 ghost use Rattle.rip_values.specs.declared.value.Value.TheVariants.{Text};
 ghost use Rattle.rip_values.specs.Pool.{text_at};
-ghost use Rattle.rip_heap.specs.Outcome.{Answers, AnswersOrLacks};
+ghost use Rattle.rip_heap.specs.Outcome.{Answers};
 ghost use Rattle.rip_builtins.specs.Arguments.{value_or_fault};
 ghost use Rattle.rip_builtins.specs.Texts.{piece, place_within, clamped, char_at, char_code_at, substring, end_in, piece_between, unit_or_empty, number_or_nan};
 
@@ -12,24 +12,21 @@ use rip_values::{Fault, FixedText, Pool, Span, Value};
 
 // `charAt` (ECMA-262 15.5.4.4).
 pub fn char_at(heap: &Heap, text: Span, args: &[Value]) -> OpDone
-    ensures { AnswersOrLacks (char_at heap.now text args.now) heap.now result heap.now }
+    ensures { Answers (char_at heap.now text args.now) heap.now result heap.now }
 {
     match integer_of(heap, argument(args, 0)) {
-        Ok(place) => match unit_or_empty(heap.pool(), text, place) {
-            Some(unit) => OpDone::Value(Value::Text(unit)),
-            None => OpDone::Memory,
-        },
+        Ok(place) => OpDone::Value(Value::Text(unit_or_empty(heap.pool(), text, place))),
         Err(fault) => OpDone::Fault(fault),
     }
 }
 
 // The text of the unit at this place, or the empty text.
-fn unit_or_empty(pool: &Pool, text: Span, place: i64) -> Option<Span>
-    ensures { IfSome result (λ unit. unit ≡ unit_or_empty text (place_within (length (text_at pool.now text)) place)) }
+fn unit_or_empty(pool: &Pool, text: Span, place: i64) -> Span
+    ensures { result ≡ unit_or_empty text (place_within (length (text_at pool.now text)) place) }
 {
     match place_within(pool.get(text).len(), place) {
         Some(place) => piece(text, place, place + 1),
-        None => Some(fixed_span(FixedText::Empty)),
+        None => fixed_span(FixedText::Empty),
     }
 }
 
@@ -45,18 +42,15 @@ fn place_within(count: usize, place: i64) -> Option<usize>
     }
 }
 
-// The part of a text from one place up to another, if a span can name its start.
-fn piece(text: Span, from: usize, to: usize) -> Option<Span>
+// The part of a text from one place up to another.
+fn piece(text: Span, from: usize, to: usize) -> Span
     requires order { from ≤ to }
-    requires within { to < 2 ^ 32 }
-    ensures { IfSome result (λ span. span ≡ piece text from to) }
+    requires within { text.start + to < 2 ^ 32 }
+    ensures { result ≡ piece text from to }
 {
-    match text.start.checked_add(from as u32) {
-        Some(start) => Some(Span {
-            start,
-            count: (to - from) as u32,
-        }),
-        None => None,
+    Span {
+        start: text.start + from as u32,
+        count: (to - from) as u32,
     }
 }
 
@@ -82,14 +76,11 @@ fn number_or_nan(units: &[u16], place: i64) -> Value
 
 // `substring` (ECMA-262 15.5.4.15).
 pub fn substring(heap: &Heap, text: Span, args: &[Value]) -> OpDone
-    ensures { AnswersOrLacks (substring heap.now text args.now) heap.now result heap.now }
+    ensures { Answers (substring heap.now text args.now) heap.now result heap.now }
 {
     match integer_of(heap, argument(args, 0)) {
         Ok(a) => match end_of(heap, heap.pool().get(text).len(), argument(args, 1)) {
-            Ok(b) => match piece_between(heap.pool(), text, a, b) {
-                Some(part) => OpDone::Value(Value::Text(part)),
-                None => OpDone::Memory,
-            },
+            Ok(b) => OpDone::Value(Value::Text(piece_between(heap.pool(), text, a, b))),
             Err(fault) => OpDone::Fault(fault),
         },
         Err(fault) => OpDone::Fault(fault),
@@ -120,8 +111,8 @@ pub fn clamped(count: usize, place: i64) -> usize
 }
 
 // The part of the text between two places, the lesser first.
-fn piece_between(pool: &Pool, text: Span, a: i64, b: i64) -> Option<Span>
-    ensures { IfSome result (λ part. part ≡ piece_between text (clamped (length (text_at pool.now text)) a) (clamped (length (text_at pool.now text)) b)) }
+fn piece_between(pool: &Pool, text: Span, a: i64, b: i64) -> Span
+    ensures { result ≡ piece_between text (clamped (length (text_at pool.now text)) a) (clamped (length (text_at pool.now text)) b) }
 {
     let count = pool.get(text).len();
     let first = clamped(count, a);

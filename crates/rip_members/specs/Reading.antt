@@ -1,5 +1,5 @@
 -- What reading a member gives (ECMA-262 8.7.1 and 8.12.3), by the kind of its base.
-use Rattle.std.specs.Prelude.{ℕ, pos, Bool, true, false, ◌+◌, ◌^◌, ◌==◌, ◌&&◌, Option, None, Some, length, nat_lt, slice_get, unwrap_or, if◌then◌else◌}
+use Rattle.std.specs.Prelude.{ℕ, pos, Bool, true, false, ◌+◌, ◌==◌, ◌&&◌, Option, None, Some, length, nat_lt, slice_get, unwrap_or, if◌then◌else◌}
 use Rattle.rip_values.specs.declared.value.Span.{Span}
 use Rattle.rip_values.specs.declared.value.Value.{Value}
 use Rattle.rip_values.specs.declared.value.Value.TheVariants.{Undefined, Num, Text, Object}
@@ -35,11 +35,10 @@ call_or_fault (Some call) = Gives (Object (number_of call))
 
 -- TEXTS (15.5.5)
 
--- the text of the unit at this place, a piece of the text that costs nothing, or undefined past the end; a piece that no
--- span of 32-bit numbers can name counts as past it
+-- the text of the unit at this place, a piece of the text that costs nothing, or undefined past the end
 abbrev pub unit_of : Texts → Span → ℕ → Read
 unit_of pool text i =
-    if nat_lt i (length (text_at pool text)) && nat_lt (text.start + i) (2 ^ 32) then Gives (Text (record { start = text.start + i; count = 1 }))
+    if nat_lt i (length (text_at pool text)) then Gives (Text (record { start = text.start + i; count = 1 }))
     else Gives Undefined
 
 abbrev pub text_member : Texts → Span → Span → Option ℕ → Read

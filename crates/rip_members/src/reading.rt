@@ -78,7 +78,7 @@ fn unit_of(heap: &Heap, text: Span, index: u32) -> Read
     ensures { result ≡ unit_of heap.now.pool text index }
 {
     let units = heap.pool().get(text);
-    if (index as usize) < units.len() && index <= u32::MAX - text.start {
+    if (index as usize) < units.len() {
         Read::Value(Value::Text(Span {
             start: text.start + index,
             count: 1,

@@ -1,4 +1,4 @@
-ghost use Rattle.std.specs.Prelude.{◌≡◌, ◌↔◌, ℕ, ◌+◌, ◌-◌, ◌<◌, ◌≤◌, ◌++◌, [], length, OnOk, OnErr, IfOk, IfErr, IsErr, IfSome, IsNone, vec_len, vec_capacity, min};
+ghost use Rattle.std.specs.Prelude.{◌≡◌, ◌↔◌, ℕ, ◌+◌, ◌-◌, ◌^◌, ◌<◌, ◌≤◌, ◌++◌, [], length, OnOk, OnErr, IfOk, IfErr, IsErr, IfSome, IsNone, vec_len, vec_capacity, min};
 ghost use Rattle.std.specs.List.{flat_map};
 ghost use Rattle.rip_values.specs.Pool.{Texts, text_at, IsSpan, span_behind, with_text, joined, KeepsTexts};
 ghost use Rattle.rip_values.specs.FixedTexts.{text_of, fixed_span, fixed_units};
@@ -78,7 +78,8 @@ impl Pool {
 
     /// The text that the span stands for. Of a span past the end it is the part that is there.
     pub fn get(&self, s: Span) -> &[u16]
-        ensures { result.now ≡ text_at self.now s }
+        ensures text { result.now ≡ text_at self.now s }
+        ensures end { s.start + length result.now < 2 ^ 32 }
     {
         let (start, end) = within(s, self.units.len());
         &self.units[start..end]
