@@ -1,5 +1,5 @@
 -- What stands around a node of a tree.
-use Rattle.std.specs.Prelude.{ℕ, zero, suc, ◌==◌, Bool, true, false, ◌||◌, if◌then◌else◌, List, [], ◌∷◌, length, map, Option, None, Some, position}
+use Rattle.std.specs.Prelude.{ℕ, zero, suc, ◌==◌, Bool, true, false, ◌||◌, if◌then◌else◌, List, [], ◌∷◌, length, reverse, map, Option, None, Some, position}
 use Rattle.std.specs.List.{range_with_len}
 use Rattle.rip_tree.specs.declared.form.Form.{Form}
 use Rattle.rip_tree.specs.declared.form.Form.TheVariants as F
@@ -9,6 +9,10 @@ use Rattle.rip_tree.specs.Branches.{Plant, links_of, node_of}
 -- the numbers of the nodes
 abbrev pub numbers : Plant → List ℕ
 numbers t = range_with_len 0 (length t.branches)
+
+-- the same in the order in which the nodes end in the text: what ends later has the lesser number
+abbrev pub ends : Plant → List ℕ
+ends t = reverse (numbers t)
 
 -- the form of a node, or else that of the empty statement
 abbrev pub form_or_empty : Option Node → Form

@@ -1,4 +1,4 @@
-ghost use Rattle.std.specs.Prelude.{◌≡◌, fold, filter_map, length, option_map, OnOk};
+ghost use Rattle.std.specs.Prelude.{◌≡◌, ◌<◌, ◌-◌, fold, filter_map, length, option_map, OnOk};
 ghost use Rattle.rip_tree.specs.Branches.{units_at};
 ghost use Rattle.rip_early.specs.Around.{form_of, home_of};
 ghost use Rattle.rip_early.specs.Contexts.{AreContexts};
@@ -18,6 +18,14 @@ pub(crate) fn form_of(tree: &Tree, id: u32) -> Form
         return Form::Empty;
     }
     tree.node(id).form
+}
+
+/// The node that ends in the text behind so many others.
+pub(crate) fn end_at(tree: &Tree, seen: u32) -> u32
+    requires { seen < length tree.now.branches }
+    ensures { result ≡ length tree.now.branches - 1 - seen }
+{
+    tree.count() - 1 - seen
 }
 
 /// What a form names as a parameter.
@@ -137,7 +145,8 @@ pub(crate) fn add_vars<'a>(
     ensures kept { OnOk result (IsIndexed names.new) }
     ensures added { OnOk result (names_of names.new ≡ fold with_name (names_of names.old) (var_names tree.now home)) }
 {
-    for id in 0..tree.count() {
+    for seen in 0..tree.count() {
+        let id = end_at(tree, seen);
         names.add_any(var_name_in(tree, home, id, contexts[id as usize]))?;
     }
     Ok(())

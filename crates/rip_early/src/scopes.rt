@@ -6,7 +6,9 @@ ghost use Rattle.rip_early.specs.Names.{with_name, parameter_names, function_nam
 ghost use Rattle.rip_early.specs.declared.names.Names.{Names};
 
 use crate::context::{Context, contexts_of, parents_of};
-use crate::declared::{add_functions, add_parameters, add_vars, form_of, name_of, var_piece};
+use crate::declared::{
+    add_functions, add_parameters, add_vars, end_at, form_of, name_of, var_piece,
+};
 use crate::names::Names;
 use rip_tree::Tree;
 use rip_values::NoMemory;
@@ -82,7 +84,8 @@ fn add_all_vars<'a>(
     requires declared { AreGathered tree.now 0 (length tree.now.branches) scopes.old.items }
     ensures { OnOk result (AreScopes tree.now scopes.new.items) }
 {
-    for id in 0..tree.count() {
+    for seen in 0..tree.count() {
+        let id = end_at(tree, seen);
         let name = name_of(tree, var_piece(form_of(tree, id)));
         add_var(scopes, contexts[id as usize].home, name)?;
     }
