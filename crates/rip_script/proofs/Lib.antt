@@ -1,7 +1,13 @@
 pub mod Lengths
 pub mod Passing
 pub mod Drawing
+pub mod Reading
 pub mod Settling
+pub mod Running
 pub mod Writing
 pub mod Printing
 pub mod Runs
+pub mod Commands
+pub mod Declaring
+pub mod Evaluating
+pub mod Reporting

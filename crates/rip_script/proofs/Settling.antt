@@ -5,10 +5,10 @@ use Rattle.rip_outer.specs.Writing.{CountsPut, Takes}
 use Rattle.rip_outer.specs.declared.writing.SinkError.{SinkError}
 use Rattle.rip_outer.specs.declared.writing.SinkError.TheVariants.{Failed, Memory}
 use Rattle.rip_outer.proofs.Composing.{Front-none}
-use Rattle.rip_script.specs.Given.{RefusesTokens, RefusesTree, refusal_line}
+use Rattle.rip_script.specs.Given.{RefusesRun, RefusesTokens, RefusesTree, refusal_line}
 use Rattle.rip_script.specs.Steps.{CountsStatus, IsStop, IsWhole, Puts, PutsStop, PutsThen, Settles, status_after}
 use Rattle.rip_script.specs.declared.refusal.Refusal.{Refusal}
-use Rattle.rip_script.specs.declared.refusal.Refusal.TheVariants.{TooLong, NotUtf8, Lex, Parse}
+use Rattle.rip_script.specs.declared.refusal.Refusal.TheVariants.{TooLong, NotUtf8, Lex, Parse, Early}
 use Rattle.rip_script.specs.declared.refusal.Stop.{Stop}
 use Rattle.rip_script.specs.declared.refusal.Stop.TheVariants as stop
 use Rattle.rip_script.specs.declared.status.Status.{Status}
@@ -75,8 +75,21 @@ refuses_tree bytes TooLong h = h
 refuses_tree bytes NotUtf8 h = h
 refuses_tree bytes (Lex place kind) h = h
 refuses_tree bytes (Parse place kind) h = absurd h
+refuses_tree bytes (Early place kind) h = absurd h
 
 -- what has no tokens has no tree
 pub stops_tree : (bytes : List ℕ) (why : Stop) → IsStop (RefusesTokens bytes) why → IsStop (RefusesTree bytes) why
 stops_tree bytes (stop.Refused refusal) h = refuses_tree bytes refusal h
 stops_tree bytes stop.Memory h = tt
+
+refuses_run : (bytes : List ℕ) (refusal : Refusal) → RefusesTree bytes refusal → RefusesRun bytes refusal
+refuses_run bytes TooLong h = h
+refuses_run bytes NotUtf8 h = h
+refuses_run bytes (Lex place kind) h = h
+refuses_run bytes (Parse place kind) h = h
+refuses_run bytes (Early place kind) h = absurd h
+
+-- what has no tree is not run
+pub stops_run : (bytes : List ℕ) (why : Stop) → IsStop (RefusesTree bytes) why → IsStop (RefusesRun bytes) why
+stops_run bytes (stop.Refused refusal) h = refuses_run bytes refusal h
+stops_run bytes stop.Memory h = tt

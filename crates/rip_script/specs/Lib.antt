@@ -2,7 +2,10 @@ pub mod Lines
 pub mod Words
 pub mod Texts
 pub mod Forms
+pub mod Values
+pub mod TopNames
+pub mod Evaluation
+pub mod Report
 pub mod Given
 pub mod Run
 pub mod Steps
-pub mod Values

@@ -41,7 +41,7 @@ pub record PutsRefusal (words : List (List ℕ)) (old new : Told) : Type 0 where
   pub refuses : Refuses old.held task refusal
   pub put : new.put ≡ also (refusal_line refusal) old.put
 
--- the script is accepted, and what is asked for was put: its tokens or its tree
+-- the script is accepted, and what is asked for was put: its tokens, its tree, or what its run comes to
 pub record PutsAnswer (words : List (List ℕ)) (old new : Told) : Type 0 where
   pub task : Task
   pub asks : Asks words task old new

@@ -4,7 +4,19 @@ use Rattle.std.specs.List.{AllByRecursion, flat_map}
 use Rattle.rip_outer.specs.Outside.{Rose, Front, also}
 use Rattle.rip_outer.specs.declared.writing.SinkError.{SinkError}
 use Rattle.rip_outer.specs.declared.writing.SinkError.TheVariants.{Failed, Memory}
-use Rattle.rip_tree.specs.Branches.{Branch, node_of}
+use Rattle.rip_values.specs.declared.value.Refused.{Refused}
+use Rattle.rip_values.specs.declared.value.Refused.TheVariants.{Limit as At, Memory as NoRoom}
+use Rattle.rip_tree.specs.Branches.{Branch, Plant, node_of}
+use Rattle.rip_tree.specs.Program.{Code}
+use Rattle.rip_early.specs.Mistakes.{AreClean}
+use Rattle.rip_early.specs.Program.{program_of}
+use Rattle.rip_heap.specs.World.{World}
+use Rattle.rip_machine.specs.Law.{Standing}
+use Rattle.rip_machine.specs.declared.outcome.Turned.{Turned}
+use Rattle.rip_machine.specs.declared.outcome.Turned.TheVariants.{More}
+use Rattle.rip_machine.specs.declared.outcome.Turned.TheVariants as turned
+use Rattle.rip_script.specs.Evaluation.{IsEvaluated, IsStarted, stopped}
+use Rattle.rip_script.specs.declared.words.RunLimits.{RunLimits}
 use Rattle.rip_tree.specs.declared.node.Node.{Node}
 use Rattle.rip_script.specs.Given.{refusal_line}
 use Rattle.rip_script.specs.Texts.{lines_below, node_line}
@@ -116,3 +128,26 @@ PutsStop status stop.Memory old new = (status ≡ NoMemory) × (new ≡ old)
 abbrev pub comma_before : ℕ → List ℕ
 comma_before zero = []
 comma_before (suc place) = 44 ∷ []
+
+-- RUNNING
+
+-- the trees are this one alone
+abbrev pub IsOnly : List Plant → Plant → Type 0
+IsOnly trees tree = trees ≡ tree ∷ []
+
+-- the tree is the only one, and has no early error, and this is its program
+pub record IsChecked (tree : Plant) (trees : List Plant) (program : Code) : Type 0 where
+  pub only : IsOnly trees tree
+  pub clean : AreClean (tree ∷ [])
+  pub made : program ≡ program_of (tree ∷ [])
+
+-- how a run began: it stands at its beginning, or a limit stopped it. Of want of memory nothing is said
+abbrev pub BeginsRun : RunLimits → Code → Result (Unit {0}) Refused → World → Standing → Type 0
+BeginsRun limits code (Ok done) w m = IsStarted limits code w m
+BeginsRun limits code (Err (At limit)) w m = IsEvaluated limits code (stopped limit w)
+BeginsRun limits code (Err NoRoom) w m = Unit {0}
+
+-- the run is at its end
+abbrev pub IsOver : Turned → Type 0
+IsOver More = ⊥
+IsOver (turned.Done outcome) = Unit {0}

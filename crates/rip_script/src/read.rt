@@ -4,7 +4,7 @@ ghost use Rattle.rip_outer.specs.declared.reading.TheConstants.{MAX_FILE};
 ghost use Rattle.rip_grammar.specs.Phrases.{Phrase};
 ghost use Rattle.rip_parser.specs.Parsed.{HasTree, IsBody};
 ghost use Rattle.rip_parser.specs.Shows.{ShowsScript};
-ghost use Rattle.rip_script.specs.Given.{HasTokens, RefusesTokens, RefusesTree};
+ghost use Rattle.rip_script.specs.Given.{HasItsTree, HasTokens, RefusesTokens, RefusesTree};
 ghost use Rattle.rip_script.specs.Steps.{IsStop};
 ghost use Rattle.rip_values.specs.Text.{IsSameText};
 
@@ -72,5 +72,17 @@ impl Script {
             })),
             Err(ParseRefusal::Memory) => Err(Stop::Memory),
         }
+    }
+}
+
+/// The tree of the script that the bytes spell.
+pub fn read_tree(alloc: Global, bytes: &[u8]) -> Result<Tree, Stop>
+    requires { length bytes.now ≤ MAX_FILE }
+    ensures tree { IfOk result (HasItsTree bytes.now) }
+    ensures refused { IfErr result (IsStop (RefusesTree bytes.now)) }
+{
+    match Script::read(alloc, bytes) {
+        Ok(script) => script.tree(alloc),
+        Err(stop) => Err(stop),
     }
 }

@@ -1,6 +1,7 @@
 ghost use Rattle.std.specs.Prelude.{◌≡◌, IfOk, string_bytes};
 ghost use Rattle.rip_script.specs.Given.{refusal_line};
 
+use rip_early::EarlyKind;
 use rip_lexer::LexKind;
 use rip_parser::ParseKind;
 use std::alloc::{AllocError, Global};
@@ -16,6 +17,8 @@ pub enum Refusal {
     Lex { place: u32, kind: LexKind },
     /// The tokens have no tree.
     Parse { place: u32, kind: ParseKind },
+    /// The script has an early error.
+    Early { place: u32, kind: EarlyKind },
 }
 
 /// Why reading a script stopped.
@@ -36,6 +39,7 @@ impl Refusal {
             Refusal::NotUtf8 => String::from_str(alloc, "refused NotUtf8 0\n"),
             Refusal::Lex { place, kind } => format!(in alloc; "refused {kind} {place}\n"),
             Refusal::Parse { place, kind } => format!(in alloc; "refused {kind} {place}\n"),
+            Refusal::Early { place, kind } => format!(in alloc; "refused {kind} {place}\n"),
         }
     }
 }

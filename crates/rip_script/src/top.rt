@@ -1,16 +1,19 @@
 ghost use Rattle.std.specs.Prelude.{◌≡◌, ◌≤◌, length, map, string_bytes, List, ℕ};
 ghost use Rattle.rip_outer.specs.declared.reading.TheConstants.{MAX_FILE};
-ghost use Rattle.rip_script.specs.Given.{AnswersBytes, DrawsTree, ListsTokens, RefusesBytes, RefusesTokens, RefusesTree, refusal_line};
+ghost use Rattle.rip_script.specs.Given.{AnswersBytes, DrawsTree, IsRun, ListsTokens, RefusesBytes, RefusesRun, RefusesTokens, RefusesTree, refusal_line};
 ghost use Rattle.rip_script.specs.Run.{Ran};
 ghost use Rattle.rip_script.specs.Steps.{CountsStatus, IsWhole, PutsStop, PutsThen, Settles, status_after};
 ghost use Rattle.rip_script.specs.Words.{task_of};
 
+use crate::checked::Checked;
 use crate::draw::put_tree;
+use crate::evaluate::evaluate;
 use crate::list::put_tokens;
-use crate::read::Script;
+use crate::read::{Script, read_tree};
 use crate::refusal::{Refusal, Stop};
+use crate::report::put_run;
 use crate::status::Status;
-use crate::words::{Command, command_of};
+use crate::words::{Command, RunLimits, command_of};
 use rip_outer::{Files, FilesError, Sink, SinkError};
 use std::alloc::Global;
 
@@ -81,16 +84,31 @@ fn settle_tree<S: Sink>(alloc: Global, bytes: &[u8], out: &mut S) -> Status
     ensures settles { Settles (DrawsTree bytes.now) (RefusesTree bytes.now) result (S.held out.old) (S.held out.new) }
     ensures counted { CountsStatus result (S.count out.old) (S.count out.new) }
 {
-    let script = match Script::read(alloc, bytes) {
-        Ok(script) => script,
-        Err(stop) => return stop_at(alloc, stop, out),
-    };
-    match script.tree(alloc) {
+    match read_tree(alloc, bytes) {
         Ok(tree) => {
             let put = put_tree(alloc, &tree, out);
             status_after(put, Status::Done)
         }
         Err(stop) => stop_at(alloc, stop, out),
+    }
+}
+
+/// Puts what a run of the script that the bytes spell comes to, or why it is refused.
+fn settle_run<S: Sink>(alloc: Global, bytes: &[u8], limits: RunLimits, out: &mut S) -> Status
+    requires { length bytes.now ≤ MAX_FILE }
+    ensures settles { Settles (λ text. IsRun bytes.now limits text) (RefusesRun bytes.now) result (S.held out.old) (S.held out.new) }
+    ensures counted { CountsStatus result (S.count out.old) (S.count out.new) }
+{
+    let checked = match Checked::read(alloc, bytes) {
+        Ok(checked) => checked,
+        Err(stop) => return stop_at(alloc, stop, out),
+    };
+    match evaluate(alloc, &checked.program, limits) {
+        Ok(ended) => {
+            let put = put_run(alloc, checked.tree(), &checked.program, &ended, out);
+            status_after(put, Status::Done)
+        }
+        Err(_) => Status::NoMemory,
     }
 }
 
@@ -104,13 +122,15 @@ fn settle<S: Sink>(alloc: Global, command: Command<'_>, bytes: &[u8], out: &mut 
     match command {
         Command::Tokens(_) => settle_tokens(alloc, bytes, out),
         Command::Tree(_) => settle_tree(alloc, bytes, out),
+        Command::Run(_, limits) => settle_run(alloc, bytes, limits, out),
     }
 }
 
 /// Does what the words say, over these files and this sink.
 ///
-/// The words are `tokens FILE` or `tree FILE`: a line is put for each token of the script in that file, or for each node
-/// of its tree, or one line that says why the script is refused. Other words are answered by the usage line.
+/// The words are `tokens FILE`, `tree FILE`, or `run FILE` with up to four limits behind it: a line is put for each token
+/// of the script in that file, or for each node of its tree, or the lines of what a run comes to, or one line that says why
+/// the script is refused. Other words are answered by the usage line.
 pub fn script<F: Files, S: Sink>(
     alloc: Global,
     words: &[String],

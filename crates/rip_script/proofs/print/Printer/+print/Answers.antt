@@ -76,7 +76,7 @@ properties-loop-place-preserved t c =
       out = one_more (property_text w.pool (λ v. value_text w program c.args.levels c.args.self.now.around.items v)) (properties_of (object_at w c.args.number)) c.loop-place.place (record { name = c.in-Some.name; value = c.in-Some.v }) c.text.new.self c.loop-place.self.out c.write_comma.new.out c.value.new.self.out
           (own_at-some w c.args.number c.loop-place.place c.in-Some.name c.in-Some.v (sym c.in-Some.ensures)) c.loop-place.invariant.out c.in_ok-write_comma.ensures
           (property_parts w.pool (λ v. value_text w program c.args.levels c.args.self.now.around.items v) c.in-Some.name c.in-Some.v c.write_comma.new.out c.write_name.new.out c.text-in-loop-place.new.self c.value.new.self.out c.get.result.now
-          c.in_ok-write_name.ensures (c.get.ensures ∙ ap (λ pool. text_at pool c.in-Some.name) c.pool.ensures) c.in_ok-text-2.ensures.ok
+          c.in_ok-write_name.ensures (c.get.ensures.text ∙ ap (λ pool. text_at pool c.in-Some.name) c.pool.ensures) c.in_ok-text-2.ensures.ok
           (c.in_ok-value.ensures.written ∙ ap (λ around. c.text-in-loop-place.new.self ++ value_text w program c.args.levels around c.in-Some.v) c.loop-place.invariant.around));
       around = c.in_ok-value.ensures.around ∙ c.loop-place.invariant.around;
     }

@@ -1,0 +1,217 @@
+ghost use Rattle.std.specs.Prelude.{◌≡◌, ◌∷◌, ◌++◌, [], codes, decimal, OnOk};
+ghost use Rattle.rip_heap.specs.Scopes.{binding};
+ghost use Rattle.rip_outer.specs.Writing.{CountsPut};
+ghost use Rattle.rip_script.specs.Lines.{line_text, lines_text};
+ghost use Rattle.rip_script.specs.Report.{bound_word, fault_word, head_lines, limit_word, name_word, outcome_words, run_text, value_word};
+ghost use Rattle.rip_script.specs.Steps.{Puts};
+ghost use Rattle.rip_script.specs.TopNames.{name_at};
+
+use crate::block::{put_block, put_full_block};
+use crate::evaluate::Ended;
+use crate::named::write_name;
+use crate::names::top_names;
+use crate::print::value_text;
+use rip_heap::Heap;
+use rip_machine::Outcome;
+use rip_outer::{Sink, SinkError};
+use rip_tree::{Piece, Program, Tree};
+use rip_values::{Fault, Limit, NoMemory, Value};
+use rip_wire::Writer;
+use std::alloc::Global;
+
+/// Puts what a run came to: how it ended, what it took, and a line for each binding of the top scope.
+pub fn put_run<S: Sink>(
+    alloc: Global,
+    tree: &Tree,
+    program: &Program,
+    ended: &Ended,
+    out: &mut S,
+) -> Result<(), SinkError>
+    ensures put { Puts result (run_text tree.now program.now ended.now) (S.held out.old) (S.held out.new) }
+    ensures counted { CountsPut result (S.count out.old) (S.count out.new) }
+{
+    let names = top_names(alloc, tree, program)?;
+    let mut block = Writer::new(alloc);
+    write_head(alloc, &mut block, program, ended)?;
+    for place in 0..ended.heap.names(0) {
+        let name = name_at(names.as_slice(), place);
+        write_binding(alloc, &mut block, tree, program, &ended.heap, name, place)?;
+        put_full_block(&mut block, out)?;
+    }
+    put_block(&mut block, out)
+}
+
+/// Writes how a run ended, and what it took.
+fn write_head(
+    alloc: Global,
+    out: &mut Writer,
+    program: &Program,
+    ended: &Ended,
+) -> Result<(), NoMemory>
+    ensures { OnOk result (out.new ≡ out.old ++ lines_text (head_lines program.now ended.now)) }
+{
+    write_outcome(alloc, out, program, &ended.heap, ended.outcome)?;
+    write_count(out, b"fuel", ended.spent)?;
+    write_count(out, b"cells", u64::from(ended.heap.used_cells()))?;
+    write_count(out, b"units", u64::from(ended.heap.pool().used()))
+}
+
+/// Writes the line of the outcome.
+fn write_outcome(
+    alloc: Global,
+    out: &mut Writer,
+    program: &Program,
+    heap: &Heap,
+    outcome: Outcome,
+) -> Result<(), NoMemory>
+    ensures { OnOk result (out.new ≡ out.old ++ line_text (codes "outcome" ∷ outcome_words heap.now program.now outcome)) }
+{
+    match outcome {
+        Outcome::Value(v) => write_valued(alloc, out, program, heap, b"value", v),
+        Outcome::Thrown(v) => write_valued(alloc, out, program, heap, b"thrown", v),
+        Outcome::Fault(fault) => write_kind(out, b"fault", fault_word(fault)),
+        Outcome::Limit(limit) => write_kind(out, b"limit", limit_word(limit)),
+        Outcome::Memory => out.text(b"outcome memory\n"),
+    }
+}
+
+/// Writes the line of an outcome of this kind that has a value.
+fn write_valued(
+    alloc: Global,
+    out: &mut Writer,
+    program: &Program,
+    heap: &Heap,
+    kind: &[u8],
+    v: Value,
+) -> Result<(), NoMemory>
+    ensures { OnOk result (out.new ≡ out.old ++ line_text (codes "outcome" ∷ kind.now ∷ value_word heap.now program.now v ∷ [])) }
+{
+    let text = value_text(alloc, heap, program, v)?;
+    write_kind(out, kind, text.as_slice())
+}
+
+/// Writes the line of an outcome of this kind, with what it is of behind it.
+fn write_kind(out: &mut Writer, kind: &[u8], what: &[u8]) -> Result<(), NoMemory>
+    ensures { OnOk result (out.new ≡ out.old ++ line_text (codes "outcome" ∷ kind.now ∷ what.now ∷ [])) }
+{
+    out.text(b"outcome ")?;
+    out.text(kind)?;
+    out.text(b" ")?;
+    out.text(what)?;
+    out.text(b"\n")
+}
+
+/// Writes a value.
+fn write_value(
+    alloc: Global,
+    out: &mut Writer,
+    program: &Program,
+    heap: &Heap,
+    v: Value,
+) -> Result<(), NoMemory>
+    ensures { OnOk result (out.new ≡ out.old ++ value_word heap.now program.now v) }
+{
+    let text = value_text(alloc, heap, program, v)?;
+    out.text(text.as_slice())
+}
+
+/// Writes the line of a count.
+fn write_count(out: &mut Writer, word: &[u8], count: u64) -> Result<(), NoMemory>
+    ensures { OnOk result (out.new ≡ out.old ++ line_text (word.now ∷ decimal count ∷ [])) }
+{
+    out.text(word)?;
+    out.text(b" ")?;
+    out.number(count)?;
+    out.text(b"\n")
+}
+
+/// The name of the binding at this place.
+fn name_at(names: &[Option<Piece>], place: u32) -> Option<Piece>
+    ensures { result ≡ name_at names.now place }
+{
+    match names.get(place as usize) {
+        Some(name) => *name,
+        None => None,
+    }
+}
+
+/// Writes the line of the binding of the top scope at this place.
+fn write_binding(
+    alloc: Global,
+    out: &mut Writer,
+    tree: &Tree,
+    program: &Program,
+    heap: &Heap,
+    name: Option<Piece>,
+    place: u32,
+) -> Result<(), NoMemory>
+    ensures { OnOk result (out.new ≡ out.old ++ line_text (name_word tree.now name ∷ codes "=" ∷ bound_word heap.now program.now (binding heap.now 0 place) ∷ [])) }
+{
+    write_name_of(alloc, out, tree, name)?;
+    out.text(b" = ")?;
+    write_bound(alloc, out, program, heap, heap.binding(0, place))?;
+    out.text(b"\n")
+}
+
+/// Writes the name of a binding, or `?` where it has none.
+fn write_name_of(
+    alloc: Global,
+    out: &mut Writer,
+    tree: &Tree,
+    name: Option<Piece>,
+) -> Result<(), NoMemory>
+    ensures { OnOk result (out.new ≡ out.old ++ name_word tree.now name) }
+{
+    match name {
+        Some(name) => write_name(alloc, out, tree.units(name)),
+        None => out.text(b"?"),
+    }
+}
+
+/// Writes the value of a binding, or `unbound` where it has none yet.
+fn write_bound(
+    alloc: Global,
+    out: &mut Writer,
+    program: &Program,
+    heap: &Heap,
+    value: Option<Value>,
+) -> Result<(), NoMemory>
+    ensures { OnOk result (out.new ≡ out.old ++ bound_word heap.now program.now value) }
+{
+    match value {
+        Some(v) => write_value(alloc, out, program, heap, v),
+        None => out.text(b"unbound"),
+    }
+}
+
+/// A fault by its name.
+fn fault_word(fault: Fault) -> &'static [u8]
+    ensures { result.now ≡ fault_word fault }
+{
+    match fault {
+        Fault::NotWhole => b"NotWhole",
+        Fault::Infinite => b"Infinite",
+        Fault::OutOfRange => b"OutOfRange",
+        Fault::Hole => b"Hole",
+        Fault::NotInProfile => b"NotInProfile",
+        Fault::ObjectToPrimitive => b"ObjectToPrimitive",
+        Fault::BadArgument => b"BadArgument",
+        Fault::LoneSurrogate => b"LoneSurrogate",
+        Fault::TextTooLong => b"TextTooLong",
+    }
+}
+
+/// A limit by its name.
+fn limit_word(limit: Limit) -> &'static [u8]
+    ensures { result.now ≡ limit_word limit }
+{
+    match limit {
+        Limit::Fuel => b"Fuel",
+        Limit::Cells => b"Cells",
+        Limit::Units => b"Units",
+        Limit::Nodes => b"Nodes",
+        Limit::Depth => b"Depth",
+        Limit::Queue => b"Queue",
+        Limit::Replies => b"Replies",
+    }
+}
