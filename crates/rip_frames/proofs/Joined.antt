@@ -1,7 +1,7 @@
 -- Frames joined with their values, when the innermost frame is put on or taken off.
-use Rattle.std.proofs.Common.{◌≡◌, ℕ, zero, suc, ◌+◌, ◌-◌, ◌≤◌, List, [], ◌∷◌, ◌++◌, length, take, drop, sum_by, slice_get, get_or, Some, sym, refl, ap, ap₂, ◌∙◌, arith, take_all, take-suc, length-drop, length-take-le, take-append-drop, append-nil, append_assoc, zero-add}
+use Rattle.std.proofs.Common.{◌≡◌, ℕ, zero, suc, ◌+◌, ◌-◌, ◌≤◌, List, [], ◌∷◌, ◌++◌, length, take, drop, sum_by, slice_get, slice_set, get_or, Some, ◌<◌, length-set, sym, refl, ap, ap₂, ◌∙◌, arith, take_all, take-suc, length-drop, length-take-le, take-append-drop, append-nil, append_assoc, zero-add}
 use Rattle.std.proofs.lemmas.Option.{slice_get_within}
-use Rattle.std.proofs.lemmas.List.{take-append-le, drop-append-le, length_push}
+use Rattle.std.proofs.lemmas.List.{take-append-le, drop-append-le, length_push, take_more_set}
 use Rattle.std.proofs.lemmas.List.Sums.{sum_by-append}
 use Rattle.std.proofs.Math.Seq.{take-append_seam}
 use Rattle.rip_values.specs.declared.value.Value.{Value}
@@ -77,6 +77,18 @@ last-split es e h =
     slice_get-or [] i e h = refl
     slice_get-or (d ∷ es) zero e h = cc
     slice_get-or (d ∷ es) (suc i) e h = slice_get-or es i e h
+
+-- the same by its place, which is numbered
+pub last-taken : (es : List Entry) (n : ℕ) (e : Entry) → n ≡ length es → 0 < n → e ≡ get_or es (n - 1) e → es ≡ take (n - 1) es ++ e ∷ []
+last-taken es n e is some g =
+    let lt : n - 1 < length es = omega arith in
+    sym (take_all (suc (n - 1)) es (omega arith)) ∙ take-suc es (n - 1) e lt ∙ ap (λ x. take (n - 1) es ++ x ∷ []) (sym g)
+
+-- another entry in its place
+pub set-last : (es : List Entry) (n : ℕ) (r : Entry) → n ≡ length es → 0 < n → slice_set es (n - 1) r ≡ take (n - 1) es ++ r ∷ []
+set-last es n r is some =
+    let lt : n - 1 < length es = omega arith in
+    sym (take_all (n - 1 + 1) (slice_set es (n - 1) r) (omega (arith, length-set es (n - 1) r))) ∙ take_more_set es (n - 1) r lt
 
 -- WHAT A STACK HOLDS
 

@@ -207,8 +207,8 @@ pub enum Frame {
 
 impl Frame {
     /// The part that is open.
-    pub fn part(&self) -> Part
-        ensures { result ≡ part_of self.now }
+    pub fn part(&self) -> &Part
+        ensures { result.now ≡ part_of self.now }
     {
         match self {
             Frame::Statement { at, .. }
@@ -252,7 +252,7 @@ impl Frame {
             | Frame::CompoundValue { at, .. }
             | Frame::CommaLeft { at, .. }
             | Frame::Called { at, .. }
-            | Frame::Last { at, .. } => *at,
+            | Frame::Last { at, .. } => at,
         }
     }
 }

@@ -69,11 +69,11 @@ impl Stack {
     }
 
     /// The innermost frame.
-    pub fn top(&self) -> Option<Frame>
-        ensures { MatchOption result (self.now.frames ≡ []) (λ frame. self.now.frames ≡ without_last self.now.frames ++ framed frame (last_values self.now.frames) ∷ []) }
+    pub fn top(&self) -> Option<&Frame>
+        ensures { MatchOption result (self.now.frames ≡ []) (λ frame. self.now.frames ≡ without_last self.now.frames ++ framed frame.now (last_values self.now.frames) ∷ []) }
     {
         match last_of(&self.entries) {
-            Some(entry) => Some(entry.frame),
+            Some(entry) => Some(&entry.frame),
             None => None,
         }
     }
@@ -89,16 +89,19 @@ impl Stack {
     }
 
     /// Puts a frame with no values behind the others. A stack that is full stays as it is.
-    pub fn push(&mut self, frame: Frame) -> Result<(), Limit>
+    pub fn push(&mut self, frame: &Frame) -> Result<(), Limit>
         ensures room { IsOk result ↔ (length self.old.frames < self.old.most) }
         ensures depth { IfErr result (λ limit. limit ≡ Limit.Depth) }
-        ensures pushed { OnOk result (self.new ≡ record self.old { frames = self.old.frames ++ framed frame [] ∷ [] }) }
+        ensures pushed { OnOk result (self.new ≡ record self.old { frames = self.old.frames ++ framed frame.now [] ∷ [] }) }
         ensures kept { OnErr result (self.new ≡ self.old) }
     {
         if self.entries.len() >= self.most as usize {
             return Err(Limit::Depth);
         }
-        self.entries.push_reserved(Entry { frame, values: 0 });
+        self.entries.push_reserved(Entry {
+            frame: *frame,
+            values: 0,
+        });
         Ok(())
     }
 
@@ -107,42 +110,49 @@ impl Stack {
         ensures frame { MatchOption result (self.old.frames ≡ []) (λ frame. self.old.frames ≡ without_last self.old.frames ++ framed frame (last_values self.old.frames) ∷ []) }
         ensures popped { self.new ≡ record self.old { frames = without_last self.old.frames } }
     {
-        match self.entries.pop() {
-            Some(entry) => {
-                self.values
-                    .truncate(self.values.len() - entry.values as usize);
-                Some(entry.frame)
-            },
-            None => None,
+        let frame = self.top().copied();
+        self.close();
+        frame
+    }
+
+    /// The same, where nobody asks for the frame. Where there is none, nothing is done.
+    pub fn close(&mut self)
+        ensures { self.new ≡ record self.old { frames = without_last self.old.frames } }
+    {
+        if let Some(entry) = last_of(&self.entries) {
+            let values = self.values.len() - entry.values as usize;
+            self.values.truncate(values);
+            self.entries.truncate(self.entries.len() - 1);
         }
     }
 
     /// Puts a frame with no values in place of the innermost one and its values. Where there is none, nothing is done.
-    pub fn replace(&mut self, frame: Frame)
-        ensures { 0 < length self.old.frames → self.new ≡ record self.old { frames = without_last self.old.frames ++ framed frame [] ∷ [] } }
+    pub fn replace(&mut self, frame: &Frame)
+        ensures { 0 < length self.old.frames → self.new ≡ record self.old { frames = without_last self.old.frames ++ framed frame.now [] ∷ [] } }
     {
-        if let Some(entry) = self.entries.pop() {
-            self.values
-                .truncate(self.values.len() - entry.values as usize);
-            self.entries.push_reserved(Entry { frame, values: 0 });
+        if let Some(last) = self.entries.last_mut() {
+            let values = self.values.len() - last.values as usize;
+            self.values.truncate(values);
+            last.frame = *frame;
+            last.values = 0;
         }
     }
 
     /// Puts a frame in place of the innermost one, and a value behind the values beside it. Where there is none, or
     /// where no more values have room, nothing is done.
-    pub fn keep(&mut self, frame: Frame, value: Value) -> Result<(), NoMemory>
+    pub fn keep(&mut self, frame: &Frame, value: &Value) -> Result<(), NoMemory>
         ensures room { IsOk result ↔ ((0 < length self.old.frames) × (count_of_values self.old.frames < self.old.room)) }
-        ensures kept { OnOk result (self.new ≡ record self.old { frames = without_last self.old.frames ++ framed frame (last_values self.old.frames ++ value ∷ []) ∷ [] }) }
+        ensures kept { OnOk result (self.new ≡ record self.old { frames = without_last self.old.frames ++ framed frame.now (last_values self.old.frames ++ value.now ∷ []) ∷ [] }) }
         ensures unchanged { OnErr result (self.new ≡ self.old) }
     {
         if self.values.len() >= self.room as usize {
             return Err(NoMemory);
         }
-        match self.entries.pop() {
+        match self.entries.last_mut() {
             Some(entry) => {
-                self.values.push_reserved(value);
-                let values = entry.values + 1;
-                self.entries.push_reserved(Entry { frame, values });
+                self.values.push_reserved(*value);
+                entry.frame = *frame;
+                entry.values += 1;
                 Ok(())
             },
             None => Err(NoMemory),
@@ -159,11 +169,8 @@ impl Stack {
 }
 
 // The last entry.
-fn last_of(entries: &Vec<Entry>) -> Option<Entry>
-    ensures { MatchOption result (entries.now.items ≡ []) (λ e. entries.now.items ≡ take (length entries.now.items - 1) entries.now.items ++ e ∷ []) }
+fn last_of(entries: &Vec<Entry>) -> Option<&Entry>
+    ensures { MatchOption result (entries.now.items ≡ []) (λ e. entries.now.items ≡ take (length entries.now.items - 1) entries.now.items ++ e.now ∷ []) }
 {
-    match entries.last() {
-        Some(entry) => Some(*entry),
-        None => None,
-    }
+    entries.last()
 }

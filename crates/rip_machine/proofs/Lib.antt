@@ -3,6 +3,7 @@ pub mod Children
 pub mod Clauses
 pub mod Filling
 pub mod Loads
+pub mod Nested
 pub mod Resumes
 pub mod Scopes
 pub mod StepLaws

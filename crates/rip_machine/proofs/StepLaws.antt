@@ -1,5 +1,5 @@
 -- What one step leaves of a run.
-use Rattle.std.proofs.Common.{◌≡◌, ℕ, ◌+◌, ◌*◌, ◌<◌, ◌≤◌, List, [], ◌∷◌, ◌++◌, length, Result, Ok, Err, IfOk, OnOk, refl, ap, sym, ◌∙◌, arith, add-one, append-nil}
+use Rattle.std.proofs.Common.{◌≡◌, ℕ, ◌+◌, ◌-◌, ◌<◌, ◌≤◌, List, [], ◌∷◌, ◌++◌, length, Result, Ok, Err, IfOk, OnOk, refl, ap, sym, subst, ◌∙◌, arith, add-one, append-nil}
 use Rattle.std.proofs.lemmas.List.{length_push}
 use Rattle.rip_values.specs.declared.value.Value.{Value}
 use Rattle.rip_heap.specs.World.{World}
@@ -9,6 +9,7 @@ use Rattle.rip_frames.specs.declared.next.Control.TheVariants.{Enter, Give}
 use Rattle.rip_frames.specs.declared.next.Next.{Next}
 use Rattle.rip_frames.specs.declared.next.Next.TheVariants.{End, Halt, Ask, Keep, Turn}
 use Rattle.rip_frames.specs.declared.part.Part.{Part}
+use Rattle.rip_frames.specs.Frame.{part_of}
 use Rattle.rip_frames.specs.Rest.{as_row, control_of, frame_of, rest, unwind}
 use Rattle.rip_frames.specs.Row.{Row, Table, entered}
 use Rattle.rip_frames.specs.Run.{Calling, run}
@@ -16,12 +17,12 @@ use Rattle.rip_frames.specs.Stack.{Open}
 use Rattle.rip_frames.specs.Settle.{settle}
 use Rattle.rip_frames.proofs.Laws.{rest-next, rest-enters, rest-gives}
 use Rattle.rip_frames.proofs.Settles.{run-settles}
-use Rattle.rip_machine.specs.Law.{StopsWith, weight}
+use Rattle.rip_machine.specs.Law.{StopsWith}
 
--- two facts of the value of an answer
-pub ok_both : {T E : Type 0} (r : Result T E) (P Q : T → Type 0) (F : Type 0) → IfOk r P → OnOk r F → ((x : T) → P x → F → Q x) → IfOk r Q
-ok_both (Ok x) P Q F p f go = go x p f
-ok_both (Err e) P Q F p f go = tt
+-- two facts of an answer give a third
+pub ok_both : {T E : Type 0} (r : Result T E) (P Q F : Type 0) → OnOk r P → OnOk r Q → (P → Q → F) → OnOk r F
+ok_both (Ok x) P Q F p q go = go p q
+ok_both (Err e) P Q F p q go = tt
 
 -- what holds of a value with each y holds of it with this one
 pub ok_at : {T E A : Type 0} (r : Result T E) (P : T → A → Type 0) (y : A) → IfOk r (λ x. (z : A) → P x z) → IfOk r (λ x. P x y)
@@ -47,23 +48,6 @@ give_rest {S = S} h t room c next below os frames o control w x s r u row is d f
     ∙ ap (unwind h t below) (run-settles h t (t.rest o c w) u s) ∙ sym (rest-gives h t c below o u w s)
     ∙ ap (λ fs. rest h t (Give c) fs u w s) (sym is)
 
-next_weight : (room : ℕ) (next : Next) (values : List Value) (os : List Open) → weight (control_of room next) (os ++ frame_of next values) ≤ 2 * length os + 2
-next_weight room (End c) values os = rw append-nil (omega arith)
-next_weight room (Halt stop) values os = rw append-nil (omega arith)
-next_weight room (Ask part frame) values os = omega (arith, length_push os (record { frame = frame; values = [] }))
-next_weight room (Keep part frame v) values os = omega (arith, length_push os (record { frame = frame; values = values ++ v ∷ [] }))
-next_weight room (Turn part frame) values os = omega (arith, length_push os (record { frame = frame; values = [] }))
-
-pub enter_weight : (room : ℕ) (next : Next) (os frames : List Open) (control : Control) → control ≡ control_of room next → frames ≡ os ++ frame_of next [] → weight control frames ≤ 2 * length os + 2
-enter_weight room next os frames control c f = rw (c, f) (next_weight room next [] os)
-
-pub give_weight : (room : ℕ) (c : Completion) (next : Next) (values : List Value) (below os frames : List Open) (o : Open) (control : Control) → os ≡ below ++ o ∷ [] → control ≡ control_of room next
-    → frames ≡ below ++ frame_of next values → weight control frames < weight (Give c) os
-give_weight room c next values below os frames o control is d f =
-    let n : length os ≡ length below + 1 = ap length is ∙ length_push below o in
-    let m : weight control frames ≤ 2 * length below + 2 = rw (d, f) (next_weight room next values below) in
-    omega arith
-
 -- what stops the run leaves the depth inside the part
 pub stops_with : (room : ℕ) (next : Next) (control : Control) → control ≡ control_of room next → StopsWith room control
 stops_with room next control c = rw c (all room next)
@@ -74,3 +58,14 @@ stops_with room next control c = rw c (all room next)
     all room (Ask part frame) = tt
     all room (Keep part frame v) = tt
     all room (Turn part frame) = tt
+
+last_same : (below : List Open) (o x : Open) → below ++ o ∷ [] ≡ below ++ x ∷ [] → o ≡ x
+last_same [] o x e = cc
+last_same (p ∷ below) o x e = last_same below o x (cc)
+
+-- the same where the part of the innermost frame is open
+pub stops_at_last : (os below : List Open) (o x : Open) (next : Next) (control : Control) → os ≡ below ++ o ∷ [] → control ≡ control_of ((part_of o.frame).room - 1) next
+    → os ≡ below ++ x ∷ [] → StopsWith ((part_of x.frame).room - 1) control
+stops_at_last os below o x next control is c e =
+    let P : Open → Type 0 = λ y. StopsWith ((part_of y.frame).room - 1) control in
+    subst P (last_same below o x (sym is ∙ e)) (stops_with ((part_of o.frame).room - 1) next control c)

@@ -1,6 +1,7 @@
 pub mod Keeping
 pub mod Law
 pub mod Loading
+pub mod Nesting
 pub mod Reading
 pub mod Rows
 pub mod Starting

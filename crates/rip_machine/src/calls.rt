@@ -1,11 +1,12 @@
-ghost use Rattle.std.specs.Prelude.{◌≡◌, [], length, IfOk, List, MatchResult};
+ghost use Rattle.std.specs.Prelude.{◌≡◌, [], length, IfOk, List, MatchOption, MatchResult, ℕ};
 ghost use Rattle.rip_values.specs.declared.value.Value.{Value as ScriptValue};
 ghost use Rattle.rip_heap.specs.Growth.{Grows};
 ghost use Rattle.rip_heap.specs.World.{World};
 ghost use Rattle.rip_frames.specs.Rest.{as_row};
-ghost use Rattle.rip_frames.specs.Row.{Row, Table};
+ghost use Rattle.rip_frames.specs.Row.{Ends, Halts, Row};
 ghost use Rattle.rip_frames.specs.Settle.{settle};
 ghost use Rattle.rip_machine.specs.Law.{host_calls};
+ghost use Rattle.rip_machine.specs.Nesting.{Nests};
 ghost use Rattle.rip_machine.specs.Reading.{children_from};
 ghost use Rattle.rip_values.specs.Builtins.{number_of};
 ghost use Rattle.rip_builtins.specs.Builtins.{builtin};
@@ -15,7 +16,7 @@ ghost use Rattle.rip_machine.specs.Rows.Calls.{answered_by, answerer_at, answere
 ghost use Rattle.rip_machine.specs.Table.{rest_by, table};
 
 use crate::arguments::Arguments;
-use crate::expressions::{give, value_of};
+use crate::expressions::{end, give, halt, value_of};
 use crate::functions::{enter_function, parameters};
 use crate::hosted::ask_call;
 use crate::names::throw;
@@ -111,6 +112,7 @@ pub(crate) fn enter(
     ending: Ending,
 ) -> Result<Next, NoMemory>
     ensures row { IfOk result (λ next. (values : List ScriptValue) → as_row (table p.now) next values heap.new ≡ enters p.now at.now function.0 function.1 this.now args.now ending heap.old) }
+    ensures nests { IfOk result (Nests at.now.room) }
     ensures grows { Grows heap.old heap.new }
 {
     if at.room.saturating_sub(1) == 0 {
@@ -125,9 +127,9 @@ pub(crate) fn enter(
 
 // BUILT-IN FUNCTIONS
 
-/// Charges the arguments of a built-in function, or answers that the run stops.
-pub(crate) fn charge(heap: &mut Heap, args: &Arguments) -> Result<Result<(), Next>, NoMemory>
-    ensures charged { IfOk result (λ r. MatchResult r (λ _. (go : World → Row) → charged (length args.now) heap.old go ≡ go heap.new) (λ next. (t : Table) (values : List ScriptValue) (go : World → Row) → as_row t next values heap.new ≡ charged (length args.now) heap.old go)) }
+/// Charges the arguments of a built-in function, or answers the limit at which the run stops.
+pub(crate) fn charge(heap: &mut Heap, args: &Arguments) -> Result<Result<(), Limit>, NoMemory>
+    ensures charged { IfOk result (λ r. MatchResult r (λ _. (go : World → Row) → charged (length args.now) heap.old go ≡ go heap.new) (λ limit. (go : World → Row) → charged (length args.now) heap.old go ≡ Halts (Stop.Limit limit) heap.new)) }
     ensures grows { Grows heap.old heap.new }
 {
     let count = args.count();
@@ -136,7 +138,7 @@ pub(crate) fn charge(heap: &mut Heap, args: &Arguments) -> Result<Result<(), Nex
     }
     match heap.charge(count as u32) {
         Ok(()) => Ok(Ok(())),
-        Err(limit) => Ok(Err(Next::Halt(Stop::Limit(limit)))),
+        Err(limit) => Ok(Err(limit)),
     }
 }
 
@@ -150,11 +152,12 @@ pub(crate) fn call_table(
     args: &Arguments,
 ) -> Result<Next, NoMemory>
     ensures row { IfOk result (λ next. (values : List ScriptValue) → as_row (table p.now) next values heap.new ≡ with_outcome (builtin heap.old b this.now args.now) heap.old gives) }
+    ensures nests { (room : ℕ) → IfOk result (Nests room) }
     ensures grows { Grows heap.old heap.new }
 {
     let list = args.to_vec(alloc)?;
     match builtin(alloc, heap, b, *this, list.as_slice()) {
-        OpDone::Value(v) => Ok(give(v)),
+        OpDone::Value(v) => give(v),
         OpDone::TypeFault => throw(alloc, p, heap, Class::ThrownTypeError),
         OpDone::Fault(fault) => Ok(Next::Halt(Stop::Fault(fault))),
         OpDone::Limit(limit) => Ok(Next::Halt(Stop::Limit(limit))),
@@ -165,6 +168,7 @@ pub(crate) fn call_table(
 /// `call` is a call of functions of the script alone.
 fn call_on_other(alloc: Global, p: &Source, heap: &mut Heap, this: &Value) -> Result<Next, NoMemory>
     ensures row { IfOk result (λ next. (values : List ScriptValue) → as_row (table p.now) next values heap.new ≡ call_on_other this.now heap.old) }
+    ensures nests { (room : ℕ) → IfOk result (Nests room) }
     ensures grows { Grows heap.old heap.new }
 {
     match this {
@@ -183,6 +187,7 @@ fn call_through(
     args: &Arguments,
 ) -> Result<Next, NoMemory>
     ensures row { IfOk result (λ next. (values : List ScriptValue) → as_row (table p.now) next values heap.new ≡ call_through p.now at.now (callable heap.old this.now) this.now args.now heap.old) }
+    ensures nests { IfOk result (Nests at.now.room) }
     ensures grows { Grows heap.old heap.new }
 {
     match callable(heap, this) {
@@ -208,6 +213,7 @@ fn answer_builtin<H: Host>(
 ) -> Result<Next, NoMemory>
     requires { H.fits host.old heap.old }
     ensures row { IfOk result (λ next. (values : List ScriptValue) → (as_row (table p.now) next values heap.new, host.new) ≡ settle (host_calls H.read_gives H.write_gives H.call_gives) (answered_by p.now at.now (answerer_of b) b this.now args.now heap.old) host.old) }
+    ensures nests { IfOk result (Nests at.now.room) }
     ensures fits { H.fits host.new heap.new }
     ensures grows { Grows heap.old heap.new }
 {
@@ -231,12 +237,13 @@ fn call_builtin<H: Host>(
 ) -> Result<Next, NoMemory>
     requires { H.fits host.old heap.old }
     ensures row { IfOk result (λ next. (values : List ScriptValue) → (as_row (table p.now) next values heap.new, host.new) ≡ settle (host_calls H.read_gives H.write_gives H.call_gives) (builtin_called p.now at.now b this.now args.now heap.old) host.old) }
+    ensures nests { IfOk result (Nests at.now.room) }
     ensures fits { H.fits host.new heap.new }
     ensures grows { Grows heap.old heap.new }
 {
     match charge(heap, args)? {
         Ok(()) => answer_builtin(alloc, p, heap, host, at, b, this, args),
-        Err(next) => Ok(next),
+        Err(limit) => halt(Stop::Limit(limit)),
     }
 }
 
@@ -253,6 +260,7 @@ pub(crate) fn after_called<H: Host>(
 ) -> Result<Next, NoMemory>
     requires { H.fits host.old heap.old }
     ensures row { IfOk result (λ next. (c : Completion) → (as_row (table p.now) next values.now heap.new, host.new) ≡ settle (host_calls H.read_gives H.write_gives H.call_gives) (rest_by p.now (Frame.Called at.now function this.now) values.now c heap.old) host.old) }
+    ensures nests { IfOk result (Nests at.now.room) }
     ensures fits { H.fits host.new heap.new }
     ensures grows { Grows heap.old heap.new }
 {
@@ -272,12 +280,13 @@ fn call_host<H: Host>(
 ) -> Result<Next, NoMemory>
     requires { H.fits host.old heap.old }
     ensures row { IfOk result (λ next. (values : List ScriptValue) → (as_row (table p.now) next values heap.new, host.new) ≡ settle (host_calls H.read_gives H.write_gives H.call_gives) (asks_call (number_of b) this.now args.now heap.old gives) host.old) }
+    ensures nests { (room : ℕ) → IfOk result (Nests room) }
     ensures fits { H.fits host.new heap.new }
     ensures grows { Grows heap.old heap.new }
 {
     let list = args.to_vec(alloc)?;
     match ask_call(alloc, p, heap, host, b.number(), *this, list.as_slice())? {
-        Ok(v) => Ok(give(v)),
+        Ok(v) => give(v),
         Err(next) => Ok(next),
     }
 }
@@ -297,6 +306,7 @@ fn called<H: Host>(
 ) -> Result<Next, NoMemory>
     requires { H.fits host.old heap.old }
     ensures row { IfOk result (λ next. (values : List ScriptValue) → (as_row (table p.now) next values heap.new, host.new) ≡ settle (host_calls H.read_gives H.write_gives H.call_gives) (called p.now at.now callee.now this.now args.now heap.old) host.old) }
+    ensures nests { IfOk result (Nests at.now.room) }
     ensures fits { H.fits host.new heap.new }
     ensures grows { Grows heap.old heap.new }
 {
@@ -320,10 +330,11 @@ fn callee_part(p: &Source, at: &Part) -> Part
     }
 }
 
-pub(crate) fn begin_call(p: &Source, at: &Part) -> Next
-    ensures { (values : List ScriptValue) (w : World) → as_row (table p.now) result values w ≡ call_row p.now at.now w }
+pub(crate) fn begin_call(p: &Source, at: &Part) -> Result<Next, NoMemory>
+    ensures row { IfOk result (λ next. (values : List ScriptValue) (w : World) → as_row (table p.now) next values w ≡ call_row p.now at.now w) }
+    ensures nests { IfOk result (Nests at.now.room) }
 {
-    Next::Ask(callee_part(p, at), Frame::Callee { at: *at })
+    Ok(Next::Ask(callee_part(p, at), Frame::Callee { at: *at }))
 }
 
 /// A function and the value of `this` for its call.
@@ -333,17 +344,20 @@ struct Method {
     this: Value,
 }
 
-/// What a callee is, or what the call ends with.
-fn method_of(c: Completion) -> Result<Method, Next>
-    ensures method { MatchResult result (λ method. (w : World) (go : ScriptValue → ScriptValue → Row) → with_callee c w go ≡ go method.function method.this) (λ next. (t : Table) (values : List ScriptValue) (w : World) (go : ScriptValue → ScriptValue → Row) → as_row t next values w ≡ with_callee c w go) }
+/// What a callee is; any other completion ends the call.
+fn method_of(c: &Completion) -> Option<Method>
+    ensures { MatchOption result ((w : World) (go : ScriptValue → ScriptValue → Row) → with_callee c.now w go ≡ Ends c.now w) (λ method. (w : World) (go : ScriptValue → ScriptValue → Row) → with_callee c.now w go ≡ go method.function method.this) }
 {
     match c {
-        Completion::Normal(function) => Ok(Method {
-            function,
+        Completion::Normal(function) => Some(Method {
+            function: *function,
             this: Value::Undefined,
         }),
-        Completion::Method { function, this } => Ok(Method { function, this }),
-        _ => Err(Next::End(c)),
+        Completion::Method { function, this } => Some(Method {
+            function: *function,
+            this: *this,
+        }),
+        _ => None,
     }
 }
 
@@ -354,16 +368,17 @@ pub(crate) fn after_callee<H: Host>(
     heap: &mut Heap,
     host: &mut H,
     at: &Part,
-    c: Completion,
+    c: &Completion,
 ) -> Result<Next, NoMemory>
     requires { H.fits host.old heap.old }
-    ensures row { IfOk result (λ next. (values : List ScriptValue) → (as_row (table p.now) next values heap.new, host.new) ≡ settle (host_calls H.read_gives H.write_gives H.call_gives) (rest_by p.now (Frame.Callee at.now) [] c heap.old) host.old) }
+    ensures row { IfOk result (λ next. (values : List ScriptValue) → (as_row (table p.now) next values heap.new, host.new) ≡ settle (host_calls H.read_gives H.write_gives H.call_gives) (rest_by p.now (Frame.Callee at.now) [] c.now heap.old) host.old) }
+    ensures nests { IfOk result (Nests at.now.room) }
     ensures fits { H.fits host.new heap.new }
     ensures grows { Grows heap.old heap.new }
 {
     let method = match method_of(c) {
-        Ok(method) => method,
-        Err(next) => return Ok(next),
+        Some(method) => method,
+        None => return end(c),
     };
     match p.child_at(at.node, 1) {
         Some(a) => {
@@ -405,10 +420,11 @@ pub(crate) fn after_argument<H: Host>(
     callee: &Value,
     this: &Value,
     values: &[Value],
-    c: Completion,
+    c: &Completion,
 ) -> Result<Next, NoMemory>
     requires { H.fits host.old heap.old }
-    ensures row { IfOk result (λ next. (as_row (table p.now) next values.now heap.new, host.new) ≡ settle (host_calls H.read_gives H.write_gives H.call_gives) (rest_by p.now (Frame.Argument at.now place callee.now this.now) values.now c heap.old) host.old) }
+    ensures row { IfOk result (λ next. (as_row (table p.now) next values.now heap.new, host.new) ≡ settle (host_calls H.read_gives H.write_gives H.call_gives) (rest_by p.now (Frame.Argument at.now place callee.now this.now) values.now c.now heap.old) host.old) }
+    ensures nests { IfOk result (Nests at.now.room) }
     ensures fits { H.fits host.new heap.new }
     ensures grows { Grows heap.old heap.new }
 {
@@ -416,7 +432,7 @@ pub(crate) fn after_argument<H: Host>(
         return Err(NoMemory);
     }
     match value_of(c) {
-        Ok(v) => match p.child_at(at.node, place + 2) {
+        Some(v) => match p.child_at(at.node, place + 2) {
             Some(a) => {
                 let frame = Frame::Argument {
                     at: *at,
@@ -434,6 +450,6 @@ pub(crate) fn after_argument<H: Host>(
                 called(alloc, p, heap, host, at, callee, this, &args)
             },
         },
-        Err(next) => Ok(next),
+        None => end(c),
     }
 }

@@ -1,14 +1,15 @@
-ghost use Rattle.std.specs.Prelude.{◌≡◌, [], IfOk, List};
+ghost use Rattle.std.specs.Prelude.{◌≡◌, [], IfOk, List, ℕ};
 ghost use Rattle.rip_values.specs.declared.value.Value.{Value as ScriptValue};
 ghost use Rattle.rip_heap.specs.Growth.{Grows};
 ghost use Rattle.rip_heap.specs.World.{World};
 ghost use Rattle.rip_frames.specs.Rest.{as_row};
+ghost use Rattle.rip_machine.specs.Nesting.{Nests};
 ghost use Rattle.rip_machine.specs.Rows.Constructing.{constructed_from, constructs, made_by, making_of, new_row, plain_prototype, prototype_of, prototype_value};
 ghost use Rattle.rip_machine.specs.Table.{rest_by, table};
 
 use crate::arguments::Arguments;
 use crate::calls::{Invocable, call_table, callable, charge, enter};
-use crate::expressions::value_of;
+use crate::expressions::{end, halt, value_of};
 use crate::names::throw;
 use crate::source::{Source, part};
 use rip_frames::{Completion, Ending, Frame, Next, Part, Stop};
@@ -74,6 +75,7 @@ fn construct(
     args: &Arguments,
 ) -> Result<Next, NoMemory>
     ensures row { IfOk result (λ next. (values : List ScriptValue) → as_row (table p.now) next values heap.new ≡ constructed_from p.now at.now function.0 function.1 args.now proto heap.old) }
+    ensures nests { IfOk result (Nests at.now.room) }
     ensures grows { Grows heap.old heap.new }
 {
     let proto = match proto {
@@ -100,12 +102,13 @@ fn construct_builtin(
     args: &Arguments,
 ) -> Result<Next, NoMemory>
     ensures row { IfOk result (λ next. (values : List ScriptValue) → as_row (table p.now) next values heap.new ≡ made_by p.now (making_of b) b args.now heap.old) }
+    ensures nests { (room : ℕ) → IfOk result (Nests room) }
     ensures grows { Grows heap.old heap.new }
 {
     match making_of(b) {
         Making::Errors => match charge(heap, args)? {
             Ok(()) => call_table(alloc, p, heap, b, &Value::Undefined, args),
-            Err(next) => Ok(next),
+            Err(limit) => halt(Stop::Limit(limit)),
         },
         Making::OutsideProfile => Ok(Next::Halt(Stop::Fault(Fault::NotInProfile))),
         Making::Nothing => throw(alloc, p, heap, Class::ThrownTypeError),
@@ -122,6 +125,7 @@ fn constructs(
     args: &Arguments,
 ) -> Result<Next, NoMemory>
     ensures row { IfOk result (λ next. (values : List ScriptValue) → as_row (table p.now) next values heap.new ≡ constructs p.now at.now constructor.now args.now heap.old) }
+    ensures nests { IfOk result (Nests at.now.room) }
     ensures grows { Grows heap.old heap.new }
 {
     match callable(heap, constructor) {
@@ -134,10 +138,11 @@ fn constructs(
     }
 }
 
-pub(crate) fn begin_new(p: &Source, at: &Part) -> Next
-    ensures { (values : List ScriptValue) (w : World) → as_row (table p.now) result values w ≡ new_row p.now at.now w }
+pub(crate) fn begin_new(p: &Source, at: &Part) -> Result<Next, NoMemory>
+    ensures row { IfOk result (λ next. (values : List ScriptValue) (w : World) → as_row (table p.now) next values w ≡ new_row p.now at.now w) }
+    ensures nests { IfOk result (Nests at.now.room) }
 {
-    Next::Ask(p.part_at(at, 0), Frame::Constructor { at: *at })
+    Ok(Next::Ask(p.part_at(at, 0), Frame::Constructor { at: *at }))
 }
 
 #[tactic(auto, using(crate::proofs::Children::children_some, crate::proofs::Children::children_none))]
@@ -146,13 +151,14 @@ pub(crate) fn after_constructor(
     p: &Source,
     heap: &mut Heap,
     at: &Part,
-    c: Completion,
+    c: &Completion,
 ) -> Result<Next, NoMemory>
-    ensures row { IfOk result (λ next. (values : List ScriptValue) → as_row (table p.now) next values heap.new ≡ rest_by p.now (Frame.Constructor at.now) [] c heap.old) }
+    ensures row { IfOk result (λ next. (values : List ScriptValue) → as_row (table p.now) next values heap.new ≡ rest_by p.now (Frame.Constructor at.now) [] c.now heap.old) }
+    ensures nests { IfOk result (Nests at.now.room) }
     ensures grows { Grows heap.old heap.new }
 {
     match value_of(c) {
-        Ok(constructor) => match p.child_at(at.node, 1) {
+        Some(constructor) => match p.child_at(at.node, 1) {
             Some(a) => {
                 let frame = Frame::NewArgument {
                     at: *at,
@@ -169,7 +175,7 @@ pub(crate) fn after_constructor(
                 constructs(alloc, p, heap, at, &constructor, &args)
             },
         },
-        Err(next) => Ok(next),
+        None => end(c),
     }
 }
 
@@ -182,16 +188,17 @@ pub(crate) fn after_new_argument(
     place: u32,
     constructor: &Value,
     values: &[Value],
-    c: Completion,
+    c: &Completion,
 ) -> Result<Next, NoMemory>
-    ensures row { IfOk result (λ next. as_row (table p.now) next values.now heap.new ≡ rest_by p.now (Frame.NewArgument at.now place constructor.now) values.now c heap.old) }
+    ensures row { IfOk result (λ next. as_row (table p.now) next values.now heap.new ≡ rest_by p.now (Frame.NewArgument at.now place constructor.now) values.now c.now heap.old) }
+    ensures nests { IfOk result (Nests at.now.room) }
     ensures grows { Grows heap.old heap.new }
 {
     if place > u32::MAX - 2 {
         return Err(NoMemory);
     }
     match value_of(c) {
-        Ok(v) => match p.child_at(at.node, place + 2) {
+        Some(v) => match p.child_at(at.node, place + 2) {
             Some(a) => {
                 let frame = Frame::NewArgument {
                     at: *at,
@@ -208,6 +215,6 @@ pub(crate) fn after_new_argument(
                 constructs(alloc, p, heap, at, constructor, &args)
             },
         },
-        Err(next) => Ok(next),
+        None => end(c),
     }
 }

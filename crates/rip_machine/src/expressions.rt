@@ -1,10 +1,11 @@
-ghost use Rattle.std.specs.Prelude.{◌≡◌, [], pos, if◌then◌else◌, None, IfOk, IfErr, MatchResult, List};
+ghost use Rattle.std.specs.Prelude.{◌≡◌, ℕ, [], pos, if◌then◌else◌, None, IfOk, List, MatchOption, Ok, Some};
 ghost use Rattle.rip_values.specs.declared.value.Value.{Value as ScriptValue};
 ghost use Rattle.rip_heap.specs.World.{World};
 ghost use Rattle.rip_heap.specs.Growth.{Grows};
 ghost use Rattle.rip_heap.specs.Conversions.{boolean_of, span_of};
 ghost use Rattle.rip_ops.specs.Operators.{unary as unary_outcome};
 ghost use Rattle.rip_heap.specs.Outcome.{value_of as value_of_number};
+ghost use Rattle.rip_machine.specs.Nesting.{Nests};
 ghost use Rattle.rip_machine.specs.Reading.{part_at};
 ghost use Rattle.rip_frames.specs.Rest.{as_row};
 ghost use Rattle.rip_frames.specs.Row.{Asks, Row, Ends, with_value};
@@ -27,29 +28,35 @@ use rip_values::{
 };
 use std::alloc::Global;
 
-/// The value of a normal completion, or what a row ends with.
-pub(crate) fn value_of(c: Completion) -> Result<Value, Next>
-    ensures value { MatchResult result (λ v. c ≡ Completion.Normal v) (λ next. next ≡ Next.End c) }
-    ensures ends { IfErr result (λ _. (w : World) (go : ScriptValue → Row) → with_value c w go ≡ Ends c w) }
+/// The value of a normal completion; any other ends the row.
+pub(crate) fn value_of(c: &Completion) -> Option<Value>
+    ensures { MatchOption result ((w : World) (go : ScriptValue → Row) → with_value c.now w go ≡ Ends c.now w) (λ v. c.now ≡ Completion.Normal v) }
 {
     match c {
-        Completion::Normal(v) => Ok(v),
-        Completion::Thrown(v) => Err(Next::End(Completion::Thrown(v))),
-        Completion::Returned(v) => Err(Next::End(Completion::Returned(v))),
-        Completion::Broken => Err(Next::End(Completion::Broken)),
-        Completion::Continued => Err(Next::End(Completion::Continued)),
-        Completion::Referred(r) => Err(Next::End(Completion::Referred(r))),
-        Completion::Method { function, this } => {
-            Err(Next::End(Completion::Method { function, this }))
-        },
+        Completion::Normal(v) => Some(*v),
+        _ => None,
     }
 }
 
 /// The row ends with a value.
-pub(crate) fn give(v: Value) -> Next
-    ensures { result ≡ Next.End (Completion.Normal v) }
+pub(crate) fn give(v: Value) -> Result<Next, NoMemory>
+    ensures { result ≡ Ok (Next.End (Completion.Normal v)) }
 {
-    Next::End(Completion::Normal(v))
+    Ok(Next::End(Completion::Normal(v)))
+}
+
+/// The row ends with a completion.
+pub(crate) fn end(c: &Completion) -> Result<Next, NoMemory>
+    ensures { result ≡ Ok (Next.End c.now) }
+{
+    Ok(Next::End(*c))
+}
+
+/// The run stops.
+pub(crate) fn halt(stop: Stop) -> Result<Next, NoMemory>
+    ensures { result ≡ Ok (Next.Halt stop) }
+{
+    Ok(Next::Halt(stop))
 }
 
 // NAMES
@@ -61,31 +68,34 @@ pub(crate) fn begin_name(
     at: &Part,
 ) -> Result<Next, NoMemory>
     ensures row { IfOk result (λ next. (values : List ScriptValue) → as_row (table p.now) next values heap.new ≡ name_row p.now at.now at.now.role heap.old) }
+    ensures nests { IfOk result (Nests at.now.room) }
     ensures grows { Grows heap.old heap.new }
 {
     match at.role {
         Role::Value | Role::Callee => match found(heap, at.scope, p.scoping(at.node).resolved) {
-            Some(v) => Ok(give(v)),
+            Some(v) => give(v),
             None => throw(alloc, p, heap, Class::ThrownReferenceError),
         },
-        Role::Target => Ok(give(Value::Undefined)),
+        Role::Target => give(Value::Undefined),
     }
 }
 
 // OPERATORS OF TWO OPERANDS
 
-pub(crate) fn begin_binary(p: &Source, at: &Part) -> Next
-    ensures { (values : List ScriptValue) (w : World) → as_row (table p.now) result values w ≡ binary_row p.now at.now w }
+pub(crate) fn begin_binary(p: &Source, at: &Part) -> Result<Next, NoMemory>
+    ensures row { IfOk result (λ next. (values : List ScriptValue) (w : World) → as_row (table p.now) next values w ≡ binary_row p.now at.now w) }
+    ensures nests { IfOk result (Nests at.now.room) }
 {
-    Next::Ask(p.part_at(at, 0), Frame::Left { at: *at })
+    Ok(Next::Ask(p.part_at(at, 0), Frame::Left { at: *at }))
 }
 
-pub(crate) fn after_left(p: &Source, at: &Part, c: Completion) -> Next
-    ensures { (values : List ScriptValue) (w : World) → as_row (table p.now) result values w ≡ rest_by p.now (Frame.Left at.now) [] c w }
+pub(crate) fn after_left(p: &Source, at: &Part, c: &Completion) -> Result<Next, NoMemory>
+    ensures row { IfOk result (λ next. (values : List ScriptValue) (w : World) → as_row (table p.now) next values w ≡ rest_by p.now (Frame.Left at.now) [] c.now w) }
+    ensures nests { IfOk result (Nests at.now.room) }
 {
     match value_of(c) {
-        Ok(left) => Next::Ask(p.part_at(at, 1), Frame::Right { at: *at, left }),
-        Err(next) => next,
+        Some(left) => Ok(Next::Ask(p.part_at(at, 1), Frame::Right { at: *at, left })),
+        None => end(c),
     }
 }
 
@@ -95,41 +105,49 @@ pub(crate) fn after_right(
     heap: &mut Heap,
     at: &Part,
     left: Value,
-    c: Completion,
+    c: &Completion,
 ) -> Result<Next, NoMemory>
-    ensures row { IfOk result (λ next. (values : List ScriptValue) → as_row (table p.now) next values heap.new ≡ rest_by p.now (Frame.Right at.now left) [] c heap.old) }
+    ensures row { IfOk result (λ next. (values : List ScriptValue) → as_row (table p.now) next values heap.new ≡ rest_by p.now (Frame.Right at.now left) [] c.now heap.old) }
+    ensures nests { IfOk result (Nests at.now.room) }
     ensures grows { Grows heap.old heap.new }
 {
     match value_of(c) {
-        Ok(right) => match binary(alloc, heap, p.operator(at.node), left, right) {
-            OpDone::Value(v) => Ok(give(v)),
+        Some(right) => match binary(alloc, heap, p.operator(at.node), left, right) {
+            OpDone::Value(v) => give(v),
             OpDone::TypeFault => throw(alloc, p, heap, Class::ThrownTypeError),
-            OpDone::Fault(fault) => Ok(Next::Halt(Stop::Fault(fault))),
-            OpDone::Limit(limit) => Ok(Next::Halt(Stop::Limit(limit))),
+            OpDone::Fault(fault) => halt(Stop::Fault(fault)),
+            OpDone::Limit(limit) => halt(Stop::Limit(limit)),
             OpDone::Memory => Err(NoMemory),
         },
-        Err(next) => Ok(next),
+        None => end(c),
     }
 }
 
-pub(crate) fn begin_logical(p: &Source, at: &Part) -> Next
-    ensures { (values : List ScriptValue) (w : World) → as_row (table p.now) result values w ≡ logical_row p.now at.now w }
+pub(crate) fn begin_logical(p: &Source, at: &Part) -> Result<Next, NoMemory>
+    ensures row { IfOk result (λ next. (values : List ScriptValue) (w : World) → as_row (table p.now) next values w ≡ logical_row p.now at.now w) }
+    ensures nests { IfOk result (Nests at.now.room) }
 {
-    Next::Ask(p.part_at(at, 0), Frame::LogicalLeft { at: *at })
+    Ok(Next::Ask(p.part_at(at, 0), Frame::LogicalLeft { at: *at }))
 }
 
-pub(crate) fn after_logical_left(p: &Source, heap: &Heap, at: &Part, c: Completion) -> Next
-    ensures { (values : List ScriptValue) → as_row (table p.now) result values heap.now ≡ rest_by p.now (Frame.LogicalLeft at.now) [] c heap.now }
+pub(crate) fn after_logical_left(
+    p: &Source,
+    heap: &Heap,
+    at: &Part,
+    c: &Completion,
+) -> Result<Next, NoMemory>
+    ensures row { IfOk result (λ next. (values : List ScriptValue) → as_row (table p.now) next values heap.now ≡ rest_by p.now (Frame.LogicalLeft at.now) [] c.now heap.now) }
+    ensures nests { IfOk result (Nests at.now.room) }
 {
     match value_of(c) {
-        Ok(left) => {
+        Some(left) => {
             if is_decided(p.logical_operator(at.node), truth_of(heap, &left)) {
                 give(left)
             } else {
-                Next::Ask(p.part_at(at, 1), Frame::Last { at: *at })
+                Ok(Next::Ask(p.part_at(at, 1), Frame::Last { at: *at }))
             }
         },
-        Err(next) => next,
+        None => end(c),
     }
 }
 
@@ -149,45 +167,55 @@ fn is_decided(op: LogicalOperator, truth: bool) -> bool
     }
 }
 
-pub(crate) fn begin_conditional(p: &Source, at: &Part) -> Next
-    ensures { (values : List ScriptValue) (w : World) → as_row (table p.now) result values w ≡ conditional_row p.now at.now w }
+pub(crate) fn begin_conditional(p: &Source, at: &Part) -> Result<Next, NoMemory>
+    ensures row { IfOk result (λ next. (values : List ScriptValue) (w : World) → as_row (table p.now) next values w ≡ conditional_row p.now at.now w) }
+    ensures nests { IfOk result (Nests at.now.room) }
 {
-    Next::Ask(p.part_at(at, 0), Frame::ConditionalTest { at: *at })
+    Ok(Next::Ask(p.part_at(at, 0), Frame::ConditionalTest { at: *at }))
 }
 
-pub(crate) fn after_conditional_test(p: &Source, heap: &Heap, at: &Part, c: Completion) -> Next
-    ensures { (values : List ScriptValue) → as_row (table p.now) result values heap.now ≡ rest_by p.now (Frame.ConditionalTest at.now) [] c heap.now }
+pub(crate) fn after_conditional_test(
+    p: &Source,
+    heap: &Heap,
+    at: &Part,
+    c: &Completion,
+) -> Result<Next, NoMemory>
+    ensures row { IfOk result (λ next. (values : List ScriptValue) → as_row (table p.now) next values heap.now ≡ rest_by p.now (Frame.ConditionalTest at.now) [] c.now heap.now) }
+    ensures nests { IfOk result (Nests at.now.room) }
 {
     match value_of(c) {
-        Ok(test) => {
+        Some(test) => {
             let place = if to_boolean(heap, test) { 1 } else { 2 };
-            Next::Ask(p.part_at(at, place), Frame::Last { at: *at })
+            Ok(Next::Ask(p.part_at(at, place), Frame::Last { at: *at }))
         },
-        Err(next) => next,
+        None => end(c),
     }
 }
 
-pub(crate) fn begin_comma(p: &Source, at: &Part) -> Next
-    ensures { (values : List ScriptValue) (w : World) → as_row (table p.now) result values w ≡ comma_row p.now at.now w }
+pub(crate) fn begin_comma(p: &Source, at: &Part) -> Result<Next, NoMemory>
+    ensures row { IfOk result (λ next. (values : List ScriptValue) (w : World) → as_row (table p.now) next values w ≡ comma_row p.now at.now w) }
+    ensures nests { IfOk result (Nests at.now.room) }
 {
-    Next::Ask(p.part_at(at, 0), Frame::CommaLeft { at: *at })
+    Ok(Next::Ask(p.part_at(at, 0), Frame::CommaLeft { at: *at }))
 }
 
-pub(crate) fn after_comma_left(p: &Source, at: &Part, c: Completion) -> Next
-    ensures { (values : List ScriptValue) (w : World) → as_row (table p.now) result values w ≡ rest_by p.now (Frame.CommaLeft at.now) [] c w }
+pub(crate) fn after_comma_left(p: &Source, at: &Part, c: &Completion) -> Result<Next, NoMemory>
+    ensures row { IfOk result (λ next. (values : List ScriptValue) (w : World) → as_row (table p.now) next values w ≡ rest_by p.now (Frame.CommaLeft at.now) [] c.now w) }
+    ensures nests { IfOk result (Nests at.now.room) }
 {
     match value_of(c) {
-        Ok(_) => Next::Ask(p.part_at(at, 1), Frame::Last { at: *at }),
-        Err(next) => next,
+        Some(_) => Ok(Next::Ask(p.part_at(at, 1), Frame::Last { at: *at })),
+        None => end(c),
     }
 }
 
 // OPERATORS OF ONE OPERAND
 
-pub(crate) fn begin_unary(p: &Source, at: &Part) -> Next
-    ensures { (values : List ScriptValue) (w : World) → as_row (table p.now) result values w ≡ unary_row p.now at.now w }
+pub(crate) fn begin_unary(p: &Source, at: &Part) -> Result<Next, NoMemory>
+    ensures row { IfOk result (λ next. (values : List ScriptValue) (w : World) → as_row (table p.now) next values w ≡ unary_row p.now at.now w) }
+    ensures nests { IfOk result (Nests at.now.room) }
 {
-    Next::Ask(operand(p, at), Frame::Operand { at: *at })
+    Ok(Next::Ask(operand(p, at), Frame::Operand { at: *at }))
 }
 
 fn operand(p: &Source, at: &Part) -> Part
@@ -241,9 +269,10 @@ pub(crate) fn after_operand(
     p: &Source,
     heap: &mut Heap,
     at: &Part,
-    c: Completion,
+    c: &Completion,
 ) -> Result<Next, NoMemory>
-    ensures row { IfOk result (λ next. (values : List ScriptValue) → as_row (table p.now) next values heap.new ≡ rest_by p.now (Frame.Operand at.now) [] c heap.old) }
+    ensures row { IfOk result (λ next. (values : List ScriptValue) → as_row (table p.now) next values heap.new ≡ rest_by p.now (Frame.Operand at.now) [] c.now heap.old) }
+    ensures nests { IfOk result (Nests at.now.room) }
     ensures grows { Grows heap.old heap.new }
 {
     match p.unary_operator(at.node) {
@@ -258,14 +287,15 @@ fn after_deleted(
     p: &Source,
     heap: &mut Heap,
     at: &Part,
-    c: Completion,
+    c: &Completion,
 ) -> Result<Next, NoMemory>
-    ensures row { IfOk result (λ next. (values : List ScriptValue) → as_row (table p.now) next values heap.new ≡ operand_end p.now at.now UnaryOperator.Delete c heap.old) }
+    ensures row { IfOk result (λ next. (values : List ScriptValue) → as_row (table p.now) next values heap.new ≡ operand_end p.now at.now UnaryOperator.Delete c.now heap.old) }
+    ensures nests { IfOk result (Nests at.now.room) }
     ensures grows { Grows heap.old heap.new }
 {
     match target_of(c) {
         Ok(target) => deletes(alloc, p, heap, &target),
-        Err(next) => Ok(next),
+        Err(other) => end(&other),
     }
 }
 
@@ -276,14 +306,15 @@ fn after_value(
     heap: &mut Heap,
     at: &Part,
     op: UnaryOperator,
-    c: Completion,
+    c: &Completion,
 ) -> Result<Next, NoMemory>
-    ensures row { IfOk result (λ next. (values : List ScriptValue) → as_row (table p.now) next values heap.new ≡ with_value c heap.old (λ a. operated p.now at.now op a heap.old)) }
+    ensures row { IfOk result (λ next. (values : List ScriptValue) → as_row (table p.now) next values heap.new ≡ with_value c.now heap.old (λ a. operated p.now at.now op a heap.old)) }
+    ensures nests { IfOk result (Nests at.now.room) }
     ensures grows { Grows heap.old heap.new }
 {
     match value_of(c) {
-        Ok(a) => operated(alloc, p, heap, at, op, a),
-        Err(next) => Ok(next),
+        Some(a) => operated(alloc, p, heap, at, op, a),
+        None => end(c),
     }
 }
 
@@ -296,12 +327,13 @@ fn operated(
     a: Value,
 ) -> Result<Next, NoMemory>
     ensures row { IfOk result (λ next. (values : List ScriptValue) → as_row (table p.now) next values heap.new ≡ operated p.now at.now op a heap.old) }
+    ensures nests { IfOk result (Nests at.now.room) }
     ensures grows { Grows heap.old heap.new }
 {
     match op {
         UnaryOperator::Delete => deletes(alloc, p, heap, &None),
-        UnaryOperator::Void => Ok(give(Value::Undefined)),
-        UnaryOperator::TypeOf => Ok(give(type_of(p, heap, at, a))),
+        UnaryOperator::Void => give(Value::Undefined),
+        UnaryOperator::TypeOf => give(type_of(p, heap, at, a)),
         UnaryOperator::Plus => calculated(alloc, p, heap, UnaryOp::Plus, a),
         UnaryOperator::Minus => calculated(alloc, p, heap, UnaryOp::Minus, a),
         UnaryOperator::BitNot => calculated(alloc, p, heap, UnaryOp::BitNot, a),
@@ -317,13 +349,14 @@ fn calculated(
     a: Value,
 ) -> Result<Next, NoMemory>
     ensures row { IfOk result (λ next. (values : List ScriptValue) → as_row (table p.now) next values heap.new ≡ with_outcome (unary_outcome heap.old op a) heap.old gives) }
+    ensures nests { (room : ℕ) → IfOk result (Nests room) }
     ensures grows { Grows heap.old heap.new }
 {
     match unary(alloc, heap, op, a) {
-        OpDone::Value(v) => Ok(give(v)),
+        OpDone::Value(v) => give(v),
         OpDone::TypeFault => throw(alloc, p, heap, Class::ThrownTypeError),
-        OpDone::Fault(fault) => Ok(Next::Halt(Stop::Fault(fault))),
-        OpDone::Limit(limit) => Ok(Next::Halt(Stop::Limit(limit))),
+        OpDone::Fault(fault) => halt(Stop::Fault(fault)),
+        OpDone::Limit(limit) => halt(Stop::Limit(limit)),
         OpDone::Memory => Err(NoMemory),
     }
 }
@@ -397,30 +430,6 @@ fn target_found(p: &Source, heap: &Heap, at: &Part) -> Option<Value>
     found(heap, at.scope, p.scoping(p.child(at.node, 0)).resolved)
 }
 
-/// The value of a target, for which the host may be asked, or what the row does instead.
-#[tactic(auto, using(rip_frames::proofs::Settles::settled))]
-fn read_target<H: Host>(
-    alloc: Global,
-    p: &Source,
-    heap: &mut Heap,
-    host: &mut H,
-    at: &Part,
-    target: &Option<Reference>,
-) -> Result<Result<Value, Next>, NoMemory>
-    requires { H.fits host.old heap.old }
-    ensures read { IfOk result (λ answer. MatchResult answer (λ v. (go : ScriptValue → World → Row) → settle (host_calls H.read_gives H.write_gives H.call_gives) (read_target p.now at.now target.now heap.old go) host.old ≡ settle (host_calls H.read_gives H.write_gives H.call_gives) (go v heap.new) host.new) (λ next. (go : ScriptValue → World → Row) (values : List ScriptValue) → settle (host_calls H.read_gives H.write_gives H.call_gives) (read_target p.now at.now target.now heap.old go) host.old ≡ (as_row (table p.now) next values heap.new, host.new))) }
-    ensures fits { H.fits host.new heap.new }
-    ensures grows { Grows heap.old heap.new }
-{
-    match target {
-        Some(member) => read_value(alloc, p, heap, host, &member.base, member.key),
-        None => match target_found(p, heap, at) {
-            Some(v) => Ok(Ok(v)),
-            None => Ok(Err(throw(alloc, p, heap, Class::ThrownReferenceError)?)),
-        },
-    }
-}
-
 /// Writes a value to a target, for which the host may be asked, and gives another or the same.
 #[tactic(auto, using(rip_frames::proofs::Settles::settled))]
 fn writes<H: Host>(
@@ -435,15 +444,36 @@ fn writes<H: Host>(
 ) -> Result<Next, NoMemory>
     requires { H.fits host.old heap.old }
     ensures row { IfOk result (λ next. (values : List ScriptValue) → (as_row (table p.now) next values heap.new, host.new) ≡ settle (host_calls H.read_gives H.write_gives H.call_gives) (writes p.now at.now target.now v.now given.now heap.old) host.old) }
+    ensures nests { IfOk result (Nests at.now.room) }
     ensures fits { H.fits host.new heap.new }
     ensures grows { Grows heap.old heap.new }
 {
     match target {
-        Some(member) => match write_value(alloc, p, heap, host, &member.base, member.key, v)? {
-            Ok(()) => Ok(give(*given)),
-            Err(next) => Ok(next),
-        },
+        Some(member) => writes_member(alloc, p, heap, host, at, member, v, given),
         None => writes_name(alloc, p, heap, at, v, given),
+    }
+}
+
+/// The same where the target is a member.
+fn writes_member<H: Host>(
+    alloc: Global,
+    p: &Source,
+    heap: &mut Heap,
+    host: &mut H,
+    at: &Part,
+    member: &Reference,
+    v: &Value,
+    given: &Value,
+) -> Result<Next, NoMemory>
+    requires { H.fits host.old heap.old }
+    ensures row { IfOk result (λ next. (values : List ScriptValue) → (as_row (table p.now) next values heap.new, host.new) ≡ settle (host_calls H.read_gives H.write_gives H.call_gives) (writes p.now at.now (Some member.now) v.now given.now heap.old) host.old) }
+    ensures nests { IfOk result (Nests at.now.room) }
+    ensures fits { H.fits host.new heap.new }
+    ensures grows { Grows heap.old heap.new }
+{
+    match write_value(alloc, p, heap, host, &member.base, member.key, v)? {
+        Ok(()) => give(*given),
+        Err(next) => Ok(next),
     }
 }
 
@@ -457,26 +487,29 @@ fn writes_name(
     given: &Value,
 ) -> Result<Next, NoMemory>
     ensures row { IfOk result (λ next. (values : List ScriptValue) → as_row (table p.now) next values heap.new ≡ writes p.now at.now None v.now given.now heap.old) }
+    ensures nests { IfOk result (Nests at.now.room) }
     ensures grows { Grows heap.old heap.new }
 {
     match write(heap, at.scope, p.scoping(p.child(at.node, 0)), *v) {
-        Ok(()) => Ok(give(*given)),
+        Ok(()) => give(*given),
         Err(class) => throw(alloc, p, heap, class),
     }
 }
 
-pub(crate) fn begin_assign(p: &Source, at: &Part) -> Next
-    ensures { (values : List ScriptValue) (w : World) → as_row (table p.now) result values w ≡ assign_row p.now at.now w }
+pub(crate) fn begin_assign(p: &Source, at: &Part) -> Result<Next, NoMemory>
+    ensures row { IfOk result (λ next. (values : List ScriptValue) (w : World) → as_row (table p.now) next values w ≡ assign_row p.now at.now w) }
+    ensures nests { IfOk result (Nests at.now.room) }
 {
-    Next::Ask(p.target_at(at, 0), Frame::AssignTarget { at: *at })
+    Ok(Next::Ask(p.target_at(at, 0), Frame::AssignTarget { at: *at }))
 }
 
-pub(crate) fn after_assign_target(p: &Source, at: &Part, c: Completion) -> Next
-    ensures { (values : List ScriptValue) (w : World) → as_row (table p.now) result values w ≡ rest_by p.now (Frame.AssignTarget at.now) [] c w }
+pub(crate) fn after_assign_target(p: &Source, at: &Part, c: &Completion) -> Result<Next, NoMemory>
+    ensures row { IfOk result (λ next. (values : List ScriptValue) (w : World) → as_row (table p.now) next values w ≡ rest_by p.now (Frame.AssignTarget at.now) [] c.now w) }
+    ensures nests { IfOk result (Nests at.now.room) }
 {
     match target_of(c) {
-        Ok(target) => Next::Ask(p.part_at(at, 1), Frame::AssignValue { at: *at, target }),
-        Err(next) => next,
+        Ok(target) => Ok(Next::Ask(p.part_at(at, 1), Frame::AssignValue { at: *at, target })),
+        Err(other) => end(&other),
     }
 }
 
@@ -488,23 +521,25 @@ pub(crate) fn after_assign_value<H: Host>(
     host: &mut H,
     at: &Part,
     target: &Option<Reference>,
-    c: Completion,
+    c: &Completion,
 ) -> Result<Next, NoMemory>
     requires { H.fits host.old heap.old }
-    ensures row { IfOk result (λ next. (values : List ScriptValue) → (as_row (table p.now) next values heap.new, host.new) ≡ settle (host_calls H.read_gives H.write_gives H.call_gives) (rest_by p.now (Frame.AssignValue at.now target.now) [] c heap.old) host.old) }
+    ensures row { IfOk result (λ next. (values : List ScriptValue) → (as_row (table p.now) next values heap.new, host.new) ≡ settle (host_calls H.read_gives H.write_gives H.call_gives) (rest_by p.now (Frame.AssignValue at.now target.now) [] c.now heap.old) host.old) }
+    ensures nests { IfOk result (Nests at.now.room) }
     ensures fits { H.fits host.new heap.new }
     ensures grows { Grows heap.old heap.new }
 {
     match value_of(c) {
-        Ok(v) => writes(alloc, p, heap, host, at, target, &v, &v),
-        Err(next) => Ok(next),
+        Some(v) => writes(alloc, p, heap, host, at, target, &v, &v),
+        None => end(c),
     }
 }
 
-pub(crate) fn begin_compound(p: &Source, at: &Part) -> Next
-    ensures { (values : List ScriptValue) (w : World) → as_row (table p.now) result values w ≡ compound_row p.now at.now w }
+pub(crate) fn begin_compound(p: &Source, at: &Part) -> Result<Next, NoMemory>
+    ensures row { IfOk result (λ next. (values : List ScriptValue) (w : World) → as_row (table p.now) next values w ≡ compound_row p.now at.now w) }
+    ensures nests { IfOk result (Nests at.now.room) }
 {
-    Next::Ask(p.target_at(at, 0), Frame::CompoundTarget { at: *at })
+    Ok(Next::Ask(p.target_at(at, 0), Frame::CompoundTarget { at: *at }))
 }
 
 #[tactic(auto, using(rip_frames::proofs::Settles::settled))]
@@ -514,20 +549,22 @@ pub(crate) fn after_compound_target<H: Host>(
     heap: &mut Heap,
     host: &mut H,
     at: &Part,
-    c: Completion,
+    c: &Completion,
 ) -> Result<Next, NoMemory>
     requires { H.fits host.old heap.old }
-    ensures row { IfOk result (λ next. (values : List ScriptValue) → (as_row (table p.now) next values heap.new, host.new) ≡ settle (host_calls H.read_gives H.write_gives H.call_gives) (rest_by p.now (Frame.CompoundTarget at.now) [] c heap.old) host.old) }
+    ensures row { IfOk result (λ next. (values : List ScriptValue) → (as_row (table p.now) next values heap.new, host.new) ≡ settle (host_calls H.read_gives H.write_gives H.call_gives) (rest_by p.now (Frame.CompoundTarget at.now) [] c.now heap.old) host.old) }
+    ensures nests { IfOk result (Nests at.now.room) }
     ensures fits { H.fits host.new heap.new }
     ensures grows { Grows heap.old heap.new }
 {
     match target_of(c) {
         Ok(target) => compound_read(alloc, p, heap, host, at, &target),
-        Err(next) => Ok(next),
+        Err(other) => end(&other),
     }
 }
 
 /// The target is read before the right side.
+#[tactic(auto, using(rip_frames::proofs::Settles::settled))]
 fn compound_read<H: Host>(
     alloc: Global,
     p: &Source,
@@ -538,25 +575,56 @@ fn compound_read<H: Host>(
 ) -> Result<Next, NoMemory>
     requires { H.fits host.old heap.old }
     ensures row { IfOk result (λ next. (values : List ScriptValue) → (as_row (table p.now) next values heap.new, host.new) ≡ settle (host_calls H.read_gives H.write_gives H.call_gives) (read_target p.now at.now target.now heap.old (λ old x. Asks (part_at p.now at.now 1) x (compound_value p.now at.now target.now old))) host.old) }
+    ensures nests { IfOk result (Nests at.now.room) }
     ensures fits { H.fits host.new heap.new }
     ensures grows { Grows heap.old heap.new }
 {
-    match read_target(alloc, p, heap, host, at, target)? {
-        Ok(old) => Ok(compound_right(p, at, target, old)),
+    match target {
+        Some(member) => compound_member(alloc, p, heap, host, at, member),
+        None => match target_found(p, heap, at) {
+            Some(old) => compound_right(p, at, target, old),
+            None => throw(alloc, p, heap, Class::ThrownReferenceError),
+        },
+    }
+}
+
+/// The same where the target is a member.
+fn compound_member<H: Host>(
+    alloc: Global,
+    p: &Source,
+    heap: &mut Heap,
+    host: &mut H,
+    at: &Part,
+    member: &Reference,
+) -> Result<Next, NoMemory>
+    requires { H.fits host.old heap.old }
+    ensures row { IfOk result (λ next. (values : List ScriptValue) → (as_row (table p.now) next values heap.new, host.new) ≡ settle (host_calls H.read_gives H.write_gives H.call_gives) (read_target p.now at.now (Some member.now) heap.old (λ old x. Asks (part_at p.now at.now 1) x (compound_value p.now at.now (Some member.now) old))) host.old) }
+    ensures nests { IfOk result (Nests at.now.room) }
+    ensures fits { H.fits host.new heap.new }
+    ensures grows { Grows heap.old heap.new }
+{
+    match read_value(alloc, p, heap, host, &member.base, member.key)? {
+        Ok(old) => compound_right(p, at, &Some(*member), old),
         Err(next) => Ok(next),
     }
 }
 
 /// The right side, beside which the target and its value stand.
-fn compound_right(p: &Source, at: &Part, target: &Option<Reference>, old: Value) -> Next
-    ensures { (values : List ScriptValue) (w : World) → as_row (table p.now) result values w ≡ Asks (part_at p.now at.now 1) w (compound_value p.now at.now target.now old) }
+fn compound_right(
+    p: &Source,
+    at: &Part,
+    target: &Option<Reference>,
+    old: Value,
+) -> Result<Next, NoMemory>
+    ensures row { IfOk result (λ next. (values : List ScriptValue) (w : World) → as_row (table p.now) next values w ≡ Asks (part_at p.now at.now 1) w (compound_value p.now at.now target.now old)) }
+    ensures nests { IfOk result (Nests at.now.room) }
 {
     let frame = Frame::CompoundValue {
         at: *at,
         target: *target,
         old,
     };
-    Next::Ask(p.part_at(at, 1), frame)
+    Ok(Next::Ask(p.part_at(at, 1), frame))
 }
 
 #[tactic(auto, using(rip_frames::proofs::Settles::settled))]
@@ -568,29 +636,31 @@ pub(crate) fn after_compound_value<H: Host>(
     at: &Part,
     target: &Option<Reference>,
     old: &Value,
-    c: Completion,
+    c: &Completion,
 ) -> Result<Next, NoMemory>
     requires { H.fits host.old heap.old }
-    ensures row { IfOk result (λ next. (values : List ScriptValue) → (as_row (table p.now) next values heap.new, host.new) ≡ settle (host_calls H.read_gives H.write_gives H.call_gives) (rest_by p.now (Frame.CompoundValue at.now target.now old.now) [] c heap.old) host.old) }
+    ensures row { IfOk result (λ next. (values : List ScriptValue) → (as_row (table p.now) next values heap.new, host.new) ≡ settle (host_calls H.read_gives H.write_gives H.call_gives) (rest_by p.now (Frame.CompoundValue at.now target.now old.now) [] c.now heap.old) host.old) }
+    ensures nests { IfOk result (Nests at.now.room) }
     ensures fits { H.fits host.new heap.new }
     ensures grows { Grows heap.old heap.new }
 {
     match value_of(c) {
-        Ok(right) => match binary(alloc, heap, p.operator(at.node), *old, right) {
+        Some(right) => match binary(alloc, heap, p.operator(at.node), *old, right) {
             OpDone::Value(v) => writes(alloc, p, heap, host, at, target, &v, &v),
             OpDone::TypeFault => throw(alloc, p, heap, Class::ThrownTypeError),
-            OpDone::Fault(fault) => Ok(Next::Halt(Stop::Fault(fault))),
-            OpDone::Limit(limit) => Ok(Next::Halt(Stop::Limit(limit))),
+            OpDone::Fault(fault) => halt(Stop::Fault(fault)),
+            OpDone::Limit(limit) => halt(Stop::Limit(limit)),
             OpDone::Memory => Err(NoMemory),
         },
-        Err(next) => Ok(next),
+        None => end(c),
     }
 }
 
-pub(crate) fn begin_step(p: &Source, at: &Part) -> Next
-    ensures { (values : List ScriptValue) (w : World) → as_row (table p.now) result values w ≡ step_row p.now at.now w }
+pub(crate) fn begin_step(p: &Source, at: &Part) -> Result<Next, NoMemory>
+    ensures row { IfOk result (λ next. (values : List ScriptValue) (w : World) → as_row (table p.now) next values w ≡ step_row p.now at.now w) }
+    ensures nests { IfOk result (Nests at.now.room) }
 {
-    Next::Ask(p.target_at(at, 0), Frame::StepTarget { at: *at })
+    Ok(Next::Ask(p.target_at(at, 0), Frame::StepTarget { at: *at }))
 }
 
 #[tactic(auto, using(rip_frames::proofs::Settles::settled))]
@@ -600,20 +670,22 @@ pub(crate) fn after_step_target<H: Host>(
     heap: &mut Heap,
     host: &mut H,
     at: &Part,
-    c: Completion,
+    c: &Completion,
 ) -> Result<Next, NoMemory>
     requires { H.fits host.old heap.old }
-    ensures row { IfOk result (λ next. (values : List ScriptValue) → (as_row (table p.now) next values heap.new, host.new) ≡ settle (host_calls H.read_gives H.write_gives H.call_gives) (rest_by p.now (Frame.StepTarget at.now) [] c heap.old) host.old) }
+    ensures row { IfOk result (λ next. (values : List ScriptValue) → (as_row (table p.now) next values heap.new, host.new) ≡ settle (host_calls H.read_gives H.write_gives H.call_gives) (rest_by p.now (Frame.StepTarget at.now) [] c.now heap.old) host.old) }
+    ensures nests { IfOk result (Nests at.now.room) }
     ensures fits { H.fits host.new heap.new }
     ensures grows { Grows heap.old heap.new }
 {
     match target_of(c) {
         Ok(target) => step_read(alloc, p, heap, host, at, &target),
-        Err(next) => Ok(next),
+        Err(other) => end(&other),
     }
 }
 
 /// The target is read, and goes one up or down.
+#[tactic(auto, using(rip_frames::proofs::Settles::settled))]
 fn step_read<H: Host>(
     alloc: Global,
     p: &Source,
@@ -624,11 +696,36 @@ fn step_read<H: Host>(
 ) -> Result<Next, NoMemory>
     requires { H.fits host.old heap.old }
     ensures row { IfOk result (λ next. (values : List ScriptValue) → (as_row (table p.now) next values heap.new, host.new) ≡ settle (host_calls H.read_gives H.write_gives H.call_gives) (read_target p.now at.now target.now heap.old (λ v x. stepped p.now at.now target.now v x)) host.old) }
+    ensures nests { IfOk result (Nests at.now.room) }
     ensures fits { H.fits host.new heap.new }
     ensures grows { Grows heap.old heap.new }
 {
-    match read_target(alloc, p, heap, host, at, target)? {
-        Ok(v) => stepped(alloc, p, heap, host, at, target, v),
+    match target {
+        Some(member) => step_member(alloc, p, heap, host, at, member),
+        None => match target_found(p, heap, at) {
+            Some(v) => stepped(alloc, p, heap, host, at, target, v),
+            None => throw(alloc, p, heap, Class::ThrownReferenceError),
+        },
+    }
+}
+
+/// The same where the target is a member.
+fn step_member<H: Host>(
+    alloc: Global,
+    p: &Source,
+    heap: &mut Heap,
+    host: &mut H,
+    at: &Part,
+    member: &Reference,
+) -> Result<Next, NoMemory>
+    requires { H.fits host.old heap.old }
+    ensures row { IfOk result (λ next. (values : List ScriptValue) → (as_row (table p.now) next values heap.new, host.new) ≡ settle (host_calls H.read_gives H.write_gives H.call_gives) (read_target p.now at.now (Some member.now) heap.old (λ v x. stepped p.now at.now (Some member.now) v x)) host.old) }
+    ensures nests { IfOk result (Nests at.now.room) }
+    ensures fits { H.fits host.new heap.new }
+    ensures grows { Grows heap.old heap.new }
+{
+    match read_value(alloc, p, heap, host, &member.base, member.key)? {
+        Ok(v) => stepped(alloc, p, heap, host, at, &Some(*member), v),
         Err(next) => Ok(next),
     }
 }
@@ -646,12 +743,13 @@ fn stepped<H: Host>(
 ) -> Result<Next, NoMemory>
     requires { H.fits host.old heap.old }
     ensures row { IfOk result (λ next. (values : List ScriptValue) → (as_row (table p.now) next values heap.new, host.new) ≡ settle (host_calls H.read_gives H.write_gives H.call_gives) (stepped p.now at.now target.now v heap.old) host.old) }
+    ensures nests { IfOk result (Nests at.now.room) }
     ensures fits { H.fits host.new heap.new }
     ensures grows { Grows heap.old heap.new }
 {
     let (old, new) = match numbers_of_step(heap, p.step_operator(at.node), v) {
         Ok(numbers) => numbers,
-        Err(fault) => return Ok(Next::Halt(Stop::Fault(fault))),
+        Err(fault) => return halt(Stop::Fault(fault)),
     };
     let given = if p.is_postfix(at.node) { old } else { new };
     writes(alloc, p, heap, host, at, target, &new, &given)

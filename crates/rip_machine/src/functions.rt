@@ -3,6 +3,7 @@ ghost use Rattle.rip_heap.specs.World.{World, charging};
 ghost use Rattle.rip_heap.specs.Scopes.{new_scope};
 ghost use Rattle.rip_heap.specs.Growth.{Grows};
 ghost use Rattle.rip_frames.specs.Rest.{as_row};
+ghost use Rattle.rip_machine.specs.Nesting.{Nests};
 ghost use Rattle.rip_machine.specs.Reading.{children_from, scoping};
 ghost use Rattle.rip_machine.specs.Rows.Functions.{body, cost_of_entering, declared_functions, function_entered, function_named, function_row, has_name, parameters, parameters_of, with_arguments, with_function, with_functions, with_undefined};
 ghost use Rattle.rip_machine.specs.Table.{rest_by, table};
@@ -36,13 +37,14 @@ pub(crate) fn begin_function(
     at: &Part,
 ) -> Result<Next, NoMemory>
     ensures row { IfOk result (λ next. (values : List Value) → as_row (table p.now) next values heap.new ≡ function_row p.now at.now heap.old) }
+    ensures nests { IfOk result (Nests at.now.room) }
     ensures grows { Grows heap.old heap.new }
 {
     if has_name(p.form(at.node)) {
         return begin_named(alloc, p, heap, at);
     }
     match heap.new_function(alloc, at.node, at.scope) {
-        Ok(function) => Ok(give(Value::Object(function))),
+        Ok(function) => give(Value::Object(function)),
         Err(Refused::Limit(limit)) => Ok(Next::Halt(Stop::Limit(limit))),
         Err(Refused::Memory) => Err(NoMemory),
     }
@@ -51,6 +53,7 @@ pub(crate) fn begin_function(
 /// A function expression with a name, which it has in a scope of its own.
 fn begin_named(alloc: Global, p: &Source, heap: &mut Heap, at: &Part) -> Result<Next, NoMemory>
     ensures row { IfOk result (λ next. (values : List Value) → as_row (table p.now) next values heap.new ≡ function_named at.now true heap.old) }
+    ensures nests { IfOk result (Nests at.now.room) }
     ensures grows { Grows heap.old heap.new }
 {
     let _ = p;
@@ -58,7 +61,7 @@ fn begin_named(alloc: Global, p: &Source, heap: &mut Heap, at: &Part) -> Result<
         Ok(scope) => match heap.new_function(alloc, at.node, scope) {
             Ok(function) => {
                 heap.set_binding(scope, 0, Value::Object(function));
-                Ok(give(Value::Object(function)))
+                give(Value::Object(function))
             },
             Err(Refused::Limit(limit)) => Ok(Next::Halt(Stop::Limit(limit))),
             Err(Refused::Memory) => Err(NoMemory),

@@ -1,4 +1,4 @@
-ghost use Rattle.std.specs.Prelude.{◌≡◌, List, IfOk, IsErr, MatchResult, pos};
+ghost use Rattle.std.specs.Prelude.{◌≡◌, ℕ, List, IfErr, IfOk, IsErr, MatchResult, pos};
 ghost use Rattle.rip_values.specs.declared.value.Value.{Value as ScriptValue};
 ghost use Rattle.rip_heap.specs.Growth.{Grows};
 ghost use Rattle.rip_heap.specs.World.{World};
@@ -6,6 +6,7 @@ ghost use Rattle.rip_frames.specs.Rest.{as_row};
 ghost use Rattle.rip_frames.specs.Row.{Row};
 ghost use Rattle.rip_frames.specs.Settle.{settle};
 ghost use Rattle.rip_machine.specs.Law.{host_calls};
+ghost use Rattle.rip_machine.specs.Nesting.{Nests};
 ghost use Rattle.rip_machine.specs.Rows.Host.{asks_call, asks_read, asks_write, throws_code, with_reply};
 ghost use Rattle.rip_machine.specs.Table.{table};
 
@@ -27,6 +28,7 @@ pub(crate) fn ask_read<H: Host>(
 ) -> Result<Result<Value, Next>, NoMemory>
     requires { H.fits host.old heap.old }
     ensures asked { IfOk result (λ answer. MatchResult answer (λ v. (go : ScriptValue → World → Row) → settle (host_calls H.read_gives H.write_gives H.call_gives) (asks_read object name heap.old go) host.old ≡ settle (host_calls H.read_gives H.write_gives H.call_gives) (go v heap.new) host.new) (λ next. (go : ScriptValue → World → Row) (values : List ScriptValue) → settle (host_calls H.read_gives H.write_gives H.call_gives) (asks_read object name heap.old go) host.old ≡ (as_row (table p.now) next values heap.new, host.new))) }
+    ensures nests { (room : ℕ) → IfOk result (λ answer. IfErr answer (Nests room)) }
     ensures fits { H.fits host.new heap.new }
     ensures grows { Grows heap.old heap.new }
 {
@@ -46,6 +48,7 @@ pub(crate) fn ask_write<H: Host>(
 ) -> Result<Result<(), Next>, NoMemory>
     requires { H.fits host.old heap.old }
     ensures asked { IfOk result (λ answer. MatchResult answer (λ _. (go : World → Row) → settle (host_calls H.read_gives H.write_gives H.call_gives) (asks_write object name v.now heap.old go) host.old ≡ settle (host_calls H.read_gives H.write_gives H.call_gives) (go heap.new) host.new) (λ next. (go : World → Row) (values : List ScriptValue) → settle (host_calls H.read_gives H.write_gives H.call_gives) (asks_write object name v.now heap.old go) host.old ≡ (as_row (table p.now) next values heap.new, host.new))) }
+    ensures nests { (room : ℕ) → IfOk result (λ answer. IfErr answer (Nests room)) }
     ensures fits { H.fits host.new heap.new }
     ensures grows { Grows heap.old heap.new }
 {
@@ -68,6 +71,7 @@ pub(crate) fn ask_call<H: Host>(
 ) -> Result<Result<Value, Next>, NoMemory>
     requires { H.fits host.old heap.old }
     ensures asked { IfOk result (λ answer. MatchResult answer (λ v. (go : ScriptValue → World → Row) → settle (host_calls H.read_gives H.write_gives H.call_gives) (asks_call which this args.now heap.old go) host.old ≡ settle (host_calls H.read_gives H.write_gives H.call_gives) (go v heap.new) host.new) (λ next. (go : ScriptValue → World → Row) (values : List ScriptValue) → settle (host_calls H.read_gives H.write_gives H.call_gives) (asks_call which this args.now heap.old go) host.old ≡ (as_row (table p.now) next values heap.new, host.new))) }
+    ensures nests { (room : ℕ) → IfOk result (λ answer. IfErr answer (Nests room)) }
     ensures fits { H.fits host.new heap.new }
     ensures grows { Grows heap.old heap.new }
 {
@@ -83,6 +87,7 @@ fn answered(
     done: HostDone,
 ) -> Result<Result<Value, Next>, NoMemory>
     ensures reply { IfOk result (λ answer. MatchResult answer (λ v. (done ≡ HostDone.Value v) × (heap.new ≡ heap.old)) (λ next. (go : ScriptValue → World → Row) (values : List ScriptValue) → as_row (table p.now) next values heap.new ≡ with_reply done heap.old go)) }
+    ensures nests { (room : ℕ) → IfOk result (λ answer. IfErr answer (Nests room)) }
     ensures memory { done ≡ HostDone.Memory → IsErr result }
     ensures grows { Grows heap.old heap.new }
 {
@@ -99,6 +104,7 @@ fn answered(
 /// Throws a new object that has this code of the document.
 fn throw_code(alloc: Global, p: &Source, heap: &mut Heap, code: u8) -> Result<Next, NoMemory>
     ensures row { IfOk result (λ next. (values : List ScriptValue) → as_row (table p.now) next values heap.new ≡ throws_code code heap.old) }
+    ensures nests { (room : ℕ) → IfOk result (Nests room) }
     ensures grows { Grows heap.old heap.new }
 {
     let _ = p;

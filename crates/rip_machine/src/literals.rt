@@ -2,12 +2,13 @@ ghost use Rattle.std.specs.Prelude.{◌≡◌, [], ◌∷◌, Some, None, IfOk, 
 ghost use Rattle.rip_heap.specs.Growth.{Grows};
 ghost use Rattle.rip_heap.specs.World.{World};
 ghost use Rattle.rip_frames.specs.Rest.{as_row};
-ghost use Rattle.rip_frames.specs.Row.{Row};
+ghost use Rattle.rip_frames.specs.Row.{Halts, Row};
+ghost use Rattle.rip_machine.specs.Nesting.{Nests};
 ghost use Rattle.rip_machine.specs.Reading.{children_from};
 ghost use Rattle.rip_machine.specs.Rows.Literals.{array_row, elements, entries, entry_put, object_row};
 ghost use Rattle.rip_machine.specs.Table.{rest_by, table};
 
-use crate::expressions::{give, value_of};
+use crate::expressions::{end, give, halt, value_of};
 use crate::source::{Source, part};
 use rip_frames::{Completion, Frame, Next, Part, Stop};
 use rip_heap::{Heap, is_underscored};
@@ -18,8 +19,9 @@ use std::alloc::Global;
 
 /// The elements from this place on.
 #[tactic(auto, using(crate::proofs::Children::children_some, crate::proofs::Children::children_none))]
-fn elements(p: &Source, at: &Part, array: u32, place: u32) -> Next
-    ensures { (values : List Value) (w : World) → as_row (table p.now) result values w ≡ elements p.now at.now array (children_from p.now at.now.node place) w }
+fn elements(p: &Source, at: &Part, array: u32, place: u32) -> Result<Next, NoMemory>
+    ensures row { IfOk result (λ next. (values : List Value) (w : World) → as_row (table p.now) next values w ≡ elements p.now at.now array (children_from p.now at.now.node place) w) }
+    ensures nests { IfOk result (Nests at.now.room) }
 {
     match p.child_at(at.node, place) {
         Some(e) => {
@@ -28,7 +30,7 @@ fn elements(p: &Source, at: &Part, array: u32, place: u32) -> Next
                 place,
                 array,
             };
-            Next::Ask(part(at, e), frame)
+            Ok(Next::Ask(part(at, e), frame))
         },
         None => give(Value::Object(array)),
     }
@@ -41,11 +43,12 @@ pub(crate) fn begin_array(
     at: &Part,
 ) -> Result<Next, NoMemory>
     ensures row { IfOk result (λ next. (values : List Value) → as_row (table p.now) next values heap.new ≡ array_row p.now at.now heap.old) }
+    ensures nests { IfOk result (Nests at.now.room) }
     ensures grows { Grows heap.old heap.new }
 {
     match heap.new_array(alloc, &[]) {
-        Ok(array) => Ok(elements(p, at, array, 0)),
-        Err(Refused::Limit(limit)) => Ok(Next::Halt(Stop::Limit(limit))),
+        Ok(array) => elements(p, at, array, 0),
+        Err(Refused::Limit(limit)) => halt(Stop::Limit(limit)),
         Err(Refused::Memory) => Err(NoMemory),
     }
 }
@@ -57,21 +60,22 @@ pub(crate) fn after_element(
     at: &Part,
     place: u32,
     array: u32,
-    c: Completion,
+    c: &Completion,
 ) -> Result<Next, NoMemory>
-    ensures row { IfOk result (λ next. (values : List Value) → as_row (table p.now) next values heap.new ≡ rest_by p.now (Frame.Element at.now place array) [] c heap.old) }
+    ensures row { IfOk result (λ next. (values : List Value) → as_row (table p.now) next values heap.new ≡ rest_by p.now (Frame.Element at.now place array) [] c.now heap.old) }
+    ensures nests { IfOk result (Nests at.now.room) }
     ensures grows { Grows heap.old heap.new }
 {
     if place == u32::MAX {
         return Err(NoMemory);
     }
     match value_of(c) {
-        Ok(v) => match heap.push_item(alloc, array, v) {
-            Ok(()) => Ok(elements(p, at, array, place + 1)),
-            Err(Refused::Limit(limit)) => Ok(Next::Halt(Stop::Limit(limit))),
+        Some(v) => match heap.push_item(alloc, array, v) {
+            Ok(()) => elements(p, at, array, place + 1),
+            Err(Refused::Limit(limit)) => halt(Stop::Limit(limit)),
             Err(Refused::Memory) => Err(NoMemory),
         },
-        Err(next) => Ok(next),
+        None => end(c),
     }
 }
 
@@ -79,8 +83,9 @@ pub(crate) fn after_element(
 
 /// The entries from this place on.
 #[tactic(auto, using(crate::proofs::Children::children_some, crate::proofs::Children::children_none))]
-fn entries(p: &Source, at: &Part, object: u32, place: u32) -> Next
-    ensures { (values : List Value) (w : World) → as_row (table p.now) result values w ≡ entries p.now at.now object (children_from p.now at.now.node place) w }
+fn entries(p: &Source, at: &Part, object: u32, place: u32) -> Result<Next, NoMemory>
+    ensures row { IfOk result (λ next. (values : List Value) (w : World) → as_row (table p.now) next values w ≡ entries p.now at.now object (children_from p.now at.now.node place) w) }
+    ensures nests { IfOk result (Nests at.now.room) }
 {
     match p.child_at(at.node, place) {
         Some(e) => {
@@ -89,7 +94,7 @@ fn entries(p: &Source, at: &Part, object: u32, place: u32) -> Next
                 place,
                 object,
             };
-            Next::Ask(part(at, p.child(e, 0)), frame)
+            Ok(Next::Ask(part(at, p.child(e, 0)), frame))
         },
         None => give(Value::Object(object)),
     }
@@ -102,11 +107,12 @@ pub(crate) fn begin_object(
     at: &Part,
 ) -> Result<Next, NoMemory>
     ensures row { IfOk result (λ next. (values : List Value) → as_row (table p.now) next values heap.new ≡ object_row p.now at.now heap.old) }
+    ensures nests { IfOk result (Nests at.now.room) }
     ensures grows { Grows heap.old heap.new }
 {
     match heap.new_object(alloc, None) {
-        Ok(object) => Ok(entries(p, at, object, 0)),
-        Err(Refused::Limit(limit)) => Ok(Next::Halt(Stop::Limit(limit))),
+        Ok(object) => entries(p, at, object, 0),
+        Err(Refused::Limit(limit)) => halt(Stop::Limit(limit)),
         Err(Refused::Memory) => Err(NoMemory),
     }
 }
@@ -119,17 +125,17 @@ fn put_entry(
     object: u32,
     e: u32,
     v: Value,
-) -> Result<Result<(), Next>, NoMemory>
-    ensures put { IfOk result (λ put. MatchResult put (λ _. (go : World → Row) → entry_put p.now object e v heap.old go ≡ go heap.new) (λ next. (values : List Value) (go : World → Row) → as_row (table p.now) next values heap.new ≡ entry_put p.now object e v heap.old go)) }
+) -> Result<Result<(), Stop>, NoMemory>
+    ensures put { IfOk result (λ put. MatchResult put (λ _. (go : World → Row) → entry_put p.now object e v heap.old go ≡ go heap.new) (λ stop. (go : World → Row) → entry_put p.now object e v heap.old go ≡ Halts stop heap.new)) }
     ensures grows { Grows heap.old heap.new }
 {
     let name = p.literal(e);
     if is_underscored(heap.pool().get(name)) {
-        return Ok(Err(Next::Halt(Stop::Fault(Fault::NotInProfile))));
+        return Ok(Err(Stop::Fault(Fault::NotInProfile)));
     }
     match heap.put(alloc, object, name, v) {
         Ok(()) => Ok(Ok(())),
-        Err(Refused::Limit(limit)) => Ok(Err(Next::Halt(Stop::Limit(limit)))),
+        Err(Refused::Limit(limit)) => Ok(Err(Stop::Limit(limit))),
         Err(Refused::Memory) => Err(NoMemory),
     }
 }
@@ -141,19 +147,20 @@ pub(crate) fn after_entry(
     at: &Part,
     place: u32,
     object: u32,
-    c: Completion,
+    c: &Completion,
 ) -> Result<Next, NoMemory>
-    ensures row { IfOk result (λ next. (values : List Value) → as_row (table p.now) next values heap.new ≡ rest_by p.now (Frame.Entry at.now place object) [] c heap.old) }
+    ensures row { IfOk result (λ next. (values : List Value) → as_row (table p.now) next values heap.new ≡ rest_by p.now (Frame.Entry at.now place object) [] c.now heap.old) }
+    ensures nests { IfOk result (Nests at.now.room) }
     ensures grows { Grows heap.old heap.new }
 {
     if place == u32::MAX {
         return Err(NoMemory);
     }
     match value_of(c) {
-        Ok(v) => match put_entry(alloc, p, heap, object, p.child(at.node, place), v)? {
-            Ok(()) => Ok(entries(p, at, object, place + 1)),
-            Err(next) => Ok(next),
+        Some(v) => match put_entry(alloc, p, heap, object, p.child(at.node, place), v)? {
+            Ok(()) => entries(p, at, object, place + 1),
+            Err(stop) => halt(stop),
         },
-        Err(next) => Ok(next),
+        None => end(c),
     }
 }

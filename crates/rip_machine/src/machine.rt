@@ -1,4 +1,4 @@
-ghost use Rattle.std.specs.Prelude.{◌≡◌, [], ⊤, length, Some, None, IfOk, IfErr, OnOk, MatchOption};
+ghost use Rattle.std.specs.Prelude.{◌≡◌, ◌+◌, ◌≤◌, [], ⊤, length, Some, None, IfOk, IfErr, OnOk, MatchOption};
 ghost use Rattle.std.specs.Bool.{MatchBool};
 ghost use Rattle.rip_heap.specs.declared.class.Class.TheVariants.{ThrownTypeError};
 ghost use Rattle.rip_heap.specs.Growth.{Grows};
@@ -6,6 +6,7 @@ ghost use Rattle.rip_heap.specs.World.{World, charging};
 ghost use Rattle.rip_tree.specs.Program.{root_of};
 ghost use Rattle.rip_machine.specs.Law.{Begins, Resumes, Starts, host_calls, loaded, open_depth, outcome_of, stop_outcome, turned_of};
 ghost use Rattle.rip_machine.specs.Loading.{Loads, TextsStand};
+ghost use Rattle.rip_machine.specs.Nesting.{IsInside};
 ghost use Rattle.rip_machine.specs.Reading.{Loaded, children_from};
 ghost use Rattle.rip_machine.specs.Rows.Calls.{answered_by, answerer_of, callable};
 ghost use Rattle.rip_machine.specs.Rows.Functions.{body, function_entered, parameters};
@@ -57,7 +58,7 @@ impl Model for Machine {
       value_room = m.stack.room;
     } };
 
-    ghost invariant = { λ m. IsMachine m.fuel m.spent m.depth };
+    ghost invariant = { λ m. IsMachine m.fuel m.spent m.depth m.stack.most m.control m.stack.frames };
 }
 
 impl Machine {
@@ -132,6 +133,7 @@ impl Machine {
         fuel: u64,
     ) -> Result<(), Refused>
         ensures keeps { IfOk result (λ _. (self.new.literals ≡ self.old.literals) × (self.new.depth ≡ self.old.depth)) }
+        ensures nested { IsInside (self.new.depth + 1) self.new.control self.new.frames }
         ensures starts { Starts (table (loaded program.now self.old)) (begun (loaded program.now self.old) self.old.depth s.now heap.old) fuel heap.old heap.new self.old self.new result }
         ensures grows { Grows heap.old heap.new }
     {
@@ -154,6 +156,7 @@ impl Machine {
         fuel: u64,
     ) -> Result<(), Refused>
         ensures keeps { IfOk result (λ _. (self.new.literals ≡ self.old.literals) × (self.new.depth ≡ self.old.depth)) }
+        ensures nested { IsInside (self.new.depth + 1) self.new.control self.new.frames }
         ensures starts { Starts (table (loaded program.now self.old)) (let root = root_of program.now.grove script in script_begun (loaded program.now self.old) self.old.depth root (script_entered (loaded program.now self.old) root heap.old)) fuel heap.old heap.new self.old self.new result }
         ensures grows { Grows heap.old heap.new }
     {
@@ -179,6 +182,7 @@ impl Machine {
         fuel: u64,
     ) -> Result<(), Refused>
         ensures keeps { IfOk result (λ _. (self.new.literals ≡ self.old.literals) × (self.new.depth ≡ self.old.depth)) }
+        ensures nested { IsInside (self.new.depth + 1) self.new.control self.new.frames }
         ensures starts { Starts (table (loaded program.now self.old)) (call_begun (loaded program.now self.old) self.old.depth this.now args.now (callable heap.old (Value.Object function)) heap.old) fuel heap.old heap.new self.old self.new result }
         ensures grows { Grows heap.old heap.new }
     {
@@ -208,9 +212,12 @@ impl Machine {
         fuel: u64,
     ) -> Result<(), Refused>
         ensures keeps { IfOk result (λ _. (self.new.literals ≡ self.old.literals) × (self.new.depth ≡ self.old.depth)) }
+        ensures nested { IsInside (self.new.depth + 1) self.new.control self.new.frames }
         ensures starts { (p : Loaded) → Starts (table p) (builtin_begun p self.old.depth b this.now args.now (charging (length args.now) heap.old (λ x. x))) fuel heap.old heap.new self.old self.new result }
         ensures grows { Grows heap.old heap.new }
     {
+        // What the machine keeps holds where nothing is done too.
+        let _ = &self.depth;
         if args.len() > u32::MAX as usize {
             return Err(Refused::Memory);
         }
@@ -229,6 +236,7 @@ impl Machine {
         fuel: u64,
     ) -> Result<(), Refused>
         ensures begins { OnOk result ((p : Loaded) (w : World) → Begins (table p) (answered_by p (outside self.old.depth this.now) (answerer_of b) b this.now args.now w) fuel w self.new) }
+        ensures nested { IsInside (self.new.depth + 1) self.new.control self.new.frames }
         ensures memory { IfErr result (λ refused. refused ≡ Refused.Memory) }
         ensures keeps { (self.new.literals ≡ self.old.literals) × (self.new.depth ≡ self.old.depth) }
     {
@@ -239,9 +247,8 @@ impl Machine {
             room: self.depth + 1,
             role: Role::Value,
         };
-        match begin_called(&mut self.stack, &at, b, this, args) {
-            Ok(control) => {
-                self.control = control;
+        match begin_called(&mut self.stack, &mut self.control, &at, b, this, args) {
+            Ok(()) => {
                 self.fuel = fuel;
                 self.spent = 0;
                 Ok(())
@@ -303,6 +310,7 @@ impl Machine {
         fuel: u64,
     ) -> Result<(), Refused>
         ensures begins { OnOk result ((w : World) → Begins (table (loaded program.now self.old)) (statements (loaded program.now self.old) (function_part f scope this.now self.old.depth) Ending.Call (body (loaded program.now self.old) f) w) fuel w self.new) }
+        ensures nested { IsInside (self.new.depth + 1) self.new.control self.new.frames }
         ensures memory { IfErr result (λ refused. refused ≡ Refused.Memory) }
         ensures keeps { (self.new.literals ≡ self.old.literals) × (self.new.depth ≡ self.old.depth) }
     {
@@ -336,7 +344,9 @@ impl Machine {
         place: u32,
         fuel: u64,
     ) -> Result<(), Refused>
+        requires { at.now.room ≤ self.old.depth + 1 }
         ensures begins { OnOk result ((w : World) → Begins (table (loaded program.now self.old)) (statements (loaded program.now self.old) at.now ending (children_from (loaded program.now self.old) at.now.node place) w) fuel w self.new) }
+        ensures nested { IsInside (self.new.depth + 1) self.new.control self.new.frames }
         ensures memory { IfErr result (λ refused. refused ≡ Refused.Memory) }
         ensures keeps { (self.new.literals ≡ self.old.literals) × (self.new.depth ≡ self.old.depth) }
     {
@@ -344,9 +354,16 @@ impl Machine {
             program,
             literals: self.literals.as_slice(),
         };
-        match begin_list(&p, &mut self.stack, at, ending, place, self.depth) {
-            Ok(control) => {
-                self.control = control;
+        match begin_list(
+            &p,
+            &mut self.stack,
+            &mut self.control,
+            at,
+            ending,
+            place,
+            self.depth,
+        ) {
+            Ok(()) => {
                 self.fuel = fuel;
                 self.spent = 0;
                 Ok(())
@@ -364,6 +381,7 @@ impl Machine {
         fuel: u64,
     ) -> Result<(), Refused>
         ensures begins { OnOk result (Begins (table (loaded program.now self.old)) (throws ThrownTypeError heap.old) fuel heap.new self.new) }
+        ensures nested { IsInside (self.new.depth + 1) self.new.control self.new.frames }
         ensures memory { IfErr result (λ refused. refused ≡ Refused.Memory) }
         ensures keeps { (self.new.literals ≡ self.old.literals) × (self.new.depth ≡ self.old.depth) }
         ensures grows { Grows heap.old heap.new }
@@ -372,9 +390,15 @@ impl Machine {
             program,
             literals: self.literals.as_slice(),
         };
-        match begin_throw(alloc, &p, heap, &mut self.stack, self.depth) {
-            Ok(control) => {
-                self.control = control;
+        match begin_throw(
+            alloc,
+            &p,
+            heap,
+            &mut self.stack,
+            &mut self.control,
+            self.depth,
+        ) {
+            Ok(()) => {
                 self.fuel = fuel;
                 self.spent = 0;
                 Ok(())
@@ -395,6 +419,7 @@ impl Machine {
         requires { H.fits host.old heap.old }
         ensures fits { H.fits host.new heap.new }
         ensures keeps { (self.new.literals ≡ self.old.literals) × (self.new.depth ≡ self.old.depth) }
+        ensures nested { IsInside (self.new.depth + 1) self.new.control self.new.frames }
         ensures law { Resumes (host_calls H.read_gives H.write_gives H.call_gives) (table (loaded program.now self.old)) self.old heap.old host.old n self.new heap.new host.new result }
     {
         let budget = n.min(self.fuel);
@@ -403,14 +428,20 @@ impl Machine {
             literals: self.literals.as_slice(),
         };
         let more = n < self.fuel;
-        match steps(alloc, &p, heap, host, &mut self.stack, self.control, budget) {
-            Ok(stood) => {
-                let used = budget - stood.1;
-                let turned = turned_of(&stood.0, more);
+        match steps(
+            alloc,
+            &p,
+            heap,
+            host,
+            &mut self.stack,
+            &mut self.control,
+            budget,
+        ) {
+            Ok(left) => {
+                let used = budget - left;
                 self.fuel -= used;
                 self.spent += used;
-                self.control = stood.0;
-                turned
+                turned_of(&self.control, more)
             },
             Err(NoMemory) => Turned::Done(Outcome::Memory),
         }

@@ -1,4 +1,4 @@
-ghost use Rattle.std.specs.Prelude.{◌≡◌, [], Some, IfOk, IfErr, MatchResult, List, Option};
+ghost use Rattle.std.specs.Prelude.{◌≡◌, ℕ, [], Ok, Some, IfErr, IfOk, MatchResult, List, Option};
 ghost use Rattle.rip_values.specs.declared.value.Value.{Value as ScriptValue};
 ghost use Rattle.rip_heap.specs.declared.keys.Reference.{Reference as Target};
 ghost use Rattle.rip_heap.specs.Growth.{Grows};
@@ -9,18 +9,20 @@ ghost use Rattle.rip_frames.specs.Rest.{as_row};
 ghost use Rattle.rip_frames.specs.Row.{Ends, Row};
 ghost use Rattle.rip_frames.specs.Settle.{settle};
 ghost use Rattle.rip_machine.specs.Law.{host_calls};
+ghost use Rattle.rip_machine.specs.Nesting.{Nests};
 ghost use Rattle.rip_machine.specs.Reading.{literal};
+ghost use Rattle.rip_machine.specs.Rows.Host.{asks_read};
 ghost use Rattle.rip_machine.specs.Rows.Members.{deletes, index_row, member_for, member_row, with_base, with_read, with_target, with_writing};
 ghost use Rattle.rip_machine.specs.Table.{rest_by, table};
 
-use crate::expressions::{give, value_of};
+use crate::expressions::{end, give, halt, value_of};
 use crate::hosted::{ask_read, ask_write};
 use crate::names::throw;
 use crate::source::Source;
 use rip_frames::{Completion, Frame, Next, Part, Role, Stop};
 use rip_heap::{Class, Heap, Host, Key, Reference};
 use rip_members::{KeyDone, Read, Written, delete, key_of, read, write};
-use rip_values::{Fault, NoMemory, Value};
+use rip_values::{Fault, NoMemory, Span, Value};
 use std::alloc::Global;
 
 // ANSWERS OF MEMBERS
@@ -37,6 +39,7 @@ pub(crate) fn read_value<H: Host>(
 ) -> Result<Result<Value, Next>, NoMemory>
     requires { H.fits host.old heap.old }
     ensures read { IfOk result (λ answer. MatchResult answer (λ v. (go : ScriptValue → World → Row) → settle (host_calls H.read_gives H.write_gives H.call_gives) (with_read (read heap.old base.now key) heap.old go) host.old ≡ settle (host_calls H.read_gives H.write_gives H.call_gives) (go v heap.new) host.new) (λ next. (go : ScriptValue → World → Row) (values : List ScriptValue) → settle (host_calls H.read_gives H.write_gives H.call_gives) (with_read (read heap.old base.now key) heap.old go) host.old ≡ (as_row (table p.now) next values heap.new, host.new))) }
+    ensures nests { (room : ℕ) → IfOk result (λ answer. IfErr answer (Nests room)) }
     ensures fits { H.fits host.new heap.new }
     ensures grows { Grows heap.old heap.new }
 {
@@ -61,6 +64,7 @@ pub(crate) fn write_value<H: Host>(
 ) -> Result<Result<(), Next>, NoMemory>
     requires { H.fits host.old heap.old }
     ensures written { IfOk result (λ answer. MatchResult answer (λ _. (go : World → Row) → settle (host_calls H.read_gives H.write_gives H.call_gives) (with_writing (write heap.old base.now key v.now) v.now heap.old go) host.old ≡ settle (host_calls H.read_gives H.write_gives H.call_gives) (go heap.new) host.new) (λ next. (go : World → Row) (values : List ScriptValue) → settle (host_calls H.read_gives H.write_gives H.call_gives) (with_writing (write heap.old base.now key v.now) v.now heap.old go) host.old ≡ (as_row (table p.now) next values heap.new, host.new))) }
+    ensures nests { (room : ℕ) → IfOk result (λ answer. IfErr answer (Nests room)) }
     ensures fits { H.fits host.new heap.new }
     ensures grows { Grows heap.old heap.new }
 {
@@ -80,40 +84,134 @@ fn member_for<H: Host>(
     p: &Source,
     heap: &mut Heap,
     host: &mut H,
-    role: Role,
+    at: &Part,
     base: &Value,
     key: Key,
 ) -> Result<Next, NoMemory>
     requires { H.fits host.old heap.old }
-    ensures row { IfOk result (λ next. (values : List ScriptValue) → (as_row (table p.now) next values heap.new, host.new) ≡ settle (host_calls H.read_gives H.write_gives H.call_gives) (member_for role base.now key heap.old) host.old) }
+    ensures row { IfOk result (λ next. (values : List ScriptValue) → (as_row (table p.now) next values heap.new, host.new) ≡ settle (host_calls H.read_gives H.write_gives H.call_gives) (member_for at.now.role base.now key heap.old) host.old) }
+    ensures nests { IfOk result (Nests at.now.room) }
     ensures fits { H.fits host.new heap.new }
     ensures grows { Grows heap.old heap.new }
 {
-    match role {
+    match at.role {
         Role::Target => {
             let target = Reference { base: *base, key };
-            Ok(Next::End(Completion::Referred(target)))
+            end(&Completion::Referred(target))
         },
-        Role::Value => match read_value(alloc, p, heap, host, base, key)? {
-            Ok(v) => Ok(give(v)),
-            Err(next) => Ok(next),
-        },
-        Role::Callee => match read_value(alloc, p, heap, host, base, key)? {
-            Ok(function) => Ok(Next::End(Completion::Method {
-                function,
-                this: *base,
-            })),
-            Err(next) => Ok(next),
-        },
+        Role::Value => member_value(alloc, p, heap, host, base, key),
+        Role::Callee => method(alloc, p, heap, host, base, key),
     }
+}
+
+/// The value of a member.
+#[tactic(auto, using(rip_frames::proofs::Settles::settled))]
+fn member_value<H: Host>(
+    alloc: Global,
+    p: &Source,
+    heap: &mut Heap,
+    host: &mut H,
+    base: &Value,
+    key: Key,
+) -> Result<Next, NoMemory>
+    requires { H.fits host.old heap.old }
+    ensures row { IfOk result (λ next. (values : List ScriptValue) → (as_row (table p.now) next values heap.new, host.new) ≡ settle (host_calls H.read_gives H.write_gives H.call_gives) (member_for Role.Value base.now key heap.old) host.old) }
+    ensures nests { (room : ℕ) → IfOk result (Nests room) }
+    ensures fits { H.fits host.new heap.new }
+    ensures grows { Grows heap.old heap.new }
+{
+    match read(heap, *base, key) {
+        Read::Value(v) => give(v),
+        Read::TypeFault => throw(alloc, p, heap, Class::ThrownTypeError),
+        Read::Fault(fault) => halt(Stop::Fault(fault)),
+        Read::Host { object, name } => host_value(alloc, p, heap, host, object, name),
+    }
+}
+
+/// The value of a member of the host.
+fn host_value<H: Host>(
+    alloc: Global,
+    p: &Source,
+    heap: &mut Heap,
+    host: &mut H,
+    object: u32,
+    name: Span,
+) -> Result<Next, NoMemory>
+    requires { H.fits host.old heap.old }
+    ensures row { IfOk result (λ next. (values : List ScriptValue) → (as_row (table p.now) next values heap.new, host.new) ≡ settle (host_calls H.read_gives H.write_gives H.call_gives) (asks_read object name heap.old (λ v x. Ends (Completion.Normal v) x)) host.old) }
+    ensures nests { (room : ℕ) → IfOk result (Nests room) }
+    ensures fits { H.fits host.new heap.new }
+    ensures grows { Grows heap.old heap.new }
+{
+    match ask_read(alloc, p, heap, host, object, name)? {
+        Ok(v) => give(v),
+        Err(next) => Ok(next),
+    }
+}
+
+/// The value of a member and the base, for a call.
+#[tactic(auto, using(rip_frames::proofs::Settles::settled))]
+fn method<H: Host>(
+    alloc: Global,
+    p: &Source,
+    heap: &mut Heap,
+    host: &mut H,
+    base: &Value,
+    key: Key,
+) -> Result<Next, NoMemory>
+    requires { H.fits host.old heap.old }
+    ensures row { IfOk result (λ next. (values : List ScriptValue) → (as_row (table p.now) next values heap.new, host.new) ≡ settle (host_calls H.read_gives H.write_gives H.call_gives) (member_for Role.Callee base.now key heap.old) host.old) }
+    ensures nests { (room : ℕ) → IfOk result (Nests room) }
+    ensures fits { H.fits host.new heap.new }
+    ensures grows { Grows heap.old heap.new }
+{
+    match read(heap, *base, key) {
+        Read::Value(v) => method_on(base, v),
+        Read::TypeFault => throw(alloc, p, heap, Class::ThrownTypeError),
+        Read::Fault(fault) => halt(Stop::Fault(fault)),
+        Read::Host { object, name } => host_method(alloc, p, heap, host, base, object, name),
+    }
+}
+
+/// The same of a member of the host.
+fn host_method<H: Host>(
+    alloc: Global,
+    p: &Source,
+    heap: &mut Heap,
+    host: &mut H,
+    base: &Value,
+    object: u32,
+    name: Span,
+) -> Result<Next, NoMemory>
+    requires { H.fits host.old heap.old }
+    ensures row { IfOk result (λ next. (values : List ScriptValue) → (as_row (table p.now) next values heap.new, host.new) ≡ settle (host_calls H.read_gives H.write_gives H.call_gives) (asks_read object name heap.old (λ f x. Ends (Completion.Method f base.now) x)) host.old) }
+    ensures nests { (room : ℕ) → IfOk result (Nests room) }
+    ensures fits { H.fits host.new heap.new }
+    ensures grows { Grows heap.old heap.new }
+{
+    match ask_read(alloc, p, heap, host, object, name)? {
+        Ok(function) => method_on(base, function),
+        Err(next) => Ok(next),
+    }
+}
+
+/// The row ends with a function and the base of which it is a member.
+fn method_on(base: &Value, function: Value) -> Result<Next, NoMemory>
+    ensures { result ≡ Ok (Next.End (Completion.Method function base.now)) }
+{
+    Ok(Next::End(Completion::Method {
+        function,
+        this: *base,
+    }))
 }
 
 // MEMBERS
 
-pub(crate) fn begin_member(p: &Source, at: &Part) -> Next
-    ensures { (values : List ScriptValue) (w : World) → as_row (table p.now) result values w ≡ member_row p.now at.now w }
+pub(crate) fn begin_member(p: &Source, at: &Part) -> Result<Next, NoMemory>
+    ensures row { IfOk result (λ next. (values : List ScriptValue) (w : World) → as_row (table p.now) next values w ≡ member_row p.now at.now w) }
+    ensures nests { IfOk result (Nests at.now.room) }
 {
-    Next::Ask(p.part_at(at, 0), Frame::MemberBase { at: *at })
+    Ok(Next::Ask(p.part_at(at, 0), Frame::MemberBase { at: *at }))
 }
 
 #[tactic(auto, using(rip_frames::proofs::Settles::settled))]
@@ -123,16 +221,17 @@ pub(crate) fn after_member_base<H: Host>(
     heap: &mut Heap,
     host: &mut H,
     at: &Part,
-    c: Completion,
+    c: &Completion,
 ) -> Result<Next, NoMemory>
     requires { H.fits host.old heap.old }
-    ensures row { IfOk result (λ next. (values : List ScriptValue) → (as_row (table p.now) next values heap.new, host.new) ≡ settle (host_calls H.read_gives H.write_gives H.call_gives) (rest_by p.now (Frame.MemberBase at.now) [] c heap.old) host.old) }
+    ensures row { IfOk result (λ next. (values : List ScriptValue) → (as_row (table p.now) next values heap.new, host.new) ≡ settle (host_calls H.read_gives H.write_gives H.call_gives) (rest_by p.now (Frame.MemberBase at.now) [] c.now heap.old) host.old) }
+    ensures nests { IfOk result (Nests at.now.room) }
     ensures fits { H.fits host.new heap.new }
     ensures grows { Grows heap.old heap.new }
 {
     match value_of(c) {
-        Ok(base) => named_member(alloc, p, heap, host, at, &base),
-        Err(next) => Ok(next),
+        Some(base) => named_member(alloc, p, heap, host, at, &base),
+        None => end(c),
     }
 }
 
@@ -148,6 +247,7 @@ fn named_member<H: Host>(
 ) -> Result<Next, NoMemory>
     requires { H.fits host.old heap.old }
     ensures row { IfOk result (λ next. (values : List ScriptValue) → (as_row (table p.now) next values heap.new, host.new) ≡ settle (host_calls H.read_gives H.write_gives H.call_gives) (with_base base.now heap.old (member_for at.now.role base.now (Key.Name (literal p.now at.now.node)) heap.old)) host.old) }
+    ensures nests { IfOk result (Nests at.now.room) }
     ensures fits { H.fits host.new heap.new }
     ensures grows { Grows heap.old heap.new }
 {
@@ -155,23 +255,25 @@ fn named_member<H: Host>(
         Value::Undefined | Value::Null => throw(alloc, p, heap, Class::ThrownTypeError),
         _ => {
             let key = Key::Name(p.literal(at.node));
-            member_for(alloc, p, heap, host, at.role, base, key)
+            member_for(alloc, p, heap, host, at, base, key)
         },
     }
 }
 
-pub(crate) fn begin_index(p: &Source, at: &Part) -> Next
-    ensures { (values : List ScriptValue) (w : World) → as_row (table p.now) result values w ≡ index_row p.now at.now w }
+pub(crate) fn begin_index(p: &Source, at: &Part) -> Result<Next, NoMemory>
+    ensures row { IfOk result (λ next. (values : List ScriptValue) (w : World) → as_row (table p.now) next values w ≡ index_row p.now at.now w) }
+    ensures nests { IfOk result (Nests at.now.room) }
 {
-    Next::Ask(p.part_at(at, 0), Frame::IndexBase { at: *at })
+    Ok(Next::Ask(p.part_at(at, 0), Frame::IndexBase { at: *at }))
 }
 
-pub(crate) fn after_index_base(p: &Source, at: &Part, c: Completion) -> Next
-    ensures { (values : List ScriptValue) (w : World) → as_row (table p.now) result values w ≡ rest_by p.now (Frame.IndexBase at.now) [] c w }
+pub(crate) fn after_index_base(p: &Source, at: &Part, c: &Completion) -> Result<Next, NoMemory>
+    ensures row { IfOk result (λ next. (values : List ScriptValue) (w : World) → as_row (table p.now) next values w ≡ rest_by p.now (Frame.IndexBase at.now) [] c.now w) }
+    ensures nests { IfOk result (Nests at.now.room) }
 {
     match value_of(c) {
-        Ok(base) => Next::Ask(p.part_at(at, 1), Frame::Subscript { at: *at, base }),
-        Err(next) => next,
+        Some(base) => Ok(Next::Ask(p.part_at(at, 1), Frame::Subscript { at: *at, base })),
+        None => end(c),
     }
 }
 
@@ -183,41 +285,35 @@ pub(crate) fn after_subscript<H: Host>(
     host: &mut H,
     at: &Part,
     base: &Value,
-    c: Completion,
+    c: &Completion,
 ) -> Result<Next, NoMemory>
     requires { H.fits host.old heap.old }
-    ensures row { IfOk result (λ next. (values : List ScriptValue) → (as_row (table p.now) next values heap.new, host.new) ≡ settle (host_calls H.read_gives H.write_gives H.call_gives) (rest_by p.now (Frame.Subscript at.now base.now) [] c heap.old) host.old) }
+    ensures row { IfOk result (λ next. (values : List ScriptValue) → (as_row (table p.now) next values heap.new, host.new) ≡ settle (host_calls H.read_gives H.write_gives H.call_gives) (rest_by p.now (Frame.Subscript at.now base.now) [] c.now heap.old) host.old) }
+    ensures nests { IfOk result (Nests at.now.room) }
     ensures fits { H.fits host.new heap.new }
     ensures grows { Grows heap.old heap.new }
 {
     match value_of(c) {
-        Ok(subscript) => match key_of(alloc, heap, *base, subscript) {
-            KeyDone::Key(key) => member_for(alloc, p, heap, host, at.role, base, key),
+        Some(subscript) => match key_of(alloc, heap, *base, subscript) {
+            KeyDone::Key(key) => member_for(alloc, p, heap, host, at, base, key),
             KeyDone::TypeFault => throw(alloc, p, heap, Class::ThrownTypeError),
-            KeyDone::Fault(fault) => Ok(Next::Halt(Stop::Fault(fault))),
-            KeyDone::Limit(limit) => Ok(Next::Halt(Stop::Limit(limit))),
+            KeyDone::Fault(fault) => halt(Stop::Fault(fault)),
+            KeyDone::Limit(limit) => halt(Stop::Limit(limit)),
         },
-        Err(next) => Ok(next),
+        None => end(c),
     }
 }
 
 // TARGETS
 
 /// What a target is: a member, or none where it is a name or no target at all; or what a row ends with.
-pub(crate) fn target_of(c: Completion) -> Result<Option<Reference>, Next>
-    ensures target { MatchResult result (λ target. (w : World) (go : Option Target → Row) → with_target c w go ≡ go target) (λ next. next ≡ Next.End c) }
-    ensures ends { IfErr result (λ _. (w : World) (go : Option Target → Row) → with_target c w go ≡ Ends c w) }
+pub(crate) fn target_of(c: &Completion) -> Result<Option<Reference>, Completion>
+    ensures { MatchResult result (λ target. (w : World) (go : Option Target → Row) → with_target c.now w go ≡ go target) (λ end. (w : World) (go : Option Target → Row) → with_target c.now w go ≡ Ends end w) }
 {
     match c {
         Completion::Normal(_) => Ok(None),
-        Completion::Referred(r) => Ok(Some(r)),
-        Completion::Thrown(v) => Err(Next::End(Completion::Thrown(v))),
-        Completion::Returned(v) => Err(Next::End(Completion::Returned(v))),
-        Completion::Broken => Err(Next::End(Completion::Broken)),
-        Completion::Continued => Err(Next::End(Completion::Continued)),
-        Completion::Method { function, this } => {
-            Err(Next::End(Completion::Method { function, this }))
-        },
+        Completion::Referred(r) => Ok(Some(*r)),
+        _ => Err(*c),
     }
 }
 
@@ -229,10 +325,11 @@ pub(crate) fn deletes(
     target: &Option<Reference>,
 ) -> Result<Next, NoMemory>
     ensures row { IfOk result (λ next. (values : List ScriptValue) → as_row (table p.now) next values heap.new ≡ deletes target.now heap.old) }
+    ensures nests { (room : ℕ) → IfOk result (Nests room) }
     ensures grows { Grows heap.old heap.new }
 {
     match target {
-        None => Ok(give(Value::Bool(true))),
+        None => give(Value::Bool(true)),
         Some(member) => delete_member(alloc, p, heap, member),
     }
 }
@@ -244,14 +341,15 @@ fn delete_member(
     member: &Reference,
 ) -> Result<Next, NoMemory>
     ensures row { IfOk result (λ next. (values : List ScriptValue) → as_row (table p.now) next values heap.new ≡ deletes (Some member.now) heap.old) }
+    ensures nests { (room : ℕ) → IfOk result (Nests room) }
     ensures grows { Grows heap.old heap.new }
 {
     match delete(heap, member.base, member.key) {
-        Written::Done => Ok(give(Value::Bool(true))),
+        Written::Done => give(Value::Bool(true)),
         Written::TypeFault => throw(alloc, p, heap, Class::ThrownTypeError),
-        Written::Fault(fault) => Ok(Next::Halt(Stop::Fault(fault))),
-        Written::Limit(limit) => Ok(Next::Halt(Stop::Limit(limit))),
+        Written::Fault(fault) => halt(Stop::Fault(fault)),
+        Written::Limit(limit) => halt(Stop::Limit(limit)),
         Written::Memory => Err(NoMemory),
-        Written::Host { .. } => Ok(Next::Halt(Stop::Fault(Fault::NotInProfile))),
+        Written::Host { .. } => halt(Stop::Fault(Fault::NotInProfile)),
     }
 }

@@ -1,6 +1,7 @@
-ghost use Rattle.std.specs.Prelude.{◌≡◌, [], Ok, Err, IfOk, OnErr, MatchResult, List};
+ghost use Rattle.std.specs.Prelude.{◌≡◌, [], Ok, Err, IfOk, OnErr, MatchResult, List, ℕ};
 ghost use Rattle.rip_heap.specs.Growth.{Grows};
 ghost use Rattle.rip_frames.specs.Rest.{as_row};
+ghost use Rattle.rip_machine.specs.Nesting.{Nests};
 ghost use Rattle.rip_machine.specs.Rows.Names.{bound, found, global_value, outer, scope_up, throws, written, written_to};
 ghost use Rattle.rip_machine.specs.Table.{table};
 
@@ -19,6 +20,7 @@ pub(crate) fn throw(
     class: Class,
 ) -> Result<Next, NoMemory>
     ensures row { IfOk result (λ next. (values : List Value) → as_row (table p.now) next values heap.new ≡ throws class heap.old) }
+    ensures nests { (room : ℕ) → IfOk result (Nests room) }
     ensures grows { Grows heap.old heap.new }
 {
     let _ = p;

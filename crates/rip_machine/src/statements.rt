@@ -2,12 +2,13 @@ ghost use Rattle.std.specs.Prelude.{◌≡◌, [], IfOk, MatchResult, List};
 ghost use Rattle.rip_heap.specs.World.{World};
 ghost use Rattle.rip_heap.specs.Growth.{Grows};
 ghost use Rattle.rip_frames.specs.Rest.{as_row};
-ghost use Rattle.rip_frames.specs.Row.{Row, Table};
+ghost use Rattle.rip_frames.specs.Row.{Ends, Row};
+ghost use Rattle.rip_machine.specs.Nesting.{Nests};
 ghost use Rattle.rip_machine.specs.Reading.{child_at, children_from};
 ghost use Rattle.rip_machine.specs.Rows.Statements.{block_row, constructed, declarations, declarators_in, declared, do_row, ended, expression_row, for_row, for_statement, for_turn, for_update_by, goes_on, if_row, is_bindings, is_declaration, is_for, return_row, returned, script_ended, statements, switched, tested, var_row, while_row};
 ghost use Rattle.rip_machine.specs.Table.{rest_by, table};
 
-use crate::expressions::{give, truth_of, value_of};
+use crate::expressions::{end, give, truth_of, value_of};
 use crate::names::{throw, write};
 use crate::source::{Source, part};
 use rip_frames::{Completion, Ending, Frame, Next, Part};
@@ -81,7 +82,8 @@ pub(crate) fn is_declaration(form: Form) -> bool
 /// The statements of a list from this place on. A place that 32 bits cannot count is want of memory.
 #[tactic(auto, using(crate::proofs::Children::children_some, crate::proofs::Children::children_none))]
 pub(crate) fn statements(p: &Source, at: &Part, ending: Ending, from: u32) -> Result<Next, NoMemory>
-    ensures { IfOk result (λ next. (values : List Value) (w : World) → as_row (table p.now) next values w ≡ statements p.now at.now ending (children_from p.now at.now.node from) w) }
+    ensures row { IfOk result (λ next. (values : List Value) (w : World) → as_row (table p.now) next values w ≡ statements p.now at.now ending (children_from p.now at.now.node from) w) }
+    ensures nests { IfOk result (Nests at.now.room) }
 {
     let mut place = from;
     while let Some(s) = p.child_at(at.node, place) {
@@ -98,7 +100,7 @@ pub(crate) fn statements(p: &Source, at: &Part, ending: Ending, from: u32) -> Re
         }
         place += 1;
     }
-    Ok(Next::End(ended(ending, Completion::Normal(Value::Undefined))))
+    end(&ended(ending, Completion::Normal(Value::Undefined)))
 }
 
 pub(crate) fn after_statement(
@@ -106,9 +108,10 @@ pub(crate) fn after_statement(
     at: &Part,
     place: u32,
     ending: Ending,
-    c: Completion,
+    c: &Completion,
 ) -> Result<Next, NoMemory>
-    ensures { IfOk result (λ next. (values : List Value) (w : World) → as_row (table p.now) next values w ≡ rest_by p.now (Frame.Statement at.now place ending) [] c w) }
+    ensures row { IfOk result (λ next. (values : List Value) (w : World) → as_row (table p.now) next values w ≡ rest_by p.now (Frame.Statement at.now place ending) [] c.now w) }
+    ensures nests { IfOk result (Nests at.now.room) }
 {
     match c {
         Completion::Normal(_) => {
@@ -117,206 +120,241 @@ pub(crate) fn after_statement(
             }
             statements(p, at, ending, place + 1)
         },
-        Completion::Thrown(v) => Ok(Next::End(ended(ending, Completion::Thrown(v)))),
-        Completion::Returned(v) => Ok(Next::End(ended(ending, Completion::Returned(v)))),
-        Completion::Broken => Ok(Next::End(ended(ending, Completion::Broken))),
-        _ => Ok(Next::End(ended(ending, c))),
+        _ => end(&ended(ending, *c)),
     }
 }
 
 pub(crate) fn begin_block(p: &Source, at: &Part) -> Result<Next, NoMemory>
-    ensures { IfOk result (λ next. (values : List Value) (w : World) → as_row (table p.now) next values w ≡ block_row p.now at.now w) }
+    ensures row { IfOk result (λ next. (values : List Value) (w : World) → as_row (table p.now) next values w ≡ block_row p.now at.now w) }
+    ensures nests { IfOk result (Nests at.now.room) }
 {
     statements(p, at, Ending::Block, 0)
 }
 
 // SIMPLE STATEMENTS
 
-pub(crate) fn begin_expression(p: &Source, at: &Part) -> Next
-    ensures { (values : List Value) (w : World) → as_row (table p.now) result values w ≡ expression_row p.now at.now w }
+pub(crate) fn begin_expression(p: &Source, at: &Part) -> Result<Next, NoMemory>
+    ensures row { IfOk result (λ next. (values : List Value) (w : World) → as_row (table p.now) next values w ≡ expression_row p.now at.now w) }
+    ensures nests { IfOk result (Nests at.now.room) }
 {
-    Next::Ask(p.part_at(at, 0), Frame::Expression { at: *at })
+    Ok(Next::Ask(p.part_at(at, 0), Frame::Expression { at: *at }))
 }
 
-pub(crate) fn after_expression(p: &Source, at: &Part, c: Completion) -> Next
-    ensures { (values : List Value) (w : World) → as_row (table p.now) result values w ≡ rest_by p.now (Frame.Expression at.now) [] c w }
+pub(crate) fn after_expression(p: &Source, at: &Part, c: &Completion) -> Result<Next, NoMemory>
+    ensures row { IfOk result (λ next. (values : List Value) (w : World) → as_row (table p.now) next values w ≡ rest_by p.now (Frame.Expression at.now) [] c.now w) }
+    ensures nests { IfOk result (Nests at.now.room) }
 {
     match value_of(c) {
-        Ok(_) => give(Value::Undefined),
-        Err(next) => next,
+        Some(_) => give(Value::Undefined),
+        None => end(c),
     }
 }
 
-pub(crate) fn begin_if(p: &Source, at: &Part) -> Next
-    ensures { (values : List Value) (w : World) → as_row (table p.now) result values w ≡ if_row p.now at.now w }
+pub(crate) fn begin_if(p: &Source, at: &Part) -> Result<Next, NoMemory>
+    ensures row { IfOk result (λ next. (values : List Value) (w : World) → as_row (table p.now) next values w ≡ if_row p.now at.now w) }
+    ensures nests { IfOk result (Nests at.now.room) }
 {
-    Next::Ask(p.part_at(at, 0), Frame::IfTest { at: *at })
+    Ok(Next::Ask(p.part_at(at, 0), Frame::IfTest { at: *at }))
 }
 
-pub(crate) fn after_if_test(p: &Source, heap: &Heap, at: &Part, c: Completion) -> Next
-    ensures { (values : List Value) → as_row (table p.now) result values heap.now ≡ rest_by p.now (Frame.IfTest at.now) [] c heap.now }
+pub(crate) fn after_if_test(
+    p: &Source,
+    heap: &Heap,
+    at: &Part,
+    c: &Completion,
+) -> Result<Next, NoMemory>
+    ensures row { IfOk result (λ next. (values : List Value) → as_row (table p.now) next values heap.now ≡ rest_by p.now (Frame.IfTest at.now) [] c.now heap.now) }
+    ensures nests { IfOk result (Nests at.now.room) }
 {
     match value_of(c) {
-        Ok(test) => {
+        Some(test) => {
             if truth_of(heap, &test) {
-                return Next::Ask(p.part_at(at, 1), Frame::Last { at: *at });
+                return Ok(Next::Ask(p.part_at(at, 1), Frame::Last { at: *at }));
             }
             match p.child_at(at.node, 2) {
-                Some(s) => Next::Ask(part(at, s), Frame::Last { at: *at }),
+                Some(s) => Ok(Next::Ask(part(at, s), Frame::Last { at: *at })),
                 None => give(Value::Undefined),
             }
         },
-        Err(next) => next,
+        None => end(c),
     }
 }
 
-pub(crate) fn begin_return(p: &Source, at: &Part) -> Next
-    ensures { (values : List Value) (w : World) → as_row (table p.now) result values w ≡ return_row p.now at.now w }
+pub(crate) fn begin_return(p: &Source, at: &Part) -> Result<Next, NoMemory>
+    ensures row { IfOk result (λ next. (values : List Value) (w : World) → as_row (table p.now) next values w ≡ return_row p.now at.now w) }
+    ensures nests { IfOk result (Nests at.now.room) }
 {
     match p.child_at(at.node, 0) {
-        Some(e) => Next::Ask(part(at, e), Frame::ReturnValue { at: *at }),
-        None => Next::End(Completion::Returned(Value::Undefined)),
+        Some(e) => Ok(Next::Ask(part(at, e), Frame::ReturnValue { at: *at })),
+        None => end(&Completion::Returned(Value::Undefined)),
     }
 }
 
-pub(crate) fn after_return_value(p: &Source, at: &Part, c: Completion) -> Next
-    ensures { (values : List Value) (w : World) → as_row (table p.now) result values w ≡ rest_by p.now (Frame.ReturnValue at.now) [] c w }
+pub(crate) fn after_return_value(p: &Source, at: &Part, c: &Completion) -> Result<Next, NoMemory>
+    ensures row { IfOk result (λ next. (values : List Value) (w : World) → as_row (table p.now) next values w ≡ rest_by p.now (Frame.ReturnValue at.now) [] c.now w) }
+    ensures nests { IfOk result (Nests at.now.room) }
 {
     match value_of(c) {
-        Ok(v) => Next::End(Completion::Returned(v)),
-        Err(next) => next,
+        Some(v) => end(&Completion::Returned(v)),
+        None => end(c),
     }
 }
 
 // LOOPS
 
 /// Whether a loop goes on after its statement, and else what it ends with.
-fn goes_on(c: Completion) -> Result<(), Next>
-    ensures { MatchResult result (λ _. (w : World) (again : Row) → goes_on c w again ≡ again) (λ next. (t : Table) (values : List Value) (w : World) (again : Row) → goes_on c w again ≡ as_row t next values w) }
+fn goes_on(c: &Completion) -> Result<(), Completion>
+    ensures { MatchResult result (λ _. (w : World) (again : Row) → goes_on c.now w again ≡ again) (λ end. (w : World) (again : Row) → goes_on c.now w again ≡ Ends end w) }
 {
     match c {
-        Completion::Broken => Err(give(Value::Undefined)),
-        Completion::Thrown(v) => Err(Next::End(Completion::Thrown(v))),
-        Completion::Returned(v) => Err(Next::End(Completion::Returned(v))),
+        Completion::Broken => Err(Completion::Normal(Value::Undefined)),
+        Completion::Thrown(_) | Completion::Returned(_) => Err(*c),
         _ => Ok(()),
     }
 }
 
 /// Whether a loop goes on after its test, and else what it ends with.
-fn tested(heap: &Heap, c: Completion) -> Result<(), Next>
-    ensures { MatchResult result (λ _. (again : Row) → tested c heap.now again ≡ again) (λ next. (t : Table) (values : List Value) (again : Row) → tested c heap.now again ≡ as_row t next values heap.now) }
+fn tested(heap: &Heap, c: &Completion) -> Result<(), Completion>
+    ensures { MatchResult result (λ _. (again : Row) → tested c.now heap.now again ≡ again) (λ end. (again : Row) → tested c.now heap.now again ≡ Ends end heap.now) }
 {
     match value_of(c) {
-        Ok(test) => {
+        Some(test) => {
             if truth_of(heap, &test) {
                 Ok(())
             } else {
-                Err(give(Value::Undefined))
+                Err(Completion::Normal(Value::Undefined))
             }
         },
-        Err(next) => Err(next),
+        None => Err(*c),
     }
 }
 
-pub(crate) fn begin_do(p: &Source, at: &Part) -> Next
-    ensures { (values : List Value) (w : World) → as_row (table p.now) result values w ≡ do_row p.now at.now w }
+pub(crate) fn begin_do(p: &Source, at: &Part) -> Result<Next, NoMemory>
+    ensures row { IfOk result (λ next. (values : List Value) (w : World) → as_row (table p.now) next values w ≡ do_row p.now at.now w) }
+    ensures nests { IfOk result (Nests at.now.room) }
 {
-    Next::Turn(p.part_at(at, 0), Frame::DoBody { at: *at })
+    Ok(Next::Turn(p.part_at(at, 0), Frame::DoBody { at: *at }))
 }
 
-pub(crate) fn after_do_body(p: &Source, at: &Part, c: Completion) -> Next
-    ensures { (values : List Value) (w : World) → as_row (table p.now) result values w ≡ rest_by p.now (Frame.DoBody at.now) [] c w }
+pub(crate) fn after_do_body(p: &Source, at: &Part, c: &Completion) -> Result<Next, NoMemory>
+    ensures row { IfOk result (λ next. (values : List Value) (w : World) → as_row (table p.now) next values w ≡ rest_by p.now (Frame.DoBody at.now) [] c.now w) }
+    ensures nests { IfOk result (Nests at.now.room) }
 {
     match goes_on(c) {
-        Ok(()) => Next::Turn(p.part_at(at, 1), Frame::DoTest { at: *at }),
-        Err(next) => next,
+        Ok(()) => Ok(Next::Turn(p.part_at(at, 1), Frame::DoTest { at: *at })),
+        Err(other) => end(&other),
     }
 }
 
-pub(crate) fn after_do_test(p: &Source, heap: &Heap, at: &Part, c: Completion) -> Next
-    ensures { (values : List Value) → as_row (table p.now) result values heap.now ≡ rest_by p.now (Frame.DoTest at.now) [] c heap.now }
+pub(crate) fn after_do_test(
+    p: &Source,
+    heap: &Heap,
+    at: &Part,
+    c: &Completion,
+) -> Result<Next, NoMemory>
+    ensures row { IfOk result (λ next. (values : List Value) → as_row (table p.now) next values heap.now ≡ rest_by p.now (Frame.DoTest at.now) [] c.now heap.now) }
+    ensures nests { IfOk result (Nests at.now.room) }
 {
     match tested(heap, c) {
         Ok(()) => begin_do(p, at),
-        Err(next) => next,
+        Err(other) => end(&other),
     }
 }
 
-pub(crate) fn begin_while(p: &Source, at: &Part) -> Next
-    ensures { (values : List Value) (w : World) → as_row (table p.now) result values w ≡ while_row p.now at.now w }
+pub(crate) fn begin_while(p: &Source, at: &Part) -> Result<Next, NoMemory>
+    ensures row { IfOk result (λ next. (values : List Value) (w : World) → as_row (table p.now) next values w ≡ while_row p.now at.now w) }
+    ensures nests { IfOk result (Nests at.now.room) }
 {
-    Next::Turn(p.part_at(at, 0), Frame::WhileTest { at: *at })
+    Ok(Next::Turn(p.part_at(at, 0), Frame::WhileTest { at: *at }))
 }
 
-pub(crate) fn after_while_test(p: &Source, heap: &Heap, at: &Part, c: Completion) -> Next
-    ensures { (values : List Value) → as_row (table p.now) result values heap.now ≡ rest_by p.now (Frame.WhileTest at.now) [] c heap.now }
+pub(crate) fn after_while_test(
+    p: &Source,
+    heap: &Heap,
+    at: &Part,
+    c: &Completion,
+) -> Result<Next, NoMemory>
+    ensures row { IfOk result (λ next. (values : List Value) → as_row (table p.now) next values heap.now ≡ rest_by p.now (Frame.WhileTest at.now) [] c.now heap.now) }
+    ensures nests { IfOk result (Nests at.now.room) }
 {
     match tested(heap, c) {
-        Ok(()) => Next::Turn(p.part_at(at, 1), Frame::WhileBody { at: *at }),
-        Err(next) => next,
+        Ok(()) => Ok(Next::Turn(p.part_at(at, 1), Frame::WhileBody { at: *at })),
+        Err(other) => end(&other),
     }
 }
 
-pub(crate) fn after_while_body(p: &Source, at: &Part, c: Completion) -> Next
-    ensures { (values : List Value) (w : World) → as_row (table p.now) result values w ≡ rest_by p.now (Frame.WhileBody at.now) [] c w }
+pub(crate) fn after_while_body(p: &Source, at: &Part, c: &Completion) -> Result<Next, NoMemory>
+    ensures row { IfOk result (λ next. (values : List Value) (w : World) → as_row (table p.now) next values w ≡ rest_by p.now (Frame.WhileBody at.now) [] c.now w) }
+    ensures nests { IfOk result (Nests at.now.room) }
 {
     match goes_on(c) {
         Ok(()) => begin_while(p, at),
-        Err(next) => next,
+        Err(other) => end(&other),
     }
 }
 
 /// The statement of a `for`.
-fn for_statement(p: &Source, at: &Part) -> Next
-    ensures { (values : List Value) (w : World) → as_row (table p.now) result values w ≡ for_statement p.now at.now w }
+fn for_statement(p: &Source, at: &Part) -> Result<Next, NoMemory>
+    ensures row { IfOk result (λ next. (values : List Value) (w : World) → as_row (table p.now) next values w ≡ for_statement p.now at.now w) }
+    ensures nests { IfOk result (Nests at.now.room) }
 {
-    Next::Turn(p.part_at(at, 3), Frame::ForBody { at: *at })
+    Ok(Next::Turn(p.part_at(at, 3), Frame::ForBody { at: *at }))
 }
 
 /// A turn of a `for`: its test, or its statement where it has none.
-fn for_turn(p: &Source, at: &Part) -> Next
-    ensures { (values : List Value) (w : World) → as_row (table p.now) result values w ≡ for_turn p.now at.now w }
+fn for_turn(p: &Source, at: &Part) -> Result<Next, NoMemory>
+    ensures row { IfOk result (λ next. (values : List Value) (w : World) → as_row (table p.now) next values w ≡ for_turn p.now at.now w) }
+    ensures nests { IfOk result (Nests at.now.room) }
 {
     match p.child_at(at.node, 1) {
-        Some(test) => Next::Turn(part(at, test), Frame::ForTest { at: *at }),
+        Some(test) => Ok(Next::Turn(part(at, test), Frame::ForTest { at: *at })),
         None => for_statement(p, at),
     }
 }
 
-pub(crate) fn after_for_test(p: &Source, heap: &Heap, at: &Part, c: Completion) -> Next
-    ensures { (values : List Value) → as_row (table p.now) result values heap.now ≡ rest_by p.now (Frame.ForTest at.now) [] c heap.now }
+pub(crate) fn after_for_test(
+    p: &Source,
+    heap: &Heap,
+    at: &Part,
+    c: &Completion,
+) -> Result<Next, NoMemory>
+    ensures row { IfOk result (λ next. (values : List Value) → as_row (table p.now) next values heap.now ≡ rest_by p.now (Frame.ForTest at.now) [] c.now heap.now) }
+    ensures nests { IfOk result (Nests at.now.room) }
 {
     match tested(heap, c) {
         Ok(()) => for_statement(p, at),
-        Err(next) => next,
+        Err(other) => end(&other),
     }
 }
 
-pub(crate) fn after_for_body(p: &Source, at: &Part, c: Completion) -> Next
-    ensures { (values : List Value) (w : World) → as_row (table p.now) result values w ≡ rest_by p.now (Frame.ForBody at.now) [] c w }
+pub(crate) fn after_for_body(p: &Source, at: &Part, c: &Completion) -> Result<Next, NoMemory>
+    ensures row { IfOk result (λ next. (values : List Value) (w : World) → as_row (table p.now) next values w ≡ rest_by p.now (Frame.ForBody at.now) [] c.now w) }
+    ensures nests { IfOk result (Nests at.now.room) }
 {
     match goes_on(c) {
         Ok(()) => for_update(p, at),
-        Err(next) => next,
+        Err(other) => end(&other),
     }
 }
 
 /// The update of a `for`, or its next turn where it has none.
-fn for_update(p: &Source, at: &Part) -> Next
-    ensures { (values : List Value) (w : World) → as_row (table p.now) result values w ≡ for_update_by p.now at.now (child_at p.now at.now.node 2) w }
+fn for_update(p: &Source, at: &Part) -> Result<Next, NoMemory>
+    ensures row { IfOk result (λ next. (values : List Value) (w : World) → as_row (table p.now) next values w ≡ for_update_by p.now at.now (child_at p.now at.now.node 2) w) }
+    ensures nests { IfOk result (Nests at.now.room) }
 {
     match p.child_at(at.node, 2) {
-        Some(update) => Next::Turn(part(at, update), Frame::ForUpdate { at: *at }),
+        Some(update) => Ok(Next::Turn(part(at, update), Frame::ForUpdate { at: *at })),
         None => for_turn(p, at),
     }
 }
 
-pub(crate) fn after_for_update(p: &Source, at: &Part, c: Completion) -> Next
-    ensures { (values : List Value) (w : World) → as_row (table p.now) result values w ≡ rest_by p.now (Frame.ForUpdate at.now) [] c w }
+pub(crate) fn after_for_update(p: &Source, at: &Part, c: &Completion) -> Result<Next, NoMemory>
+    ensures row { IfOk result (λ next. (values : List Value) (w : World) → as_row (table p.now) next values w ≡ rest_by p.now (Frame.ForUpdate at.now) [] c.now w) }
+    ensures nests { IfOk result (Nests at.now.room) }
 {
     match value_of(c) {
-        Ok(_) => for_turn(p, at),
-        Err(next) => next,
+        Some(_) => for_turn(p, at),
+        None => end(c),
     }
 }
 
@@ -346,8 +384,9 @@ fn declarators_in(p: &Source, at: &Part) -> u32
 }
 
 /// What follows the declarators.
-fn declared(p: &Source, at: &Part) -> Next
-    ensures { (values : List Value) (w : World) → as_row (table p.now) result values w ≡ declared p.now at.now w }
+fn declared(p: &Source, at: &Part) -> Result<Next, NoMemory>
+    ensures row { IfOk result (λ next. (values : List Value) (w : World) → as_row (table p.now) next values w ≡ declared p.now at.now w) }
+    ensures nests { IfOk result (Nests at.now.room) }
 {
     if is_for(p.form(at.node)) {
         for_turn(p, at)
@@ -359,7 +398,8 @@ fn declared(p: &Source, at: &Part) -> Next
 /// The initialisers from this place on.
 #[tactic(auto, using(crate::proofs::Children::children_some, crate::proofs::Children::children_none))]
 fn declarations(p: &Source, at: &Part, from: u32) -> Result<Next, NoMemory>
-    ensures { IfOk result (λ next. (values : List Value) (w : World) → as_row (table p.now) next values w ≡ declarations p.now at.now (children_from p.now (declarators_in p.now at.now) from) w) }
+    ensures row { IfOk result (λ next. (values : List Value) (w : World) → as_row (table p.now) next values w ≡ declarations p.now at.now (children_from p.now (declarators_in p.now at.now) from) w) }
+    ensures nests { IfOk result (Nests at.now.room) }
 {
     let list = declarators_in(p, at);
     let mut place = from;
@@ -372,11 +412,12 @@ fn declarations(p: &Source, at: &Part, from: u32) -> Result<Next, NoMemory>
         }
         place += 1;
     }
-    Ok(declared(p, at))
+    declared(p, at)
 }
 
 pub(crate) fn begin_var(p: &Source, at: &Part) -> Result<Next, NoMemory>
-    ensures { IfOk result (λ next. (values : List Value) (w : World) → as_row (table p.now) next values w ≡ var_row p.now at.now w) }
+    ensures row { IfOk result (λ next. (values : List Value) (w : World) → as_row (table p.now) next values w ≡ var_row p.now at.now w) }
+    ensures nests { IfOk result (Nests at.now.room) }
 {
     declarations(p, at, 0)
 }
@@ -387,28 +428,30 @@ pub(crate) fn after_initialiser(
     heap: &mut Heap,
     at: &Part,
     place: u32,
-    c: Completion,
+    c: &Completion,
 ) -> Result<Next, NoMemory>
-    ensures row { IfOk result (λ next. (values : List Value) → as_row (table p.now) next values heap.new ≡ rest_by p.now (Frame.Initialiser at.now place) [] c heap.old) }
+    ensures row { IfOk result (λ next. (values : List Value) → as_row (table p.now) next values heap.new ≡ rest_by p.now (Frame.Initialiser at.now place) [] c.now heap.old) }
+    ensures nests { IfOk result (Nests at.now.room) }
     ensures grows { Grows heap.old heap.new }
 {
     if place == u32::MAX {
         return Err(NoMemory);
     }
     match value_of(c) {
-        Ok(v) => {
+        Some(v) => {
             let name = p.scoping(p.child(declarators_in(p, at), place));
             match write(heap, at.scope, name, v) {
                 Ok(()) => declarations(p, at, place + 1),
                 Err(class) => throw(alloc, p, heap, class),
             }
         },
-        Err(next) => Ok(next),
+        None => end(c),
     }
 }
 
 pub(crate) fn begin_for(p: &Source, at: &Part) -> Result<Next, NoMemory>
-    ensures { IfOk result (λ next. (values : List Value) (w : World) → as_row (table p.now) next values w ≡ for_row p.now at.now w) }
+    ensures row { IfOk result (λ next. (values : List Value) (w : World) → as_row (table p.now) next values w ≡ for_row p.now at.now w) }
+    ensures nests { IfOk result (Nests at.now.room) }
 {
     match p.child_at(at.node, 0) {
         Some(start) => {
@@ -418,15 +461,16 @@ pub(crate) fn begin_for(p: &Source, at: &Part) -> Result<Next, NoMemory>
                 Ok(Next::Ask(part(at, start), Frame::ForStart { at: *at }))
             }
         },
-        None => Ok(for_turn(p, at)),
+        None => for_turn(p, at),
     }
 }
 
-pub(crate) fn after_for_start(p: &Source, at: &Part, c: Completion) -> Next
-    ensures { (values : List Value) (w : World) → as_row (table p.now) result values w ≡ rest_by p.now (Frame.ForStart at.now) [] c w }
+pub(crate) fn after_for_start(p: &Source, at: &Part, c: &Completion) -> Result<Next, NoMemory>
+    ensures row { IfOk result (λ next. (values : List Value) (w : World) → as_row (table p.now) next values w ≡ rest_by p.now (Frame.ForStart at.now) [] c.now w) }
+    ensures nests { IfOk result (Nests at.now.room) }
 {
     match value_of(c) {
-        Ok(_) => for_turn(p, at),
-        Err(next) => next,
+        Some(_) => for_turn(p, at),
+        None => end(c),
     }
 }

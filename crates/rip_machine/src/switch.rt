@@ -2,11 +2,12 @@ ghost use Rattle.std.specs.Prelude.{◌≡◌, ◌+◌, [], IfOk, List, if◌the
 ghost use Rattle.rip_heap.specs.Conversions.{strictly_equal};
 ghost use Rattle.rip_heap.specs.World.{World};
 ghost use Rattle.rip_frames.specs.Rest.{as_row};
+ghost use Rattle.rip_machine.specs.Nesting.{Nests};
 ghost use Rattle.rip_machine.specs.Reading.{form_of};
 ghost use Rattle.rip_machine.specs.Rows.Switch.{case_tests, clauses_from, entered_at, from_default, is_default, switch_row};
 ghost use Rattle.rip_machine.specs.Table.{rest_by, table};
 
-use crate::expressions::{give, value_of};
+use crate::expressions::{end, give, value_of};
 use crate::source::{Source, part};
 use crate::statements::ended;
 use rip_frames::{Completion, Ending, Frame, Next, Part};
@@ -30,18 +31,20 @@ fn first_statement(p: &Source, clause: u32) -> u32
     if is_default(p.form(clause)) { 0 } else { 1 }
 }
 
-pub(crate) fn begin_switch(p: &Source, at: &Part) -> Next
-    ensures { (values : List Value) (w : World) → as_row (table p.now) result values w ≡ switch_row p.now at.now w }
+pub(crate) fn begin_switch(p: &Source, at: &Part) -> Result<Next, NoMemory>
+    ensures row { IfOk result (λ next. (values : List Value) (w : World) → as_row (table p.now) next values w ≡ switch_row p.now at.now w) }
+    ensures nests { IfOk result (Nests at.now.room) }
 {
-    Next::Ask(p.part_at(at, 0), Frame::Discriminant { at: *at })
+    Ok(Next::Ask(p.part_at(at, 0), Frame::Discriminant { at: *at }))
 }
 
-pub(crate) fn after_discriminant(p: &Source, at: &Part, c: Completion) -> Result<Next, NoMemory>
-    ensures { IfOk result (λ next. (values : List Value) (w : World) → as_row (table p.now) next values w ≡ rest_by p.now (Frame.Discriminant at.now) [] c w) }
+pub(crate) fn after_discriminant(p: &Source, at: &Part, c: &Completion) -> Result<Next, NoMemory>
+    ensures row { IfOk result (λ next. (values : List Value) (w : World) → as_row (table p.now) next values w ≡ rest_by p.now (Frame.Discriminant at.now) [] c.now w) }
+    ensures nests { IfOk result (Nests at.now.room) }
 {
     match value_of(c) {
-        Ok(v) => tests(p, at, v, 0),
-        Err(next) => Ok(next),
+        Some(v) => tests(p, at, v, 0),
+        None => end(c),
     }
 }
 
@@ -50,7 +53,8 @@ pub(crate) fn after_discriminant(p: &Source, at: &Part, c: Completion) -> Result
 /// The tests of the clauses from this place on, and behind them `default`.
 #[tactic(auto, using(crate::proofs::Children::children_some, crate::proofs::Children::children_none))]
 fn tests(p: &Source, at: &Part, v: Value, from: u32) -> Result<Next, NoMemory>
-    ensures { IfOk result (λ next. (values : List Value) (w : World) → as_row (table p.now) next values w ≡ case_tests p.now at.now v (clauses_from p.now at.now from) w) }
+    ensures row { IfOk result (λ next. (values : List Value) (w : World) → as_row (table p.now) next values w ≡ case_tests p.now at.now v (clauses_from p.now at.now from) w) }
+    ensures nests { IfOk result (Nests at.now.room) }
 {
     let mut clause = from;
     while clause < MOST_CLAUSES {
@@ -83,34 +87,36 @@ pub(crate) fn after_case_test(
     at: &Part,
     clause: u32,
     v: Value,
-    c: Completion,
+    c: &Completion,
 ) -> Result<Next, NoMemory>
-    ensures { IfOk result (λ next. (values : List Value) → as_row (table p.now) next values heap.now ≡ rest_by p.now (Frame.CaseTest at.now clause v) [] c heap.now) }
+    ensures row { IfOk result (λ next. (values : List Value) → as_row (table p.now) next values heap.now ≡ rest_by p.now (Frame.CaseTest at.now clause v) [] c.now heap.now) }
+    ensures nests { IfOk result (Nests at.now.room) }
 {
     if clause >= MOST_CLAUSES {
         return Err(NoMemory);
     }
     match value_of(c) {
-        Ok(test) => {
+        Some(test) => {
             if is_same(heap, &v, &test) {
                 clauses(p, at, clause)
             } else {
                 tests(p, at, v, clause + 1)
             }
         },
-        Err(next) => Ok(next),
+        None => end(c),
     }
 }
 
 /// `default` and the clauses behind it, where there is one.
 #[tactic(auto, using(crate::proofs::Children::children_some, crate::proofs::Children::children_none))]
 fn default_clause(p: &Source, at: &Part) -> Result<Next, NoMemory>
-    ensures { IfOk result (λ next. (values : List Value) (w : World) → as_row (table p.now) next values w ≡ entered_at p.now at.now (from_default p.now (clauses_from p.now at.now 0)) w) }
+    ensures row { IfOk result (λ next. (values : List Value) (w : World) → as_row (table p.now) next values w ≡ entered_at p.now at.now (from_default p.now (clauses_from p.now at.now 0)) w) }
+    ensures nests { IfOk result (Nests at.now.room) }
 {
     let mut clause = 0;
     while clause < MOST_CLAUSES {
         let Some(c) = p.child_at(at.node, clause + 1) else {
-            return Ok(give(Value::Undefined));
+            return give(Value::Undefined);
         };
         if is_default(p.form(c)) {
             return clauses(p, at, clause);
@@ -125,12 +131,13 @@ fn default_clause(p: &Source, at: &Part) -> Result<Next, NoMemory>
 /// The statements of the clauses from this place on.
 #[tactic(auto, using(crate::proofs::Children::children_some, crate::proofs::Children::children_none))]
 fn clauses(p: &Source, at: &Part, from: u32) -> Result<Next, NoMemory>
-    ensures { IfOk result (λ next. (values : List Value) (w : World) → as_row (table p.now) next values w ≡ entered_at p.now at.now (clauses_from p.now at.now from) w) }
+    ensures row { IfOk result (λ next. (values : List Value) (w : World) → as_row (table p.now) next values w ≡ entered_at p.now at.now (clauses_from p.now at.now from) w) }
+    ensures nests { IfOk result (Nests at.now.room) }
 {
     let mut clause = from;
     while clause < MOST_CLAUSES {
         let Some(c) = p.child_at(at.node, clause + 1) else {
-            return Ok(give(Value::Undefined));
+            return give(Value::Undefined);
         };
         let place = first_statement(p, c);
         if let Some(s) = p.child_at(c, place) {
@@ -152,9 +159,10 @@ pub(crate) fn after_clause_statement(
     at: &Part,
     clause: u32,
     place: u32,
-    c: Completion,
+    c: &Completion,
 ) -> Result<Next, NoMemory>
-    ensures { IfOk result (λ next. (values : List Value) (w : World) → as_row (table p.now) next values w ≡ rest_by p.now (Frame.ClauseStatement at.now clause place) [] c w) }
+    ensures row { IfOk result (λ next. (values : List Value) (w : World) → as_row (table p.now) next values w ≡ rest_by p.now (Frame.ClauseStatement at.now clause place) [] c.now w) }
+    ensures nests { IfOk result (Nests at.now.room) }
 {
     if clause >= MOST_CLAUSES || place == u32::MAX {
         return Err(NoMemory);
@@ -174,6 +182,6 @@ pub(crate) fn after_clause_statement(
                 None => clauses(p, at, clause + 1),
             }
         },
-        _ => Ok(Next::End(ended(Ending::Switch, c))),
+        _ => end(&ended(Ending::Switch, *c)),
     }
 }

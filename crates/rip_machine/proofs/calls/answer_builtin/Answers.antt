@@ -16,3 +16,9 @@ returns-in-HostItself-clause-row g c =
     let e = ap (λ who. answered_by c.args.p.now c.args.at.now who c.args.b c.args.this.now c.args.args.now c.args.heap.now) (sym a) in
     let P : Row → Type 0 = λ row. IfOk c.call_host.result (λ next. (values : List Value) → ◌≡◌ {A = Row × g.row.H.Denot} (as_row (table c.args.p.now) next values c.call_host.new.heap, c.call_host.new.host) (settle h row c.args.host.now)) in
     subst P e c.call_host.ensures.row
+
+pub returns-in-BuiltinTable-clause-nests : goal.returns-in-BuiltinTable-clause-nests
+returns-in-BuiltinTable-clause-nests g c = c.call_table.ensures.nests c.args.at.now.room
+
+pub returns-in-HostItself-clause-nests : goal.returns-in-HostItself-clause-nests
+returns-in-HostItself-clause-nests g c = c.call_host.ensures.nests c.args.at.now.room

@@ -8,6 +8,6 @@ pub returns-in-Some : goal.returns-in-Some
 returns-in-Some c =
     let d : c.deref.result.now ≡ c.self.inside.values.items = search rules in
     let n : c.len.result ≡ length c.deref.result.now = search rules in
-    let l = frames-last c.args.self.now c.self.inside.entries.items (take (length c.self.inside.entries.items - 1) c.self.inside.entries.items) c.in-Some.entry c.self.inside.values.items (ap (λ (m : Frames). m.frames) c.self.view_is) c.in-Some.ensures c.self.invariant.beside in
-    take_all _ _ (omega (arith, length-drop (c.len.result - c.in-Some.entry.values) c.deref.result.now))
-    ∙ ap (λ k. drop (k - c.in-Some.entry.values) c.deref.result.now) n ∙ ap (λ xs. drop (length xs - c.in-Some.entry.values) xs) d ∙ l.2
+    let l = frames-last c.args.self.now c.self.inside.entries.items (take (length c.self.inside.entries.items - 1) c.self.inside.entries.items) c.in-Some.entry.now c.self.inside.values.items (ap (λ (m : Frames). m.frames) c.self.view_is) c.in-Some.ensures c.self.invariant.beside in
+    take_all _ _ (omega (arith, length-drop (c.len.result - c.in-Some.entry.now.values) c.deref.result.now))
+    ∙ ap (λ k. drop (k - c.in-Some.entry.now.values) c.deref.result.now) n ∙ ap (λ xs. drop (length xs - c.in-Some.entry.now.values) xs) d ∙ l.2
