@@ -1,5 +1,5 @@
 -- What is done next keeps a run inside the frames that have room.
-use Rattle.std.proofs.Common.{◌≡◌, ℕ, zero, suc, ◌+◌, ◌-◌, ◌<◌, ◌≤◌, List, [], ◌∷◌, ◌++◌, length, arith, append-nil}
+use Rattle.std.proofs.Common.{◌≡◌, ℕ, zero, suc, ◌-◌, ◌≤◌, List, [], ◌∷◌, ◌++◌, length, arith, append-nil}
 use Rattle.std.proofs.lemmas.List.{length_push}
 use Rattle.rip_values.specs.declared.value.Value.{Value}
 use Rattle.rip_values.specs.declared.value.Limit.TheVariants.{Depth}
@@ -7,13 +7,12 @@ use Rattle.rip_heap.specs.World.{World}
 use Rattle.rip_frames.specs.declared.completion.Stop.{Stop}
 use Rattle.rip_frames.specs.declared.completion.Stop.TheVariants.{Limit as AtLimit}
 use Rattle.rip_frames.specs.declared.next.Control.{Control}
-use Rattle.rip_frames.specs.declared.next.Control.TheVariants.{Enter, Give, Halted}
 use Rattle.rip_frames.specs.declared.next.Next.{Next}
 use Rattle.rip_frames.specs.declared.next.Next.TheVariants.{End, Halt, Ask, Keep, Turn}
 use Rattle.rip_frames.specs.declared.part.Part.{Part}
 use Rattle.rip_frames.specs.Frame.{part_of}
 use Rattle.rip_frames.specs.Rest.{as_row, control_of, frame_of}
-use Rattle.rip_frames.specs.Row.{Row, Halts, Table, entered}
+use Rattle.rip_frames.specs.Row.{Halts, Table, entered}
 use Rattle.rip_frames.specs.Stack.{Frames, Open, framed}
 use Rattle.rip_machine.specs.Nesting.{AreNested, IsInside, Nests}
 
