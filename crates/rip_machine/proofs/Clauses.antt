@@ -1,5 +1,5 @@
 -- The clauses of a `switch`: the first statement from a clause on.
-use Rattle.std.proofs.Common.{◌≡◌, ℕ, ◌+◌, List, ◌∷◌, ◌++◌, Some, ap, sym, ◌∙◌, if◌then◌else◌}
+use Rattle.std.proofs.Common.{◌≡◌, ℕ, ◌+◌, ◌∷◌, ◌++◌, Some, ap, sym, ◌∙◌, if◌then◌else◌}
 use Rattle.std.specs.Prelude.{unwrap_or}
 use Rattle.rip_heap.specs.World.{World}
 use Rattle.rip_frames.specs.declared.frame.Ending.TheVariants as ending

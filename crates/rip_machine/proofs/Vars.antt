@@ -1,5 +1,5 @@
 -- The names of `var`, one level after another.
-use Rattle.std.proofs.Common.{◌≡◌, ℕ, suc, ◌-◌, ◌<◌, refl, ap, sym, ◌∙◌, arith}
+use Rattle.std.proofs.Common.{◌≡◌, ℕ, suc, ◌-◌, ◌<◌, refl, ap, ◌∙◌, arith}
 use Rattle.rip_heap.specs.World.{World}
 use Rattle.rip_machine.specs.Reading.{Loaded, form_of}
 use Rattle.rip_machine.specs.Rows.Scripts.{var_place, with_vars, with_vars_by}

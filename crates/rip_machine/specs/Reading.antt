@@ -13,12 +13,10 @@ use Rattle.rip_values.specs.declared.value.Span.{Span}
 use Rattle.rip_tree.specs.declared.form.Form.{Form}
 use Rattle.rip_tree.specs.declared.form.Form.TheVariants as form
 use Rattle.rip_tree.specs.declared.node.Node.{Node}
-use Rattle.rip_tree.specs.declared.program.Resolved.{Resolved}
 use Rattle.rip_tree.specs.declared.program.Scoping.{Scoping}
 use Rattle.rip_tree.specs.Branches.{child_of, links_of, node_of}
 use Rattle.rip_tree.specs.Program.{Code, scoping_of}
 use Rattle.rip_frames.specs.declared.part.Part.{Part}
-use Rattle.rip_frames.specs.declared.part.Role.{Role}
 use Rattle.rip_frames.specs.declared.part.Role.TheVariants.{Value, Target}
 
 -- a program whose literals are loaded: of each node the span of the text that it is

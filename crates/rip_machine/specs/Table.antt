@@ -1,18 +1,16 @@
 -- The meaning of a program: one row for each form of node, and for each open frame what remains of its row.
-use Rattle.std.specs.Prelude.{ℕ, ◌+◌, List, [], ◌∷◌}
-use Rattle.rip_values.specs.declared.value.Fault.TheVariants.{NotInProfile}
+use Rattle.std.specs.Prelude.{List}
 use Rattle.rip_values.specs.declared.value.Value.{Value}
 use Rattle.rip_values.specs.declared.value.Value.TheVariants.{Null, Bool as Boolean, Num, Text}
 use Rattle.rip_heap.specs.World.{World}
 use Rattle.rip_tree.specs.declared.form.Form.{Form}
 use Rattle.rip_tree.specs.declared.form.Form.TheVariants as form
 use Rattle.rip_frames.specs.declared.completion.Completion.{Completion}
-use Rattle.rip_frames.specs.declared.completion.Completion.TheVariants.{Normal, Broken, Continued}
-use Rattle.rip_frames.specs.declared.completion.Stop.TheVariants.{Fault as AtFault}
+use Rattle.rip_frames.specs.declared.completion.Completion.TheVariants.{Broken, Continued}
 use Rattle.rip_frames.specs.declared.frame.Frame.{Frame}
 use Rattle.rip_frames.specs.declared.frame.Frame.TheVariants as frame
 use Rattle.rip_frames.specs.declared.part.Part.{Part}
-use Rattle.rip_frames.specs.Row.{Row, Ends, Halts, Table, after_first}
+use Rattle.rip_frames.specs.Row.{Row, Ends, Table, after_first}
 use Rattle.rip_frames.specs.Stack.{Open}
 use Rattle.rip_machine.specs.Reading.{Loaded, form_of, literal}
 use Rattle.rip_machine.specs.Rows.Expressions.{gives, name_row, binary_row, right_end, logical_row, conditional_row, comma_row, unary_row, assign_row, assign_value, compound_row, compound_value, step_row}

@@ -1,25 +1,21 @@
 -- Worked scripts, whose counts were found by hand from the table of charges. The meaning gives them.
-use Rattle.std.specs.Prelude.{◌≡◌, ℕ, zero, suc, pos, true, false, List, [], ◌∷◌, Option, None, Some, replicate, option_map}
+use Rattle.std.specs.Prelude.{ℕ, suc, pos, true, false, List, [], ◌∷◌, Option, None, Some, replicate, option_map}
 use Rattle.rip_values.specs.declared.operator.BinaryOperator.TheVariants.{Less}
 use Rattle.rip_values.specs.declared.operator.StepOperator.TheVariants.{Increment}
 use Rattle.rip_values.specs.declared.value.Fault.TheVariants.{NotInProfile}
-use Rattle.rip_values.specs.declared.value.Limit.TheVariants.{Cells, Fuel}
 use Rattle.rip_values.specs.declared.value.Value.{Value}
-use Rattle.rip_values.specs.declared.value.Value.TheVariants.{Undefined, Num}
+use Rattle.rip_values.specs.declared.value.Value.TheVariants.{Undefined}
 use Rattle.rip_heap.specs.declared.host.HostDone.TheVariants as host
 use Rattle.rip_heap.specs.Scopes.{binding}
 use Rattle.rip_heap.specs.World.{World}
 use Rattle.rip_tree.specs.declared.form.Form.{Form}
 use Rattle.rip_tree.specs.declared.form.Form.TheVariants as form
-use Rattle.rip_tree.specs.declared.form.FunctionHead.{FunctionHead}
-use Rattle.rip_tree.specs.declared.form.TextLiteral.{TextLiteral}
 use Rattle.rip_tree.specs.declared.node.Piece.{Piece}
 use Rattle.rip_tree.specs.declared.program.Resolved.TheVariants.{Binding}
 use Rattle.rip_tree.specs.declared.program.Scoping.{Scoping}
 use Rattle.rip_tree.specs.Branches.{Branch}
 use Rattle.rip_frames.specs.declared.completion.Completion.TheVariants.{Normal}
 use Rattle.rip_frames.specs.declared.completion.Stop.{Stop}
-use Rattle.rip_frames.specs.declared.completion.Stop.TheVariants.{Limit as AtLimit}
 use Rattle.rip_frames.specs.Cut.{run_of}
 use Rattle.rip_frames.specs.Run.{Answer, Completes, Stops, Cuts, Calling}
 use Rattle.rip_machine.specs.Reading.{Loaded}

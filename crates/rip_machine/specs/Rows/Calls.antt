@@ -1,7 +1,6 @@
 -- Calls (ECMA-262 11.2.3, 13.2.1).
 use Rattle.std.specs.Prelude.{ℕ, ◌+◌, ◌-◌, ◌==◌, if◌then◌else◌, List, [], ◌∷◌, ◌++◌, drop, length, Option, None, Some, slice_index_or}
 use Rattle.rip_values.specs.declared.builtin.Builtin.{Builtin}
-use Rattle.rip_values.specs.declared.builtin.Builtin.TheVariants.{FunctionCall}
 use Rattle.rip_values.specs.declared.builtin.BuiltinHome.{BuiltinHome}
 use Rattle.rip_values.specs.declared.builtin.BuiltinHome.TheVariants as home
 use Rattle.rip_values.specs.declared.value.Fault.TheVariants.{NotInProfile}

@@ -1,26 +1,20 @@
 -- Functions: how they are made, called and entered (ECMA-262 10.4.3, 10.5, 11.2.3, 13).
-use Rattle.std.specs.Prelude.{ℕ, zero, suc, ◌+◌, ◌*◌, ◌-◌, ◌==◌, Bool, true, false, is_some, nat_le, if◌then◌else◌, List, [], ◌∷◌, ◌++◌, length, count_by, Option, None, Some, option_and_then, option_map, slice_index_or}
-use Rattle.rip_values.specs.declared.value.Limit.TheVariants.{Cells, Depth}
+use Rattle.std.specs.Prelude.{ℕ, zero, suc, ◌+◌, ◌*◌, Bool, true, false, is_some, nat_le, if◌then◌else◌, List, [], ◌∷◌, length, Option, None, Some, option_and_then, option_map, slice_index_or}
+use Rattle.rip_values.specs.declared.value.Limit.TheVariants.{Cells}
 use Rattle.rip_values.specs.declared.value.Value.{Value}
-use Rattle.rip_values.specs.declared.value.Value.TheVariants.{Undefined, Null, Bool as Boolean, Num, NaN, Text, Object}
-use Rattle.rip_heap.specs.declared.class.Class.TheVariants.{ThrownTypeError}
+use Rattle.rip_values.specs.declared.value.Value.TheVariants.{Undefined, Object}
 use Rattle.rip_heap.specs.Objects.{new_function}
 use Rattle.rip_heap.specs.Scopes.{new_scope, with_binding}
-use Rattle.rip_heap.specs.World.{World, charging, code_of, cost_of_function, cost_of_scope, object_at}
+use Rattle.rip_heap.specs.World.{World, charging, cost_of_function, cost_of_scope}
 use Rattle.rip_tree.specs.declared.form.Form.{Form}
 use Rattle.rip_tree.specs.declared.form.Form.TheVariants as form
-use Rattle.rip_tree.specs.declared.form.FunctionHead.{FunctionHead}
-use Rattle.rip_tree.specs.declared.node.Piece.{Piece}
-use Rattle.rip_frames.specs.declared.completion.Completion.{Completion}
 use Rattle.rip_frames.specs.declared.completion.Stop.TheVariants.{Limit as AtLimit}
-use Rattle.rip_frames.specs.declared.frame.Ending.TheVariants as ending
 use Rattle.rip_frames.specs.declared.part.Part.{Part}
-use Rattle.rip_frames.specs.declared.part.Role.TheVariants as role
-use Rattle.rip_frames.specs.Row.{Row, Ends, Halts, value_of, with_value}
-use Rattle.rip_machine.specs.Reading.{Loaded, child, children_from, form_of, part, part_at, scoping}
+use Rattle.rip_frames.specs.Row.{Row, Halts}
+use Rattle.rip_machine.specs.Reading.{Loaded, child, children_from, form_of, scoping}
 use Rattle.rip_machine.specs.Rows.Expressions.{gives}
-use Rattle.rip_machine.specs.Rows.Names.{bound, throws}
-use Rattle.rip_machine.specs.Rows.Statements.{is_declaration, statements}
+use Rattle.rip_machine.specs.Rows.Names.{bound}
+use Rattle.rip_machine.specs.Rows.Statements.{is_declaration}
 
 -- FUNCTION EXPRESSIONS (13)
 

@@ -1,5 +1,5 @@
 -- How a script begins (ECMA-262 10.4.1, 10.5, 14).
-use Rattle.std.specs.Prelude.{ℕ, zero, suc, ◌+◌, ◌*◌, Bool, false, nat_le, nat_lt, if◌then◌else◌, List, [], ◌∷◌, length, fold, Option, None, Some, option_map}
+use Rattle.std.specs.Prelude.{ℕ, zero, suc, ◌+◌, ◌*◌, Bool, false, nat_le, nat_lt, if◌then◌else◌, List, length, fold, Option, None, Some, option_map}
 use Rattle.rip_values.specs.declared.value.Value.{Value}
 use Rattle.rip_values.specs.declared.value.Value.TheVariants.{Undefined}
 use Rattle.rip_heap.specs.World.{World, cost_of_function}

@@ -1,5 +1,5 @@
 -- The rows of statements (ECMA-262 12), and of lists of statements (12.1, 13.2.1, 14).
-use Rattle.std.specs.Prelude.{ℕ, ◌+◌, ◌-◌, Bool, true, false, if◌then◌else◌, List, [], ◌∷◌, Option, None, Some}
+use Rattle.std.specs.Prelude.{ℕ, ◌+◌, Bool, true, false, if◌then◌else◌, List, [], ◌∷◌, Option, None, Some}
 use Rattle.rip_values.specs.declared.value.Value.{Value}
 use Rattle.rip_values.specs.declared.value.Value.TheVariants.{Undefined, Object}
 use Rattle.rip_heap.specs.Conversions.{boolean_of}
@@ -10,7 +10,6 @@ use Rattle.rip_frames.specs.declared.completion.Completion.{Completion}
 use Rattle.rip_frames.specs.declared.completion.Completion.TheVariants.{Normal, Thrown, Returned, Broken, Continued, Referred, Method}
 use Rattle.rip_frames.specs.declared.frame.Ending.{Ending}
 use Rattle.rip_frames.specs.declared.frame.Ending.TheVariants as ending
-use Rattle.rip_frames.specs.declared.frame.Frame.{Frame}
 use Rattle.rip_frames.specs.declared.frame.Frame.TheVariants as frame
 use Rattle.rip_frames.specs.declared.part.Part.{Part}
 use Rattle.rip_frames.specs.Row.{Row, Ends, Asks, Again, value_of, with_value}
