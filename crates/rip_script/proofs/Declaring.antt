@@ -1,14 +1,11 @@
 -- How the names of the top scope are found, one node after another.
-use Rattle.std.proofs.Common.{◌≡◌, ℕ, zero, suc, ◌+◌, ◌-◌, ◌<◌, ◌≤◌, Bool, true, false, List, [], ◌∷◌, ◌++◌, length, take, Option, Some, None, refl, sym, ◌∙◌, ap, arith, if◌then◌else◌, append_assoc, append-nil}
+use Rattle.std.proofs.Common.{◌≡◌, ℕ, zero, suc, ◌-◌, ◌<◌, ◌≤◌, Bool, true, false, List, [], ◌∷◌, ◌++◌, length, None, refl, sym, ◌∙◌, ap, arith, if◌then◌else◌, append_assoc, append-nil}
 use Rattle.std.specs.Prelude.{Result, Ok, Err, OnOk, option_to_list}
 use Rattle.rip_values.specs.declared.memory.NoMemory.{NoMemory}
-use Rattle.std.specs.List.{flat_map}
-use Rattle.std.proofs.lemmas.Grind.{flat_map-append}
 use Rattle.rip_tree.specs.Branches.{Branch, Plant, links_of, node_of}
 use Rattle.rip_tree.specs.Program.{Code, scoping_of}
-use Rattle.rip_tree.specs.declared.node.Node.{Node}
-use Rattle.rip_early.specs.Around.{form_of, form_or_empty, is_function}
-use Rattle.rip_script.specs.TopNames.{clauses_within, declarations, declarations_below, declared_at, declared_below}
+use Rattle.rip_early.specs.Around.{form_of, is_function}
+use Rattle.rip_script.specs.TopNames.{clauses_within, declarations, declarations_below, declared_at}
 use Rattle.rip_script.specs.declared.names.Declared.{Declared}
 
 -- NODES

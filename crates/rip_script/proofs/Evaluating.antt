@@ -1,6 +1,6 @@
 -- How a run within limits ends.
-use Rattle.std.proofs.Common.{◌≡◌, ℕ, ◌≤◌, Bool, true, false, refl, inl, inr, subst}
-use Rattle.std.specs.Prelude.{nat_le, Result, Ok}
+use Rattle.std.proofs.Common.{◌≡◌, ℕ, ◌≤◌, Bool, true, false, inr, subst}
+use Rattle.std.specs.Prelude.{Result, Ok}
 use Rattle.rip_values.specs.declared.value.Refused.{Refused}
 use Rattle.std.proofs.lemmas.Bool.{le-leb}
 use Rattle.rip_heap.specs.World.{World}
@@ -10,7 +10,6 @@ use Rattle.rip_frames.specs.Run.{Answer, Completes, Stops, Cuts, Calling}
 use Rattle.rip_machine.specs.Law.{Resumes, Standing}
 use Rattle.rip_machine.specs.declared.outcome.Turned.{Turned}
 use Rattle.rip_machine.specs.declared.outcome.Turned.TheVariants.{More, Done}
-use Rattle.rip_heap.specs.declared.host.EmptyHost.{EmptyHost}
 use Rattle.rip_machine.specs.Law.{loaded}
 use Rattle.rip_machine.specs.Table.{table}
 use Rattle.rip_machine.specs.declared.outcome.Outcome.{Outcome}

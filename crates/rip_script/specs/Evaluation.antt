@@ -1,5 +1,5 @@
 -- What a run of a script comes to, in the terms of the evaluator.
-use Rattle.std.specs.Prelude.{◌≡◌, ◌⊎◌, ℕ, [], Option, None, Some, Ok, Err}
+use Rattle.std.specs.Prelude.{◌≡◌, ◌⊎◌, ℕ, [], None, Some, Ok, Err}
 use Rattle.rip_values.specs.declared.value.Limit.{Limit}
 use Rattle.rip_values.specs.declared.value.Limit.TheVariants.{Cells}
 use Rattle.rip_values.specs.declared.value.Refused.TheVariants.{Limit as At}

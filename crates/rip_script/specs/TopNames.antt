@@ -1,5 +1,5 @@
 -- The names of the top scope of a script, by the places of its bindings.
-use Rattle.std.specs.Prelude.{ℕ, zero, suc, ◌+◌, ◌==◌, if◌then◌else◌, List, [], ◌∷◌, ◌++◌, length, replicate, fold, slice_get, slice_set, Option, Some, None, option_and_then, option_to_list}
+use Rattle.std.specs.Prelude.{ℕ, zero, suc, ◌+◌, ◌==◌, if◌then◌else◌, List, [], ◌++◌, length, replicate, fold, slice_get, slice_set, Option, Some, None, option_and_then, option_to_list}
 use Rattle.std.specs.List.{flat_map}
 use Rattle.rip_tree.specs.Branches.{Plant, links_of}
 use Rattle.rip_tree.specs.Program.{Code, scoping_of}

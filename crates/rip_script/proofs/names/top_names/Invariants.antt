@@ -1,4 +1,4 @@
-use Rattle.std.proofs.Common.{◌≡◌, take, Option, None}
+use Rattle.std.proofs.Common.{◌≡◌, take, None}
 use Rattle.std.specs.Prelude.{fold, replicate}
 use Rattle.rip_script.specs.TopNames.{with_declared}
 use Rattle.rip_script.proofs.names.top_names.Given as goal

@@ -1,4 +1,4 @@
-use Rattle.std.proofs.Common.{◌≡◌, ◌∙◌, ◌++◌, ◌<◌, ◌∷◌, [], refl, ap, length, arith, rules}
+use Rattle.std.proofs.Common.{◌∙◌, ◌++◌, ◌<◌, ◌∷◌, [], refl, ap, length, arith}
 use Rattle.std.specs.Prelude.{codes}
 use Rattle.rip_heap.specs.Scopes.{binding, bindings_of}
 use Rattle.rip_heap.specs.World.{scope_at}
