@@ -27,6 +27,8 @@ mod read;
 mod refusal;
 mod report;
 mod status;
+#[cfg(test)]
+mod tests;
 mod top;
 mod words;
 
