@@ -9,17 +9,17 @@ use Rattle.rip_frames.specs.Row.{Row, Ends, Halts, Asks, Again, AsksHost, Table}
 use Rattle.rip_frames.specs.Run.{Answer, Calling, run_by, run_to, run}
 use Rattle.rip_frames.specs.Settle.{settle}
 
-by-settles : {S : Type 0} (h : Calling S) (go : Row → ℕ → S → Answer S) (t : Table) (row : Row) (u : ℕ) (s : S)
-    → run_by h go t (settle h row s).0 u (settle h row s).1 ≡ run_by h go t row u s
-by-settles h go t (Ends c w) u s = refl
-by-settles h go t (Halts stop w) u s = refl
-by-settles h go t (Asks part w k) u s = refl
-by-settles h go t (Again part w o) u s = refl
-by-settles h go t (AsksHost request w k) u s = by-settles h go t (k (h s w request).0 (h s w request).1) u (h s w request).2
+by-settles : {S : Type 0} (h : Calling S) (go : ℕ → Row → ℕ → S → Answer S) (t : Table) (room : ℕ) (row : Row) (u : ℕ) (s : S)
+    → run_by h go t room (settle h row s).0 u (settle h row s).1 ≡ run_by h go t room row u s
+by-settles h go t room (Ends c w) u s = refl
+by-settles h go t room (Halts stop w) u s = refl
+by-settles h go t room (Asks part w k) u s = refl
+by-settles h go t room (Again part w o) u s = refl
+by-settles h go t room (AsksHost request w k) u s = by-settles h go t room (k (h s w request).0 (h s w request).1) u (h s w request).2
 
-pub run-settles : {S : Type 0} (h : Calling S) (t : Table) (row : Row) (u : ℕ) (s : S) → run h t (settle h row s).0 u (settle h row s).1 ≡ run h t row u s
+pub run-settles : {S : Type 0} (h : Calling S) (t : Table) (room : ℕ) (row : Row) (u : ℕ) (s : S) → run h t room (settle h row s).0 u (settle h row s).1 ≡ run h t room row u s
 unfolding run_to
-run-settles h t row u s = by-settles h (run_to h t u) t row u s
+run-settles h t room row u s = by-settles h (run_to h t u) t room row u s
 
 -- what a part does next asks the host for nothing more
 pub settled : {S : Type 0} (h : Calling S) (t : Table) (next : Next) (values : List Value) (w : World) (s : S) → settle h (as_row t next values w) s ≡ (as_row t next values w, s)

@@ -13,16 +13,16 @@ use Rattle.rip_frames.specs.Stack.{Open}
 abbrev pub conclude : {S : Type 0} → Bool → Answer S → Answer S
 conclude false answer = answer
 conclude true (Completes c u w s) = Completes c u w s
-conclude true (Stops stop u w s) = Stops stop u w s
-conclude true (Cuts w s) = Stops (AtLimit Fuel) 0 w s
+conclude true (Stops stop room u w s) = Stops stop room u w s
+conclude true (Cuts room w s) = Stops (AtLimit Fuel) room 0 w s
 
 -- the answer for k units where so much fuel is there: more units count as the fuel
 abbrev pub capped : {S : Type 0} → ℕ → (ℕ → Answer S) → ℕ → Answer S
 capped fuel answer k = conclude (nat_le fuel k) (answer (min fuel k))
 
--- a run of this row with so much fuel, after k units
-abbrev pub run_of : {S : Type 0} → Calling S → Table → Row → S → ℕ → ℕ → Answer S
-run_of h t row s fuel k = capped fuel (λ u. run h t row u s) k
+-- a run of this row with so much depth and fuel, after k units
+abbrev pub run_of : {S : Type 0} → Calling S → Table → ℕ → Row → S → ℕ → ℕ → Answer S
+run_of h t room row s fuel k = capped fuel (λ u. run h t room row u s) k
 
 -- the same of a run that stands, with so much fuel left
 abbrev pub rest_of : {S : Type 0} → Calling S → Table → Control → List Open → World → S → ℕ → ℕ → Answer S

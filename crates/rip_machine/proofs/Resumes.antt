@@ -1,7 +1,8 @@
 -- From the steps of a call to what `resume` promises.
-use Rattle.std.proofs.Common.{◌≡◌, ℕ, ◌+◌, ◌-◌, ◌<◌, ◌≤◌, min, Bool, true, false, nat_lt, nat_le, List, [], refl, ap, sym, ◌∙◌, inl, inr, arith}
+use Rattle.std.proofs.Common.{◌≡◌, ℕ, ◌+◌, ◌-◌, ◌<◌, ◌≤◌, min, Bool, true, false, nat_lt, nat_le, List, [], Some, refl, ap, sym, ◌∙◌, inl, inr, arith}
 use Rattle.std.proofs.lemmas.Bool.{ltb-true, ltb-false, le-leb, leb-false, leb-true}
 use Rattle.rip_values.specs.declared.value.Limit.TheVariants.{Fuel}
+use Rattle.rip_values.specs.declared.value.Value.TheVariants.{Undefined}
 use Rattle.rip_heap.specs.World.{World}
 use Rattle.rip_frames.specs.declared.completion.Completion.{Completion}
 use Rattle.rip_frames.specs.declared.completion.Completion.TheVariants.{Normal, Thrown, Returned, Broken, Continued, Referred, Method}
@@ -13,18 +14,26 @@ use Rattle.rip_frames.specs.declared.part.Part.{Part}
 use Rattle.rip_frames.specs.Cut.{capped, conclude, run_of}
 use Rattle.rip_frames.specs.Rest.{control_of, rest, unwind}
 use Rattle.rip_frames.specs.Row.{Row, Table}
-use Rattle.rip_frames.specs.Run.{Completes, Stops, Cuts, Calling, run}
+use Rattle.rip_frames.specs.Run.{Answer, Completes, Stops, Cuts, Calling, run}
 use Rattle.rip_frames.specs.Stack.{Open}
 use Rattle.rip_frames.proofs.Laws.{rest-next, rest-gives, unwind-stops, unwind-cuts}
-use Rattle.rip_machine.specs.Law.{Begins, Standing, Stands, StandsAt, Resumes, end_of, left, turned_of}
+use Rattle.rip_machine.specs.Law.{Begins, Ends, Standing, Stands, StandsAt, Resumes, end_of, left, open_depth, turned_of}
+use Rattle.rip_machine.specs.declared.outcome.Outcome.{Outcome}
+use Rattle.rip_machine.specs.declared.outcome.Outcome.TheVariants.{Value as Gives, Thrown as ThrownValue, Fault, Limit}
+
+-- so much depth is left where a run goes on with this
+abbrev IsLeft : ℕ → Control → Type 0
+IsLeft room (Enter part) = part.room ≡ room
+IsLeft room (Give c) = ⊥
+IsLeft room (Halted stop there) = there ≡ room
 
 conclude_completes : {S : Type 0} (b : Bool) (c : Completion) (u : ℕ) (w : World) (s : S) → conclude b (Completes c u w s) ≡ Completes c u w s
 conclude_completes true c u w s = refl
 conclude_completes false c u w s = refl
 
-conclude_stops : {S : Type 0} (b : Bool) (stop : Stop) (u : ℕ) (w : World) (s : S) → conclude b (Stops stop u w s) ≡ Stops stop u w s
-conclude_stops true stop u w s = refl
-conclude_stops false stop u w s = refl
+conclude_stops : {S : Type 0} (b : Bool) (stop : Stop) (room u : ℕ) (w : World) (s : S) → conclude b (Stops stop room u w s) ≡ Stops stop room u w s
+conclude_stops true stop room u w s = refl
+conclude_stops false stop room u w s = refl
 
 not_leb : (a b : ℕ) (t : Bool) → nat_le a b ≡ t → b < a → nat_le a b ≡ false
 not_leb a b true e h = absurd (let g = leb-true a b e in omega arith)
@@ -39,29 +48,34 @@ rest_of_give : {S : Type 0} (h : Calling S) (t : Table) (c : Completion) (frames
 unfolding rest unwind
 rest_of_give h t c frames u w s e = ap (λ fs. rest h t (Give c) fs u w s) e
 
-rest_of_halt : {S : Type 0} (h : Calling S) (t : Table) (stop : Stop) (room : ℕ) (frames : List Open) (u : ℕ) (w : World) (s : S) → rest h t (Halted stop room) frames u w s ≡ Stops stop u w s
+rest_of_halt : {S : Type 0} (h : Calling S) (t : Table) (stop : Stop) (room : ℕ) (frames : List Open) (u : ℕ) (w : World) (s : S) → rest h t (Halted stop room) frames u w s ≡ Stops stop room u w s
 unfolding rest
-rest_of_halt h t stop room frames u w s = unwind-stops h t frames stop u w s
+rest_of_halt h t stop room frames u w s = unwind-stops h t frames stop room u w s
 
-rest_of_cut : {S : Type 0} (h : Calling S) (t : Table) (part : Part) (frames : List Open) (w : World) (s : S) → rest h t (Enter part) frames 0 w s ≡ Cuts w s
+rest_of_cut : {S : Type 0} (h : Calling S) (t : Table) (part : Part) (frames : List Open) (w : World) (s : S) → rest h t (Enter part) frames 0 w s ≡ Cuts part.room w s
 unfolding rest
-rest_of_cut h t part frames w s = unwind-cuts h t frames w s
+rest_of_cut h t part frames w s = unwind-cuts h t frames part.room w s
+
+-- a run that is at its end
+ended : {S : Type 0} (h : Calling S) (t : Table) (m n : Standing) (w x : World) (s r : S) (k u : ℕ) (answer : Answer S) (outcome : Outcome) (there : ℕ)
+    → left h t m w s k ≡ answer → end_of m.depth answer ≡ Some (outcome, there, u, x, r) → open_depth n ≡ there → n.spent + u ≡ m.spent + min k m.fuel → Ends h t m w s k n x r outcome
+ended h t m n w x s r k u answer outcome there e f d p = (u, ap (end_of m.depth) e ∙ f ∙ ap (λ o. Some (outcome, o, u, x, r)) (sym d), p)
 
 -- a run that has completed
 ends_give : {S : Type 0} (h : Calling S) (t : Table) (m n : Standing) (w x : World) (s r : S) (k u : ℕ) (c : Completion)
-    → left h t m w s k ≡ Completes c u x r → n.spent + u ≡ m.spent + min k m.fuel → Resumes h t m w s k n x r (turned_of (Give c) true)
-ends_give h t m n w x s r k u (Normal v) e p = (u, ap end_of e, p)
-ends_give h t m n w x s r k u (Thrown v) e p = (u, ap end_of e, p)
-ends_give h t m n w x s r k u (Returned v) e p = (u, ap end_of e, p)
-ends_give h t m n w x s r k u Broken e p = (u, ap end_of e, p)
-ends_give h t m n w x s r k u Continued e p = (u, ap end_of e, p)
-ends_give h t m n w x s r k u (Referred target) e p = (u, ap end_of e, p)
-ends_give h t m n w x s r k u (Method f this) e p = (u, ap end_of e, p)
+    → left h t m w s k ≡ Completes c u x r → open_depth n ≡ 0 → n.spent + u ≡ m.spent + min k m.fuel → Resumes h t m w s k n x r (turned_of (Give c) true)
+ends_give h t m n w x s r k u (Normal v) e d p = ended h t m n w x s r k u (Completes (Normal v) u x r) (Gives v) 0 e refl d p
+ends_give h t m n w x s r k u (Thrown v) e d p = ended h t m n w x s r k u (Completes (Thrown v) u x r) (ThrownValue v) 0 e refl d p
+ends_give h t m n w x s r k u (Returned v) e d p = ended h t m n w x s r k u (Completes (Returned v) u x r) (Gives v) 0 e refl d p
+ends_give h t m n w x s r k u Broken e d p = ended h t m n w x s r k u (Completes Broken u x r) (Gives Undefined) 0 e refl d p
+ends_give h t m n w x s r k u Continued e d p = ended h t m n w x s r k u (Completes Continued u x r) (Gives Undefined) 0 e refl d p
+ends_give h t m n w x s r k u (Referred target) e d p = ended h t m n w x s r k u (Completes (Referred target) u x r) (Gives Undefined) 0 e refl d p
+ends_give h t m n w x s r k u (Method f this) e d p = ended h t m n w x s r k u (Completes (Method f this) u x r) (Gives Undefined) 0 e refl d p
 
 ends_halt : {S : Type 0} (h : Calling S) (t : Table) (m n : Standing) (w x : World) (s r : S) (k u room : ℕ) (stop : Stop)
-    → left h t m w s k ≡ Stops stop u x r → n.spent + u ≡ m.spent + min k m.fuel → Resumes h t m w s k n x r (turned_of (Halted stop room) true)
-ends_halt h t m n w x s r k u room (AtFault fault) e p = (u, ap end_of e, p)
-ends_halt h t m n w x s r k u room (AtLimit limit) e p = (u, ap end_of e, p)
+    → left h t m w s k ≡ Stops stop room u x r → open_depth n ≡ m.depth - room → n.spent + u ≡ m.spent + min k m.fuel → Resumes h t m w s k n x r (turned_of (Halted stop room) true)
+ends_halt h t m n w x s r k u room (AtFault fault) e d p = ended h t m n w x s r k u (Stops (AtFault fault) room u x r) (Fault fault) (m.depth - room) e refl d p
+ends_halt h t m n w x s r k u room (AtLimit limit) e d p = ended h t m n w x s r k u (Stops (AtLimit limit) room u x r) (Limit limit) (m.depth - room) e refl d p
 
 -- what is left after a cut is what was left, later
 resumes_later : {S : Type 0} (h : Calling S) (t : Table) (m n : Standing) (w x : World) (s r : S) (k u j : ℕ) (c : Control)
@@ -75,44 +89,54 @@ resumes_later h t m n w x s r k u j c less none e control fuel =
     ∙ ap (λ b. conclude b (rest h t m.control m.frames (min k m.fuel + i) w s)) (same_leb n.fuel j m.fuel (k + j) (nat_le n.fuel j) refl (λ a. omega arith) (λ a. omega arith))
     ∙ ap (λ q. conclude (nat_le m.fuel (k + j)) (rest h t m.control m.frames q w s)) (omega arith)
 
+-- nothing is open where a run has completed
+none_open : (n : Standing) (c : Completion) → n.control ≡ Give c → n.frames ≡ [] → open_depth n ≡ 0
+none_open n c control frames = rw (control, frames) refl
+
+-- how much is open where the run goes on with this
+open_there : (m n : Standing) (c : Control) (room : ℕ) → IsLeft room c → n.control ≡ c → n.depth ≡ m.depth → open_depth n ≡ m.depth - room
+open_there m n (Enter part) room left control depth = rw (control, depth, left) refl
+open_there m n (Halted stop there) room left control depth = rw (control, depth, left) refl
+open_there m n (Give c) room left control depth = absurd left
+
 -- the law, from what the steps of a call leave
 pub resumes : {S : Type 0} (h : Calling S) (t : Table) (m n : Standing) (w x : World) (s r : S) (k u : ℕ) (c : Control) (more : Bool)
     → ((j : ℕ) → rest h t c n.frames (u + j) x r ≡ rest h t m.control m.frames (min k m.fuel + j) w s)
-    → Stands c n.frames u → u ≤ min k m.fuel → n.control ≡ c → n.fuel ≡ m.fuel - (min k m.fuel - u) → n.spent ≡ m.spent + (min k m.fuel - u) → nat_lt k m.fuel ≡ more
+    → Stands c n.frames u → u ≤ min k m.fuel → n.control ≡ c → n.fuel ≡ m.fuel - (min k m.fuel - u) → n.spent ≡ m.spent + (min k m.fuel - u) → n.depth ≡ m.depth → nat_lt k m.fuel ≡ more
     → Resumes h t m w s k n x r (turned_of c more)
-resumes h t m n w x s r k u (Give c) more e stands within control fuel spent lt =
+resumes h t m n w x s r k u (Give c) more e stands within control fuel spent depth lt =
     let a : rest h t m.control m.frames (min m.fuel k) w s ≡ Completes c u x r =
     ap (λ j. rest h t m.control m.frames j w s) (omega arith) ∙ sym (e 0) ∙ ap (λ j. rest h t (Give c) n.frames j x r) (omega arith) ∙ rest_of_give h t c n.frames u x r stands in
-    ends_give h t m n w x s r k u c (ap (conclude (nat_le m.fuel k)) a ∙ conclude_completes (nat_le m.fuel k) c u x r) (omega arith)
-resumes h t m n w x s r k u (Halted stop room) more e stands within control fuel spent lt =
-    let a : rest h t m.control m.frames (min m.fuel k) w s ≡ Stops stop u x r =
+    ends_give h t m n w x s r k u c (ap (conclude (nat_le m.fuel k)) a ∙ conclude_completes (nat_le m.fuel k) c u x r) (none_open n c control stands) (omega arith)
+resumes h t m n w x s r k u (Halted stop room) more e stands within control fuel spent depth lt =
+    let a : rest h t m.control m.frames (min m.fuel k) w s ≡ Stops stop room u x r =
     ap (λ j. rest h t m.control m.frames j w s) (omega arith) ∙ sym (e 0) ∙ ap (λ j. rest h t (Halted stop room) n.frames j x r) (omega arith) ∙ rest_of_halt h t stop room n.frames u x r in
-    ends_halt h t m n w x s r k u room stop (ap (conclude (nat_le m.fuel k)) a ∙ conclude_stops (nat_le m.fuel k) stop u x r) (omega arith)
-resumes h t m n w x s r k u (Enter part) false e stands within control fuel spent lt =
+    ends_halt h t m n w x s r k u room stop (ap (conclude (nat_le m.fuel k)) a ∙ conclude_stops (nat_le m.fuel k) stop room u x r) (open_there m n (Halted stop room) room refl control depth) (omega arith)
+resumes h t m n w x s r k u (Enter part) false e stands within control fuel spent depth lt =
     let le : m.fuel ≤ k = ltb-false k m.fuel lt in
-    let a : rest h t m.control m.frames (min m.fuel k) w s ≡ Cuts x r =
+    let a : rest h t m.control m.frames (min m.fuel k) w s ≡ Cuts part.room x r =
     ap (λ j. rest h t m.control m.frames j w s) (omega arith) ∙ sym (e 0) ∙ ap (λ j. rest h t (Enter part) n.frames j x r) (omega arith) ∙ rest_of_cut h t part n.frames x r in
-    let b : left h t m w s k ≡ Stops (AtLimit Fuel) 0 x r = ap (λ b. conclude b (rest h t m.control m.frames (min m.fuel k) w s)) (le-leb m.fuel k le) ∙ ap (conclude true) a in
-    (0, ap end_of b, omega arith)
-resumes h t m n w x s r k u (Enter part) true e stands within control fuel spent lt =
+    let b : left h t m w s k ≡ Stops (AtLimit Fuel) part.room 0 x r = ap (λ b. conclude b (rest h t m.control m.frames (min m.fuel k) w s)) (le-leb m.fuel k le) ∙ ap (conclude true) a in
+    ended h t m n w x s r k 0 (Stops (AtLimit Fuel) part.room 0 x r) (Limit Fuel) (m.depth - part.room) b refl (open_there m n (Enter part) part.room refl control depth) (omega arith)
+resumes h t m n w x s r k u (Enter part) true e stands within control fuel spent depth lt =
     let less : k < m.fuel = ltb-true k m.fuel lt in
-    let a : rest h t m.control m.frames (min m.fuel k) w s ≡ Cuts x r =
+    let a : rest h t m.control m.frames (min m.fuel k) w s ≡ Cuts part.room x r =
     ap (λ j. rest h t m.control m.frames j w s) (omega arith) ∙ sym (e 0) ∙ ap (λ j. rest h t (Enter part) n.frames j x r) (omega arith) ∙ rest_of_cut h t part n.frames x r in
-    let b : left h t m w s k ≡ Cuts x r = ap (λ b. conclude b (rest h t m.control m.frames (min m.fuel k) w s)) (not_leb m.fuel k (nat_le m.fuel k) refl less) ∙ a in
-    (b, λ j. resumes_later h t m n w x s r k u j (Enter part) less stands e control (omega arith), omega arith)
+    let b : left h t m w s k ≡ Cuts part.room x r = ap (λ b. conclude b (rest h t m.control m.frames (min m.fuel k) w s)) (not_leb m.fuel k (nat_le m.fuel k) refl less) ∙ a in
+    ((part.room, b, open_there m n (Enter part) part.room refl control depth), λ j. resumes_later h t m n w x s r k u j (Enter part) less stands e control (omega arith), omega arith)
 
 -- a run that stands at the beginning of a row runs that row
 stands_rest : {S : Type 0} (h : Calling S) (t : Table) (row : Row) (room u : ℕ) (w : World) (s : S) (control : Control) (frames : List Open)
-    → StandsAt t row room w control frames → rest h t control frames u w s ≡ run h t row u s
+    → StandsAt t row room w control frames → rest h t control frames u w s ≡ run h t room row u s
 unfolding unwind
-stands_rest h t row room u w s control frames (inl (next, is, c, f)) =
+stands_rest h t row room u w s control frames (inl (next, is, passes, c, f)) =
     ap (λ d. rest h t d frames u w s) c ∙ ap (λ fs. rest h t (control_of room next) fs u w s) f
-    ∙ sym (rest-next h t room next [] [] u w s) ∙ ap (λ r. run h t r u s) is
-stands_rest h t row room u w s control frames (inr (given, o, is, c, f)) =
+    ∙ sym (rest-next h t room next [] [] u w s passes) ∙ ap (λ r. run h t room r u s) is
+stands_rest h t row room u w s control frames (inr (given, o, is, there, c, f)) =
     ap (λ d. rest h t d frames u w s) c ∙ ap (λ fs. rest h t (Give given) fs u w s) f
-    ∙ rest-gives h t given [] o u w s ∙ ap (λ r. run h t r u s) is
+    ∙ rest-gives h t given [] o u w s ∙ ap (λ left. run h t left (t.rest o given w) u s) there ∙ ap (λ r. run h t room r u s) is
 
 -- what is left of a run that begins is the whole run
-pub begins_whole : {S : Type 0} (h : Calling S) (t : Table) (row : Row) (fuel : ℕ) (w : World) (s : S) (m : Standing) → Begins t row fuel w m → (k : ℕ) → left h t m w s k ≡ run_of h t row s fuel k
+pub begins_whole : {S : Type 0} (h : Calling S) (t : Table) (row : Row) (fuel : ℕ) (w : World) (s : S) (m : Standing) → Begins t row fuel w m → (k : ℕ) → left h t m w s k ≡ run_of h t m.depth row s fuel k
 begins_whole h t row fuel w s m b k =
-    ap (conclude (nat_le m.fuel k)) (stands_rest h t row m.depth (min m.fuel k) w s m.control m.frames b.0) ∙ ap (λ n. capped n (λ u. run h t row u s) k) b.1
+    ap (conclude (nat_le m.fuel k)) (stands_rest h t row m.depth (min m.fuel k) w s m.control m.frames b.0) ∙ ap (λ n. capped n (λ u. run h t m.depth row u s) k) b.1

@@ -1,5 +1,5 @@
 -- What one step leaves of a run.
-use Rattle.std.proofs.Common.{◌≡◌, ℕ, ◌+◌, ◌-◌, List, [], ◌∷◌, ◌++◌, Result, Ok, Err, IfOk, OnOk, refl, ap, sym, subst, ◌∙◌, add-one}
+use Rattle.std.proofs.Common.{◌≡◌, ℕ, ◌+◌, ◌-◌, List, [], ◌∷◌, ◌++◌, Result, Ok, Err, IfOk, OnOk, ap, sym, ◌∙◌, add-one}
 use Rattle.rip_values.specs.declared.value.Value.{Value}
 use Rattle.rip_heap.specs.World.{World}
 use Rattle.rip_frames.specs.declared.completion.Completion.{Completion}
@@ -8,15 +8,14 @@ use Rattle.rip_frames.specs.declared.next.Control.TheVariants.{Enter, Give}
 use Rattle.rip_frames.specs.declared.next.Next.{Next}
 use Rattle.rip_frames.specs.declared.next.Next.TheVariants.{End, Halt, Ask, Keep, Turn}
 use Rattle.rip_frames.specs.declared.part.Part.{Part}
-use Rattle.rip_frames.specs.Frame.{part_of}
-use Rattle.rip_frames.specs.Rest.{as_row, control_of, frame_of, rest, unwind}
+use Rattle.rip_frames.specs.Rest.{PassesDepth, as_row, control_of, frame_of, rest, room_in, unwind}
 use Rattle.rip_frames.specs.Row.{Row, Table, entered}
 use Rattle.rip_frames.specs.Run.{Calling, run}
 use Rattle.rip_frames.specs.Stack.{Open}
 use Rattle.rip_frames.specs.Settle.{settle}
 use Rattle.rip_frames.proofs.Laws.{rest-next, rest-enters, rest-gives}
 use Rattle.rip_frames.proofs.Settles.{run-settles}
-use Rattle.rip_machine.specs.Law.{StopsWith}
+use Rattle.rip_machine.specs.Nesting.{Nests}
 
 -- two facts of an answer give a third
 pub ok_both : {T E : Type 0} (r : Result T E) (P Q F : Type 0) → OnOk r P → OnOk r Q → (P → Q → F) → OnOk r F
@@ -28,43 +27,31 @@ pub ok_at : {T E A : Type 0} (r : Result T E) (P : T → A → Type 0) (y : A) �
 ok_at (Ok x) P y p = p y
 ok_at (Err e) P y p = tt
 
+-- what is done next hands on the depth that is left
+pub passes : (room : ℕ) (next : Next) → Nests room next → PassesDepth next
+passes room (End c) nests = tt
+passes room (Halt stop) nests = tt
+passes room (Ask part frame) nests = nests.1
+passes room (Keep part frame v) nests = nests.1
+passes room (Turn part frame) nests = nests.1
+
 -- after a part was entered
 pub enter_rest : {S : Type 0} (h : Calling S) (t : Table) (room : ℕ) (part : Part) (next : Next) (os frames : List Open) (control : Control) (w x : World) (s : S) (u : ℕ)
-    → ((values : List Value) → as_row t next values x ≡ entered t part w) → control ≡ control_of room next → frames ≡ os ++ frame_of next []
+    → PassesDepth next → room ≡ part.room - 1 → ((values : List Value) → as_row t next values x ≡ entered t part w) → control ≡ control_of room next → frames ≡ os ++ frame_of next []
     → rest h t control frames u x s ≡ rest h t (Enter part) os (u + 1) w s
-enter_rest h t room part next os frames control w x s u row c f =
+enter_rest h t room part next os frames control w x s u passes inside row c f =
     ap (λ d. rest h t d frames u x s) c ∙ ap (λ fs. rest h t (control_of room next) fs u x s) f
-    ∙ sym (rest-next h t room next [] os u x s) ∙ ap (λ r. unwind h t os (run h t r u s)) (row []) ∙ sym (rest-enters h t part os u w s)
+    ∙ sym (rest-next h t room next [] os u x s passes) ∙ ap (λ r. unwind h t os (run h t room r u s)) (row [])
+    ∙ ap (λ left. unwind h t os (run h t left (entered t part w) u s)) inside ∙ sym (rest-enters h t part os u w s)
     ∙ ap (λ n. rest h t (Enter part) os n w s) (sym (add-one u))
 
 -- after a completion was given to the innermost frame, and the host was asked
 pub give_rest : {S : Type 0} (h : Calling S) (t : Table) (room : ℕ) (c : Completion) (next : Next) (below os frames : List Open) (o : Open) (control : Control) (w x : World) (s r : S) (u : ℕ)
-    → (as_row t next o.values x, r) ≡ settle h (t.rest o c w) s → os ≡ below ++ o ∷ [] → control ≡ control_of room next → frames ≡ below ++ frame_of next o.values
+    → PassesDepth next → room ≡ room_in o.frame → (as_row t next o.values x, r) ≡ settle h (t.rest o c w) s → os ≡ below ++ o ∷ [] → control ≡ control_of room next → frames ≡ below ++ frame_of next o.values
     → rest h t control frames u x r ≡ rest h t (Give c) os u w s
-give_rest {S = S} h t room c next below os frames o control w x s r u row is d f =
+give_rest {S = S} h t room c next below os frames o control w x s r u passes inside row is d f =
     ap (λ e. rest h t e frames u x r) d ∙ ap (λ fs. rest h t (control_of room next) fs u x r) f
-    ∙ sym (rest-next h t room next o.values below u x r) ∙ ap (λ (after : Row × S). unwind h t below (run h t after.0 u after.1)) row
-    ∙ ap (unwind h t below) (run-settles h t (t.rest o c w) u s) ∙ sym (rest-gives h t c below o u w s)
+    ∙ sym (rest-next h t room next o.values below u x r passes) ∙ ap (λ (after : Row × S). unwind h t below (run h t room after.0 u after.1)) row
+    ∙ ap (unwind h t below) (run-settles h t room (t.rest o c w) u s)
+    ∙ ap (λ left. unwind h t below (run h t left (t.rest o c w) u s)) inside ∙ sym (rest-gives h t c below o u w s)
     ∙ ap (λ fs. rest h t (Give c) fs u w s) (sym is)
-
--- what stops the run leaves the depth inside the part
-pub stops_with : (room : ℕ) (next : Next) (control : Control) → control ≡ control_of room next → StopsWith room control
-stops_with room next control c = rw c (all room next)
-  where
-    all : (room : ℕ) (next : Next) → StopsWith room (control_of room next)
-    all room (End c) = tt
-    all room (Halt stop) = refl
-    all room (Ask part frame) = tt
-    all room (Keep part frame v) = tt
-    all room (Turn part frame) = tt
-
-last_same : (below : List Open) (o x : Open) → below ++ o ∷ [] ≡ below ++ x ∷ [] → o ≡ x
-last_same [] o x e = cc
-last_same (p ∷ below) o x e = last_same below o x (cc)
-
--- the same where the part of the innermost frame is open
-pub stops_at_last : (os below : List Open) (o x : Open) (next : Next) (control : Control) → os ≡ below ++ o ∷ [] → control ≡ control_of ((part_of o.frame).room - 1) next
-    → os ≡ below ++ x ∷ [] → StopsWith ((part_of x.frame).room - 1) control
-stops_at_last os below o x next control is c e =
-    let P : Open → Type 0 = λ y. StopsWith ((part_of y.frame).room - 1) control in
-    subst P (last_same below o x (sym is ∙ e)) (stops_with ((part_of o.frame).room - 1) next control c)

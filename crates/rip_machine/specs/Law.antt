@@ -17,7 +17,7 @@ use Rattle.rip_frames.specs.declared.next.Control.TheVariants.{Enter, Give, Halt
 use Rattle.rip_frames.specs.declared.next.Next.{Next}
 use Rattle.rip_frames.specs.Cut.{rest_of}
 use Rattle.rip_frames.specs.Frame.{part_of}
-use Rattle.rip_frames.specs.Rest.{as_row, control_of, frame_of}
+use Rattle.rip_frames.specs.Rest.{PassesDepth, as_row, control_of, frame_of, room_in}
 use Rattle.rip_frames.specs.Row.{Reads, Writes, Calls, Row, Table}
 use Rattle.rip_frames.specs.Run.{Answer, Completes, Stops, Cuts, Calling}
 use Rattle.rip_frames.specs.Stack.{Open}
@@ -58,12 +58,6 @@ Stands (Give c) frames units = frames ≡ []
 Stands (Halted stop room) frames units = Unit {0}
 
 -- DEPTH
-
--- what stops a run leaves so much of the depth
-abbrev pub StopsWith : ℕ → Control → Type 0
-StopsWith room (Enter part) = Unit {0}
-StopsWith room (Give c) = Unit {0}
-StopsWith room (Halted stop left) = left ≡ room
 
 -- how many nodes are entered and not ended, and functions are running, where the depth is at most `depth`, and this is
 -- the innermost frame: the part of that frame is open, for which its room was left
@@ -110,21 +104,24 @@ turned_of (Enter part) false = Done (Limit Fuel)
 turned_of (Give c) more = Done (outcome_of c)
 turned_of (Halted stop room) more = Done (stop_outcome stop)
 
--- the outcome of a run that is at its end, the units left, and the world and the host then
-abbrev pub end_of : {S : Type 0} → Answer S → Option (Outcome × ℕ × World × S)
-end_of (Completes c u w s) = Some (outcome_of c, u, w, s)
-end_of (Stops stop u w s) = Some (stop_outcome stop, u, w, s)
-end_of (Cuts w s) = None
+-- the outcome of a run that is at its end, how many nodes and functions are open there, where the depth is at most
+-- `depth`, the units left, and the world and the host then
+abbrev pub end_of : {S : Type 0} → ℕ → Answer S → Option (Outcome × ℕ × ℕ × World × S)
+end_of depth (Completes c u w s) = Some (outcome_of c, 0, u, w, s)
+end_of depth (Stops stop room u w s) = Some (stop_outcome stop, depth - room, u, w, s)
+end_of depth (Cuts room w s) = None
 
--- the run ends within n units with this outcome, and those that it did not need were not counted
+-- the run ends within n units with this outcome and with so much open as the machine says, and the units that it did not
+-- need were not counted
 abbrev pub Ends : {S : Type 0} → Calling S → Table → Standing → World → S → ℕ → Standing → World → S → Outcome → Type 0
-Ends h t m w s n m' w' s' outcome = (u : ℕ) × (end_of (left h t m w s n) ≡ Some (outcome, u, w', s')) × (m'.spent + u ≡ m.spent + min n m.fuel)
+Ends h t m w s n m' w' s' outcome = (u : ℕ) × (end_of m.depth (left h t m w s n) ≡ Some (outcome, open_depth m', u, w', s')) × (m'.spent + u ≡ m.spent + min n m.fuel)
 
 -- what a machine, a world and a host are after n units: after More they are those of the run cut after exactly these
--- units, and what is left is what was left, later; after Done they are those of its end. Of want of memory nothing is said
+-- units, with so much of the depth open, and what is left is what was left, later; after Done they are those of its end.
+-- Of want of memory nothing is said
 abbrev pub Resumes : {S : Type 0} → Calling S → Table → Standing → World → S → ℕ → Standing → World → S → Turned → Type 0
 Resumes h t m w s n m' w' s' More =
-    (left h t m w s n ≡ Cuts w' s') × ((k : ℕ) → left h t m' w' s' k ≡ left h t m w s (n + k)) × (m'.spent ≡ m.spent + n)
+    ((room : ℕ) × (left h t m w s n ≡ Cuts room w' s') × (open_depth m' ≡ m.depth - room)) × ((k : ℕ) → left h t m' w' s' k ≡ left h t m w s (n + k)) × (m'.spent ≡ m.spent + n)
 Resumes h t m w s n m' w' s' (Done (Gives v)) = Ends h t m w s n m' w' s' (Gives v)
 Resumes h t m w s n m' w' s' (Done (Thrown v)) = Ends h t m w s n m' w' s' (Thrown v)
 Resumes h t m w s n m' w' s' (Done (Fault fault)) = Ends h t m w s n m' w' s' (Fault fault)
@@ -137,15 +134,15 @@ loaded code m = record { code = code; literals = m.literals }
 
 -- the run goes on with what a part does next, for which this row stands and so much depth is left
 abbrev pub GoesOn : Table → Row → ℕ → World → Control → List Open → Type 0
-GoesOn t row room w control frames = (next : Next) × (as_row t next [] w ≡ row) × (control ≡ control_of room next) × (frames ≡ frame_of next [])
+GoesOn t row room w control frames = (next : Next) × (as_row t next [] w ≡ row) × PassesDepth next × (control ≡ control_of room next) × (frames ≡ frame_of next [])
 
--- the run gives a completion to its only frame, and this row is what remains there
-abbrev pub GivesToFrame : Table → Row → World → Control → List Open → Type 0
-GivesToFrame t row w control frames = (c : Completion) × (o : Open) × (t.rest o c w ≡ row) × (control ≡ Give c) × (frames ≡ o ∷ [])
+-- the run gives a completion to its only frame, where so much depth is left, and this row is what remains there
+abbrev pub GivesToFrame : Table → Row → ℕ → World → Control → List Open → Type 0
+GivesToFrame t row room w control frames = (c : Completion) × (o : Open) × (t.rest o c w ≡ row) × (room_in o.frame ≡ room) × (control ≡ Give c) × (frames ≡ o ∷ [])
 
 -- a run for which so much depth is left stands at the beginning of this row, in one of these two ways
 abbrev pub StandsAt : Table → Row → ℕ → World → Control → List Open → Type 0
-StandsAt t row room w control frames = GoesOn t row room w control frames ⊎ GivesToFrame t row w control frames
+StandsAt t row room w control frames = GoesOn t row room w control frames ⊎ GivesToFrame t row room w control frames
 
 -- the machine stands at the beginning of a run of this row with so much fuel, of which nothing is spent
 abbrev pub Begins : Table → Row → ℕ → World → Standing → Type 0

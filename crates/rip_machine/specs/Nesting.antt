@@ -1,5 +1,5 @@
 -- How parts nest: what a part does next has less depth left.
-use Rattle.std.specs.Prelude.{ℕ, ◌-◌, ◌≤◌, List, [], ◌∷◌, length}
+use Rattle.std.specs.Prelude.{◌≡◌, ℕ, ◌-◌, ◌≤◌, List, [], ◌∷◌, length}
 use Rattle.rip_frames.specs.declared.frame.Frame.{Frame}
 use Rattle.rip_frames.specs.declared.next.Control.{Control}
 use Rattle.rip_frames.specs.declared.next.Control.TheVariants.{Enter, Give, Halted}
@@ -7,11 +7,12 @@ use Rattle.rip_frames.specs.declared.next.Next.{Next}
 use Rattle.rip_frames.specs.declared.next.Next.TheVariants.{End, Halt, Ask, Keep, Turn}
 use Rattle.rip_frames.specs.declared.part.Part.{Part}
 use Rattle.rip_frames.specs.Frame.{part_of}
+use Rattle.rip_frames.specs.Rest.{room_in}
 use Rattle.rip_frames.specs.Stack.{Open}
 
--- the part that a frame waits for has less room than the open one, which has no more than this
+-- the part that a frame waits for is left what depth there is inside the open one, for which no more is left than this
 abbrev pub IsWithin : ℕ → Part → Frame → Type 0
-IsWithin room part frame = ((part_of frame).room ≤ room) × (part.room ≤ (part_of frame).room - 1)
+IsWithin room part frame = ((part_of frame).room ≤ room) × (part.room ≡ room_in frame)
 
 -- what is done next, where so much room is left for the open part
 abbrev pub Nests : ℕ → Next → Type 0

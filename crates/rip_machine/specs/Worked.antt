@@ -1,5 +1,5 @@
 -- Worked scripts, whose counts were found by hand from the table of charges. The meaning gives them.
-use Rattle.std.specs.Prelude.{ℕ, suc, pos, true, false, List, [], ◌∷◌, Option, None, Some, replicate, option_map}
+use Rattle.std.specs.Prelude.{ℕ, ◌-◌, suc, pos, true, false, List, [], ◌∷◌, Option, None, Some, replicate, option_map}
 use Rattle.rip_values.specs.declared.operator.BinaryOperator.TheVariants.{Less}
 use Rattle.rip_values.specs.declared.operator.StepOperator.TheVariants.{Increment}
 use Rattle.rip_values.specs.declared.value.Fault.TheVariants.{NotInProfile}
@@ -118,19 +118,20 @@ no_host s w request = (host.Fault NotInProfile, w, s)
 -- how the script comes out with so many cells as the limit and so much fuel, after k units, where 64 is the depth; none
 -- where it may not begin
 abbrev pub comes_out : Loaded → ℕ → ℕ → ℕ → Option (Answer (Unit {0}))
-comes_out p limit fuel k = option_map (λ w. run_of no_host (table p) (script_row p 0 64 w) tt fuel k) (script_entered p 0 (at_first p limit))
+comes_out p limit fuel k = option_map (λ w. run_of no_host (table p) 64 (script_row p 0 64 w) tt fuel k) (script_entered p 0 (at_first p limit))
 
--- what is seen of an answer: how it ends, the units left, the cells, and the top binding at a place
+-- what is seen of an answer: how it ends, the units left or the depth that is open, the cells, and the top binding at a
+-- place
 pub data Seen : Type 0 where
   Ended : ℕ → ℕ → Option Value → Seen
-  Stopped : Stop → ℕ → Option Value → Seen
-  Open : ℕ → Option Value → Seen
+  Stopped : Stop → ℕ → ℕ → Option Value → Seen
+  Open : ℕ → ℕ → Option Value → Seen
 
 abbrev pub seen : ℕ → Answer (Unit {0}) → Option Seen
 seen place (Completes (Normal Undefined) u w s) = Some (Ended u w.cells (binding w 0 place))
 seen place (Completes c u w s) = None
-seen place (Stops stop u w s) = Some (Stopped stop w.cells (binding w 0 place))
-seen place (Cuts w s) = Some (Open w.cells (binding w 0 place))
+seen place (Stops stop room u w s) = Some (Stopped stop (64 - room) w.cells (binding w 0 place))
+seen place (Cuts room w s) = Some (Open (64 - room) w.cells (binding w 0 place))
 
 -- what is seen of the script after k units
 abbrev pub shows : Loaded → ℕ → ℕ → ℕ → ℕ → Option Seen

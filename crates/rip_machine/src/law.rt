@@ -17,7 +17,7 @@ pub fn begun_is_whole<H: Host>(
     host: &H,
     fuel: u64,
 )
-    ensures { (row : Row) → Begins (table (loaded program.now machine.now)) row fuel heap.now machine.now → (k : ℕ) → left (host_calls H.read_gives H.write_gives H.call_gives) (table (loaded program.now machine.now)) machine.now heap.now host.now k ≡ run_of (host_calls H.read_gives H.write_gives H.call_gives) (table (loaded program.now machine.now)) row host.now fuel k }
+    ensures { (row : Row) → Begins (table (loaded program.now machine.now)) row fuel heap.now machine.now → (k : ℕ) → left (host_calls H.read_gives H.write_gives H.call_gives) (table (loaded program.now machine.now)) machine.now heap.now host.now k ≡ run_of (host_calls H.read_gives H.write_gives H.call_gives) (table (loaded program.now machine.now)) machine.now.depth row host.now fuel k }
 {
     let _ = machine;
     let _ = program;

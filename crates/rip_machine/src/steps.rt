@@ -5,7 +5,7 @@ ghost use Rattle.rip_heap.specs.World.{World};
 ghost use Rattle.rip_frames.specs.Frame.{part_of};
 ghost use Rattle.rip_frames.specs.Rest.{control_of, frame_of, rest};
 ghost use Rattle.rip_frames.specs.Stack.{Open, framed, last_values, without_last};
-ghost use Rattle.rip_machine.specs.Law.{GoesOn, Stands, StopsWith, host_calls, weight};
+ghost use Rattle.rip_machine.specs.Law.{GoesOn, Stands, host_calls, weight};
 ghost use Rattle.rip_machine.specs.Nesting.{IsInside};
 ghost use Rattle.rip_heap.specs.declared.class.Class.TheVariants.{ThrownTypeError};
 ghost use Rattle.rip_machine.specs.Reading.{children_from};
@@ -201,7 +201,6 @@ fn enter<H: Host>(
 ) -> Result<(), NoMemory>
     requires { IsInside stack.old.most (Control.Enter part.now) stack.old.frames }
     ensures rest { OnOk result ((u : ℕ) → rest (host_calls H.read_gives H.write_gives H.call_gives) (table p.now) control.new stack.new.frames u heap.new host.now ≡ rest (host_calls H.read_gives H.write_gives H.call_gives) (table p.now) (Control.Enter part.now) stack.old.frames (u + 1) heap.old host.now) }
-    ensures room { OnOk result (StopsWith (part.now.room - 1) control.new) }
     ensures weight { OnOk result (weight control.new stack.new.frames ≤ 2 * length stack.old.frames + 2) }
     ensures inside { OnOk result (IsInside stack.new.most control.new stack.new.frames) }
     ensures kept { OnErr result ((stack.new ≡ stack.old) × (control.new ≡ control.old)) }
@@ -226,7 +225,6 @@ fn give<H: Host>(
     requires fits { H.fits host.old heap.old }
     requires inside { IsInside stack.old.most (Control.Give c) stack.old.frames }
     ensures rest { IfOk result (λ given. MatchBool given ((u : ℕ) → rest (host_calls H.read_gives H.write_gives H.call_gives) (table p.now) control.new stack.new.frames u heap.new host.new ≡ rest (host_calls H.read_gives H.write_gives H.call_gives) (table p.now) (Control.Give c) stack.old.frames u heap.old host.old) ((stack.old.frames ≡ []) × (control.new ≡ control.old) × (stack.new ≡ stack.old) × (heap.new ≡ heap.old) × (host.new ≡ host.old))) }
-    ensures room { IfOk result (λ _. (o : Open) → stack.old.frames ≡ without_last stack.old.frames ++ o ∷ [] → StopsWith ((part_of o.frame).room - 1) control.new) }
     ensures weight { IfOk result (λ given. MatchBool given (weight control.new stack.new.frames < weight (Control.Give c) stack.old.frames) ⊤) }
     ensures inside { IfOk result (λ given. MatchBool given (IsInside stack.new.most control.new stack.new.frames) ⊤) }
     ensures kept { OnErr result ((stack.new ≡ stack.old) × (control.new ≡ control.old)) }

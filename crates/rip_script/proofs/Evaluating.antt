@@ -19,16 +19,16 @@ use Rattle.rip_script.specs.Steps.{BeginsRun, IsOver}
 use Rattle.rip_script.specs.declared.words.RunLimits.{RunLimits}
 
 -- a run whose fuel is spent is not cut
-not_cut : {S : Type 0} (spent : Bool) (answer : Answer S) (w : World) (s : S) → spent ≡ true → conclude spent answer ≡ Cuts w s → ⊥
-not_cut false answer w s e h = cc
-not_cut true (Completes c u x r) w s e h = cc
-not_cut true (Stops stop u x r) w s e h = cc
-not_cut true (Cuts x r) w s e h = cc
+not_cut : {S : Type 0} (spent : Bool) (answer : Answer S) (room : ℕ) (w : World) (s : S) → spent ≡ true → conclude spent answer ≡ Cuts room w s → ⊥
+not_cut false answer room w s e h = cc
+not_cut true (Completes c u x r) room w s e h = cc
+not_cut true (Stops stop there u x r) room w s e h = cc
+not_cut true (Cuts there x r) room w s e h = cc
 
 -- a run that has all its fuel is over
 pub over : {S : Type 0} (h : Calling S) (t : Table) (m : Standing) (w : World) (s : S) (n : ℕ) (m' : Standing) (w' : World) (s' : S) (turned : Turned)
     → m.fuel ≤ n → Resumes h t m w s n m' w' s' turned → IsOver turned
-over h t m w s n m' w' s' More enough law = not_cut _ _ w' s' (le-leb m.fuel n enough) law.0
+over h t m w s n m' w' s' More enough law = not_cut _ _ law.0.0 w' s' (le-leb m.fuel n enough) law.0.1
 over h t m w s n m' w' s' (Done outcome) enough law = tt
 
 -- a run that began and is over ran to its end

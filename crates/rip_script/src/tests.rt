@@ -80,13 +80,32 @@ static STOPPED: [[&str; 2]; 8] = [
     ],
 ];
 
-/// What a run of the program comes to within these limits, in slices of so many units.
-fn ended_in_slices(alloc: Global, program: &Program, slice: u64) -> Result<Ended, Fail> {
+/// A script, so many units of its run, and how many of its nodes and functions are open then.
+static OPEN: [(&str, u64, u32); 6] = [
+    (COUNTING, 0, 0),
+    (COUNTING, 11, 4),
+    (COUNTING, 12, 1),
+    (COUNTING, 29, 0),
+    (r#""use strict";function g(){return g();}g();"#, 500, DEPTH),
+    (r#""use strict";function f(){return g.x;}var g;f();"#, 500, 0),
+];
+
+/// A loop of three turns.
+const COUNTING: &str = r#""use strict";var i=0;while(i<3){i++;}"#;
+
+/// The heap and the machine at the start of a run of the program within these limits.
+fn begun(alloc: Global, program: &Program) -> Result<(Heap, Machine), Fail> {
     let mut heap = Heap::make(alloc, HEAP)?;
     let mut machine = Machine::make(alloc, DEPTH)?;
     heap.new_scope(alloc, None, program.top_names())?;
     machine.load(alloc, program, &mut heap)?;
     machine.start(alloc, program, &mut heap, &Start::Script(1), FUEL)?;
+    Ok((heap, machine))
+}
+
+/// What a run of the program comes to within these limits, in slices of so many units.
+fn ended_in_slices(alloc: Global, program: &Program, slice: u64) -> Result<Ended, Fail> {
+    let (mut heap, mut machine) = begun(alloc, program)?;
     for _ in 0..FUEL {
         let turned = machine.resume(alloc, program, &mut heap, &mut EmptyHost, slice);
         if let Turned::Done(outcome) = turned {
@@ -158,6 +177,25 @@ fn runs_are_the_same_in_slices(rt: HostRuntime) -> Result<(), Fail> {
     for [outcome, text] in &STOPPED {
         let is_same = is_same_in_slices(rt.alloc(), text, outcome)?;
         assert!(rt; is_same, "{text}");
+    }
+    Ok(())
+}
+
+/// How many nodes and functions are open after so many units of a run of the script.
+fn open_after(alloc: Global, text: &str, units: u64) -> Result<u32, Fail> {
+    if text.len() > MAX_FILE {
+        return Err("too long".into());
+    }
+    let checked = Checked::read(alloc, text.as_bytes())?;
+    let (mut heap, mut machine) = begun(alloc, &checked.program)?;
+    machine.resume(alloc, &checked.program, &mut heap, &mut EmptyHost, units);
+    Ok(machine.depth())
+}
+
+#[test]
+fn open_nodes_and_functions_are_counted(rt: HostRuntime) -> Result<(), Fail> {
+    for (text, units, open) in &OPEN {
+        assert_eq!(rt; open_after(rt.alloc(), text, *units)?, *open, "{text} {units}");
     }
     Ok(())
 }

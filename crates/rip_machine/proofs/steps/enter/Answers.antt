@@ -1,4 +1,4 @@
-use Rattle.std.proofs.Common.{◌≡◌, ℕ, ◌+◌, ◌-◌, [], ◌++◌, length, refl, ap}
+use Rattle.std.proofs.Common.{◌≡◌, ℕ, ◌+◌, ◌-◌, [], ◌++◌, length, refl, ap, rules}
 use Rattle.rip_frames.specs.declared.next.Control.TheVariants.{Enter}
 use Rattle.rip_frames.specs.Rest.{control_of, frame_of, rest}
 use Rattle.rip_frames.specs.Stack.{Frames}
@@ -6,7 +6,7 @@ use Rattle.rip_machine.specs.Law.{host_calls}
 use Rattle.rip_machine.specs.Nesting.{IsInside}
 use Rattle.rip_machine.specs.Table.{table}
 use Rattle.rip_machine.proofs.Nested.{entered_fits, went_inside}
-use Rattle.rip_machine.proofs.StepLaws.{enter_rest, ok_both}
+use Rattle.rip_machine.proofs.StepLaws.{enter_rest, ok_both, passes}
 use Rattle.rip_machine.proofs.steps.enter.Goals as goal
 
 pub open-requires : goal.open-requires
@@ -17,10 +17,11 @@ pub returns-clause-rest : goal.returns-clause-rest
 returns-clause-rest g c =
     let h = host_calls g.H.Host.read_gives g.H.Host.write_gives g.H.Host.call_gives in
     let stack : Frames = record c.args.stack.now { frames = c.args.stack.now.frames ++ frame_of c.in_ok-next.next [] } in
+    let inside : c.saturating_sub.result ≡ c.args.part.now.room - 1 = search rules in
     ok_both c.open.result (c.open.new.control ≡ control_of c.saturating_sub.result c.in_ok-next.next) (c.open.new.stack ≡ stack)
     ((u : ℕ) → rest h (table c.args.p.now) c.open.new.control c.open.new.stack.frames u c.begin.new.heap c.args.host.now ≡ rest h (table c.args.p.now) (Enter c.args.part.now) c.args.stack.now.frames (u + 1) c.args.heap.now c.args.host.now)
     c.open.ensures.control c.open.ensures.frames
-    (λ control f u. enter_rest h (table c.args.p.now) c.saturating_sub.result c.args.part.now c.in_ok-next.next c.args.stack.now.frames c.open.new.stack.frames c.open.new.control c.args.heap.now c.begin.new.heap c.args.host.now u c.in_ok-next.ensures.row control (ap (λ (m : Frames). m.frames) f))
+    (λ control f u. enter_rest h (table c.args.p.now) c.saturating_sub.result c.args.part.now c.in_ok-next.next c.args.stack.now.frames c.open.new.stack.frames c.open.new.control c.args.heap.now c.begin.new.heap c.args.host.now u (passes c.args.part.now.room c.in_ok-next.next c.in_ok-next.ensures.nests) inside c.in_ok-next.ensures.row control (ap (λ (m : Frames). m.frames) f))
 
 pub returns-clause-inside : goal.returns-clause-inside
 returns-clause-inside g c =

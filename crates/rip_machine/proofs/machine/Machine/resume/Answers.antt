@@ -19,7 +19,7 @@ returns-in-Ok-clause-law g c =
     let law : Resumes h t old c.args.heap.now c.args.host.now c.args.n new c.steps.new.heap c.steps.new.host c.turned_of.result =
     rw c.turned_of.ensures (resumes h t old new c.args.heap.now c.steps.new.heap c.args.host.now c.steps.new.host c.args.n u c.steps.new.control (nat_lt c.args.n c.self.inside.fuel)
     (λ j. c.in-Ok.ensures.rest j ∙ ap (λ b. rest h t old.control old.frames (b + j) c.args.heap.now c.args.host.now) budget)
-    c.in-Ok.ensures.stands within refl (ap (λ b. c.self.inside.fuel - (b - u)) budget) (ap (λ b. c.self.inside.spent + (b - u)) budget) refl) in
+    c.in-Ok.ensures.stands within refl (ap (λ b. c.self.inside.fuel - (b - u)) budget) (ap (λ b. c.self.inside.spent + (b - u)) budget) refl refl) in
     let L : List Span → Type 0 = λ ls. Resumes h (table (record { code = c.args.program.now; literals = ls })) old c.args.heap.now c.args.host.now c.args.n new c.steps.new.heap c.steps.new.host c.turned_of.result in
     let M : Standing → Type 0 = λ m. Resumes h (table (record { code = c.args.program.now; literals = m.literals })) m c.args.heap.now c.args.host.now c.args.n new c.steps.new.heap c.steps.new.host c.turned_of.result in
     subst M c.self.view_is (subst L c.as_slice.ensures.value law)
