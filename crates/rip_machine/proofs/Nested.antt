@@ -1,11 +1,12 @@
 -- What is done next keeps a run inside the frames that have room.
-use Rattle.std.proofs.Common.{◌≡◌, ℕ, zero, suc, ◌-◌, ◌≤◌, List, [], ◌∷◌, ◌++◌, length, arith, append-nil}
+use Rattle.std.proofs.Common.{◌≡◌, ℕ, zero, suc, ◌-◌, ◌≤◌, List, [], ◌∷◌, ◌++◌, length, ap, ap₂, ◌∙◌, arith, append-nil}
 use Rattle.std.proofs.lemmas.List.{length_push}
 use Rattle.rip_values.specs.declared.value.Value.{Value}
 use Rattle.rip_values.specs.declared.value.Limit.TheVariants.{Depth}
 use Rattle.rip_heap.specs.World.{World}
 use Rattle.rip_frames.specs.declared.completion.Stop.{Stop}
 use Rattle.rip_frames.specs.declared.completion.Stop.TheVariants.{Limit as AtLimit}
+use Rattle.rip_frames.specs.declared.frame.Frame.{Frame}
 use Rattle.rip_frames.specs.declared.next.Control.{Control}
 use Rattle.rip_frames.specs.declared.next.Next.{Next}
 use Rattle.rip_frames.specs.declared.next.Next.TheVariants.{End, Halt, Ask, Keep, Turn}
@@ -13,7 +14,8 @@ use Rattle.rip_frames.specs.declared.part.Part.{Part}
 use Rattle.rip_frames.specs.Frame.{part_of}
 use Rattle.rip_frames.specs.Rest.{as_row, control_of, frame_of}
 use Rattle.rip_frames.specs.Row.{Halts, Table, entered}
-use Rattle.rip_frames.specs.Stack.{Frames, Open, framed}
+use Rattle.rip_frames.specs.Stack.{Frames, Open, framed, last_values, without_last}
+use Rattle.rip_frames.proofs.Joined.{last_values-push, without_last-push}
 use Rattle.rip_machine.specs.Nesting.{AreNested, IsInside, Nests}
 
 -- one more frame
@@ -67,3 +69,10 @@ no_frame t (Turn part frame) values w x stop e = absurd (cc)
 pub entered_fits : (t : Table) (next : Next) (part : Part) (room left : ℕ) (w x : World) → part.room ≡ room → room ≤ left → as_row t next [] x ≡ entered t part w → length (frame_of next []) ≤ left
 entered_fits t next part zero left w x is le row = omega (arith, no_frame t next [] x w (AtLimit Depth) (rw is at row))
 entered_fits t next part (suc room) left w x is le row = omega (arith, one_frame next [])
+
+-- a frame put behind the others, and then a value beside it
+pub kept_behind : (m p q : Frames) (frame : Frame) (v : Value) → p ≡ record m { frames = m.frames ++ framed frame [] ∷ [] }
+    → q ≡ record p { frames = without_last p.frames ++ framed frame (last_values p.frames ++ v ∷ []) ∷ [] } → q ≡ record m { frames = m.frames ++ framed frame (v ∷ []) ∷ [] }
+kept_behind m p q frame v pushed kept =
+    kept ∙ ap (λ (p : Frames). record p { frames = without_last p.frames ++ framed frame (last_values p.frames ++ v ∷ []) ∷ [] }) pushed
+    ∙ ap₂ (λ os vs. record m { frames = os ++ framed frame (vs ++ v ∷ []) ∷ [] }) (without_last-push m.frames (framed frame [])) (last_values-push m.frames (framed frame []))

@@ -37,6 +37,7 @@ mod expressions;
 mod functions;
 mod hosted;
 mod law;
+mod leaves;
 mod literals;
 mod loading;
 mod machine;

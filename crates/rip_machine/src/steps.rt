@@ -2,9 +2,8 @@ ghost use Rattle.std.specs.Prelude.{◌≡◌, ℕ, ◌+◌, ◌-◌, ◌*◌, �
 ghost use Rattle.std.specs.Bool.{MatchBool};
 ghost use Rattle.rip_heap.specs.Growth.{Grows};
 ghost use Rattle.rip_heap.specs.World.{World};
-ghost use Rattle.rip_frames.specs.Frame.{part_of};
 ghost use Rattle.rip_frames.specs.Rest.{control_of, frame_of, rest};
-ghost use Rattle.rip_frames.specs.Stack.{Open, framed, last_values, without_last};
+ghost use Rattle.rip_frames.specs.Stack.{framed, last_values, without_last};
 ghost use Rattle.rip_machine.specs.Law.{GoesOn, Stands, host_calls, weight};
 ghost use Rattle.rip_machine.specs.Nesting.{IsInside};
 ghost use Rattle.rip_heap.specs.declared.class.Class.TheVariants.{ThrownTypeError};
@@ -14,6 +13,7 @@ ghost use Rattle.rip_machine.specs.Rows.Statements.{statements};
 ghost use Rattle.rip_machine.specs.Table.{table};
 
 use crate::dispatch::{begin, finish};
+use crate::leaves::value_at_once;
 use crate::names::throw;
 use crate::source::Source;
 use crate::statements::statements;
@@ -55,8 +55,19 @@ fn open(stack: &mut Stack, next: &Next, room: u32, control: &mut Control) -> Res
             *control = Control::Enter(*part);
             Ok(())
         },
-        // No part begins with a value that is kept.
-        Next::Keep(_, _, _) => Err(NoMemory),
+        Next::Keep(part, frame, v) => {
+            pushed(stack, frame);
+            match stack.keep(frame, v) {
+                Ok(()) => {
+                    *control = Control::Enter(*part);
+                    Ok(())
+                },
+                Err(NoMemory) => {
+                    stack.close();
+                    Err(NoMemory)
+                },
+            }
+        },
     }
 }
 
@@ -208,6 +219,10 @@ fn enter<H: Host>(
     ensures grows { Grows heap.old heap.new }
 {
     let _ = host;
+    if let Some(v) = value_at_once(p, heap, part) {
+        *control = Control::Give(Completion::Normal(v));
+        return Ok(());
+    }
     let next = begin(alloc, p, heap, part)?;
     open(stack, &next, part.room.saturating_sub(1), control)
 }

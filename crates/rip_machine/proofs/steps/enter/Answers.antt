@@ -1,5 +1,7 @@
-use Rattle.std.proofs.Common.{◌≡◌, ℕ, ◌+◌, ◌-◌, [], ◌++◌, length, refl, ap, rules}
-use Rattle.rip_frames.specs.declared.next.Control.TheVariants.{Enter}
+use Rattle.std.proofs.Common.{◌≡◌, ℕ, ◌+◌, ◌-◌, [], ◌++◌, length, refl, ap, sym, append-nil, rules}
+use Rattle.rip_frames.specs.declared.completion.Completion.TheVariants.{Normal}
+use Rattle.rip_frames.specs.declared.next.Control.TheVariants.{Enter, Give}
+use Rattle.rip_frames.specs.declared.next.Next.TheVariants.{End}
 use Rattle.rip_frames.specs.Rest.{control_of, frame_of, rest}
 use Rattle.rip_frames.specs.Stack.{Frames}
 use Rattle.rip_machine.specs.Law.{host_calls}
@@ -8,6 +10,14 @@ use Rattle.rip_machine.specs.Table.{table}
 use Rattle.rip_machine.proofs.Nested.{entered_fits, went_inside}
 use Rattle.rip_machine.proofs.StepLaws.{enter_rest, ok_both, passes}
 use Rattle.rip_machine.proofs.steps.enter.Goals as goal
+
+-- the value of a part that takes no part of its own
+pub returns-in-Some-clause-rest : goal.returns-in-Some-clause-rest
+returns-in-Some-clause-rest g c u =
+    let h = host_calls g.H.Host.read_gives g.H.Host.write_gives g.H.Host.call_gives in
+    let frames = c.args.stack.now.frames in
+    enter_rest h (table c.args.p.now) (c.args.part.now.room - 1) c.args.part.now (End (Normal c.in-Some.v)) frames frames (Give (Normal c.in-Some.v)) c.args.heap.now c.args.heap.now c.args.host.now u
+    tt refl (λ values. sym c.in-Some.ensures) refl (sym (append-nil frames))
 
 pub open-requires : goal.open-requires
 open-requires g c =
