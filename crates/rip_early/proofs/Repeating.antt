@@ -1,6 +1,6 @@
 -- Names that stand twice, found one after another.
-use Rattle.std.proofs.Common.{◌≡◌, ℕ, ◌+◌, ◌<◌, List, [], ◌∷◌, ◌++◌, length, take, append_assoc, filter_map, Option, Some, None, is_some, option_and_then, Bool, true, false, cond, ◌||◌, get_or, refl, sym, ap, ◌∙◌, subst, arith}
-use Rattle.std.specs.List.{cons_option, list_any, position, position_from}
+use Rattle.std.proofs.Common.{◌≡◌, ℕ, ◌+◌, ◌<◌, List, [], ◌∷◌, ◌++◌, length, take, append_assoc, filter_map, Option, Some, None, is_some, option_and_then, Bool, true, false, cond, ◌||◌, get_or, refl, sym, ap, ◌∙◌, subst}
+use Rattle.std.specs.List.{cons_option, list_any, position_from}
 use Rattle.std.specs.Option.{option_to_list}
 use Rattle.std.specs.Str.{bytes_eq}
 use Rattle.std.proofs.lemmas.Iterator.Adapters.{position_from-zero}

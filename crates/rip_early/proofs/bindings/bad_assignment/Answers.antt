@@ -1,4 +1,4 @@
-use Rattle.std.proofs.Common.{◌≡◌, IfOk, true, [], if◌then◌else◌, sym, subst, ◌∙◌, rules}
+use Rattle.std.proofs.Common.{◌≡◌, IfOk, true, [], if◌then◌else◌, sym, subst, rules}
 use Rattle.rip_early.specs.Least.{IsLeast}
 use Rattle.rip_early.specs.Mistakes.{assigns, bad_target, first_child}
 use Rattle.rip_early.proofs.bindings.bad_assignment.Goals as goal
