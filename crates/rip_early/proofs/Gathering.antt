@@ -1,13 +1,12 @@
 -- Names that are added one after another.
-use Rattle.std.proofs.Common.{◌≡◌, ℕ, zero, suc, ◌+◌, ◌-◌, ◌<◌, ◌≤◌, List, [], ◌∷◌, ◌++◌, length, map, take, append_assoc, filter_map, fold, Option, Some, None, if◌then◌else◌, get_or, refl, sym, ap, ◌∙◌, arith}
+use Rattle.std.proofs.Common.{◌≡◌, ℕ, zero, suc, ◌+◌, ◌<◌, ◌≤◌, List, [], ◌∷◌, ◌++◌, length, map, take, append_assoc, filter_map, fold, Option, Some, None, if◌then◌else◌, get_or, refl, sym, ap, ◌∙◌, arith}
 use Rattle.std.specs.List.{range_with_len, flat_map}
 use Rattle.std.proofs.Math.Seq.{take-length}
-use Rattle.std.proofs.lemmas.List.{get_or-reverse, length-reverse, map-append, take_all, take_more}
-use Rattle.std.proofs.lemmas.List.FromFn.{get_or-range_with_len, length-range_with_len}
+use Rattle.std.proofs.lemmas.List.{map-append, take_all, take_more}
 use Rattle.std.proofs.lemmas.List.Elements.{filter_map-append}
 use Rattle.std.proofs.lemmas.List.Sums.{fold-append}
 use Rattle.rip_tree.specs.Branches.{Plant}
-use Rattle.rip_early.specs.Around.{ends, home_of, numbers, present}
+use Rattle.rip_early.specs.Around.{home_of, in_text, present}
 use Rattle.rip_early.specs.Gathered.{gathered}
 use Rattle.rip_early.specs.Names.{Name, with_name, name_by, var_piece, is_number, parameter_names, function_names, var_names, var_name_in, function_scope, top_scope}
 use Rattle.rip_early.specs.Indexed.{with_any, name_of_child}
@@ -46,48 +45,33 @@ range-more a (suc n) = ap (λ ms. a ∷ ms) (range-more (a + 1) n ∙ ap (λ m. 
 pub numbers-more : (n : ℕ) → range_with_len 0 (n + 1) ≡ range_with_len 0 n ++ n ∷ []
 numbers-more n = ap (range_with_len 0) (let e : n + 1 ≡ suc n = omega arith in e) ∙ range-more 0 n ∙ ap (λ m. range_with_len 0 n ++ m ∷ []) (omega arith)
 
--- the node that ends next
-end-at : (t : Plant) (seen : ℕ) → seen < length t.branches → get_or (ends t) seen 0 ≡ length t.branches - 1 - seen
-end-at t seen h =
-    let many = length-range_with_len 0 (length t.branches) in
-    let within : seen < length (numbers t) = omega (arith, h, many) in
-    let place : length (numbers t) - 1 - seen < length t.branches = omega (arith, h, many) in
-    let number : 0 + (length (numbers t) - 1 - seen) ≡ length t.branches - 1 - seen = omega (arith, many) in
-    get_or-reverse (numbers t) seen 0 within
-    ∙ get_or-range_with_len 0 (length t.branches) (length (numbers t) - 1 - seen) 0 place
-    ∙ number
-
 -- the names of one node more
-pub number-more : (t : Plant) (f : ℕ → Option Name) (names : List Name) (seen : ℕ) → seen < length t.branches
-    → fold with_name names (filter_map f (take (seen + 1) (ends t))) ≡ with_any (fold with_name names (filter_map f (take seen (ends t)))) (f (length t.branches - 1 - seen))
-number-more t f names seen h =
-    let many : length (ends t) ≡ length t.branches = length-reverse (numbers t) ∙ length-range_with_len 0 (length t.branches) in
-    let within : seen < length (ends t) = omega (arith, h, many) in
-    let n = length t.branches - 1 - seen in
-    ap (λ ms. fold with_name names (filter_map f ms)) (take_more (ends t) seen 0 within)
-    ∙ ap (λ m. fold with_name names (filter_map f (take seen (ends t) ++ m ∷ []))) (end-at t seen h)
-    ∙ ap (fold with_name names) (filter_map-append f (take seen (ends t)) (n ∷ []))
-    ∙ fold-append with_name names (filter_map f (take seen (ends t))) (filter_map f (n ∷ []))
-    ∙ one-more (fold with_name names (filter_map f (take seen (ends t)))) (f n) f n refl
+pub node-more : (f : ℕ → Option Name) (names : List Name) (ids : List ℕ) (seen d : ℕ) → seen < length ids
+    → fold with_name names (filter_map f (take (seen + 1) ids)) ≡ with_any (fold with_name names (filter_map f (take seen ids))) (f (get_or ids seen d))
+node-more f names ids seen d h =
+    let n = get_or ids seen d in
+    ap (λ ms. fold with_name names (filter_map f ms)) (take_more ids seen d h)
+    ∙ ap (fold with_name names) (filter_map-append f (take seen ids) (n ∷ []))
+    ∙ fold-append with_name names (filter_map f (take seen ids)) (filter_map f (n ∷ []))
+    ∙ one-more (fold with_name names (filter_map f (take seen ids))) (f n) f n refl
 
 -- a scope, when a node more was looked at
 pub gathered-more : (t : Plant) (seen node id : ℕ) (old new : List Name) (home : Option ℕ) (name : Option Name)
-    → seen < length t.branches → node ≡ length t.branches - 1 - seen → new ≡ with_any old (if is_number home id then name else None) → home ≡ home_of t node
+    → seen < length (in_text t) → node ≡ get_or (in_text t) seen 0 → new ≡ with_any old (if is_number home id then name else None) → home ≡ home_of t node
     → name ≡ name_by var_piece t node → old ≡ gathered t seen id → new ≡ gathered t (seen + 1) id
-gathered-more t seen node id old new home name within ends_next is at_home named was =
+gathered-more t seen node id old new home name within next is at_home named was =
     is
     ∙ ap (λ h. with_any old (if is_number h id then name else None)) at_home
     ∙ ap (λ n. with_any old (if is_number (home_of t node) id then n else None)) named
     ∙ ap (λ o. with_any o (var_name_in t id node)) was
-    ∙ ap (λ n. with_any (gathered t seen id) (var_name_in t id n)) ends_next
-    ∙ sym (number-more t (var_name_in t id) (fold with_name (fold with_name [] (parameter_names t id)) (function_names t id)) seen within)
+    ∙ ap (λ n. with_any (gathered t seen id) (var_name_in t id n)) next
+    ∙ sym (node-more (var_name_in t id) (fold with_name (fold with_name [] (parameter_names t id)) (function_names t id)) (in_text t) seen 0 within)
 
 -- a scope of which all nodes were looked at
-pub gathered-all : (t : Plant) (seen id : ℕ) → seen ≡ length t.branches → gathered t seen id ≡ function_scope t id
+pub gathered-all : (t : Plant) (seen id : ℕ) → length (in_text t) ≤ seen → gathered t seen id ≡ function_scope t id
 unfolding function_scope
-gathered-all t seen id is =
-    let all : length (ends t) ≤ seen = omega (arith, is, length-reverse (numbers t) ∙ length-range_with_len 0 (length t.branches)) in
-    ap (λ ns. fold with_name (fold with_name (fold with_name [] (parameter_names t id)) (function_names t id)) (filter_map (var_name_in t id) ns)) (take_all seen (ends t) all)
+gathered-all t seen id all =
+    ap (λ ns. fold with_name (fold with_name (fold with_name [] (parameter_names t id)) (function_names t id)) (filter_map (var_name_in t id) ns)) (take_all seen (in_text t) all)
     ∙ ap (λ ns. fold with_name ns (var_names t id)) (sym (fold-append with_name [] (parameter_names t id) (function_names t id)))
     ∙ sym (fold-append with_name [] (parameter_names t id ++ function_names t id) (var_names t id))
 

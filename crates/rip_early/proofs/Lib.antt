@@ -3,6 +3,7 @@ pub mod Firsts
 pub mod Gathering
 pub mod Indexing
 pub mod Inner
+pub mod Listing
 pub mod Making
 pub mod Parents
 pub mod Positions

@@ -24,7 +24,7 @@ holds-above low high id (Some c ∷ cs) between is =
     ]
 
 -- the children of a branch have numbers above its own
-ChildrenFollow-get : (total : ℕ) (bs : List Branch) (i at : ℕ) (d : Branch) → ChildrenFollow total bs → length bs ≤ total → i < length bs → at ≡ total - length bs + i
+pub ChildrenFollow-get : (total : ℕ) (bs : List Branch) (i at : ℕ) (d : Branch) → ChildrenFollow total bs → length bs ≤ total → i < length bs → at ≡ total - length bs + i
     → AreBetween at total (get_or bs i d).children
 ChildrenFollow-get total [] i at d follow less h is = absurd (omega arith)
 ChildrenFollow-get total (b ∷ bs) zero at d follow less h is =

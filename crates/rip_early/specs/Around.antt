@@ -1,6 +1,6 @@
 -- What stands around a node of a tree.
-use Rattle.std.specs.Prelude.{ℕ, zero, suc, ◌==◌, Bool, true, false, ◌||◌, if◌then◌else◌, List, [], ◌∷◌, length, reverse, map, Option, None, Some, position}
-use Rattle.std.specs.List.{range_with_len}
+use Rattle.std.specs.Prelude.{ℕ, zero, suc, ◌==◌, Bool, true, false, ◌||◌, if◌then◌else◌, List, [], ◌∷◌, length, map, Option, None, Some, position}
+use Rattle.std.specs.List.{range_with_len, flat_map}
 use Rattle.rip_tree.specs.declared.form.Form.{Form}
 use Rattle.rip_tree.specs.declared.form.Form.TheVariants as F
 use Rattle.rip_tree.specs.declared.node.Node.{Node}
@@ -9,10 +9,6 @@ use Rattle.rip_tree.specs.Branches.{Plant, links_of, node_of}
 -- the numbers of the nodes
 abbrev pub numbers : Plant → List ℕ
 numbers t = range_with_len 0 (length t.branches)
-
--- the same in the order in which the nodes end in the text: what ends later has the lesser number
-abbrev pub ends : Plant → List ℕ
-ends t = reverse (numbers t)
 
 -- the form of a node, or else that of the empty statement
 abbrev pub form_or_empty : Option Node → Form
@@ -32,6 +28,17 @@ present (Some c ∷ cs) = c ∷ present cs
 -- the numbers of a node's children, in the order of the text
 abbrev pub children_of : Plant → ℕ → List ℕ
 children_of t id = present (links_of t.branches id)
+
+-- the nodes at and below this one in the order of the text: the node, and then what stands at each of its children, from
+-- left to right; so many levels are gone down
+abbrev pub in_text_within : ℕ → Plant → ℕ → List ℕ
+in_text_within zero t id = []
+in_text_within (suc levels) t id = id ∷ flat_map (in_text_within levels t) (children_of t id)
+
+-- the nodes of a script in the order of its text; a child has a greater number than its parent, so that there are no more
+-- levels than nodes
+abbrev pub in_text : Plant → List ℕ
+in_text t = in_text_within (length t.branches) t 0
 
 -- the number is among these children
 abbrev pub holds : ℕ → List (Option ℕ) → Bool

@@ -1,14 +1,14 @@
 -- The scopes of a tree, as their names are gathered.
 use Rattle.std.specs.Prelude.{◌≡◌, ℕ, ◌<◌, List, [], length, fold, filter_map, take, slice_index_or}
 use Rattle.rip_tree.specs.Branches.{Plant}
-use Rattle.rip_early.specs.Around.{ends}
+use Rattle.rip_early.specs.Around.{in_text}
 use Rattle.rip_early.specs.Names.{Name, with_name, parameter_names, function_names, var_name_in, function_scope}
 use Rattle.rip_early.specs.Indexed.{names_of, IsIndexed}
 use Rattle.rip_early.specs.declared.names.Names.{Names}
 
--- the names of a scope, of whose `var` names those are gathered that stand at the nodes that end first
+-- the names of a scope, of whose `var` names those are gathered that stand at the first nodes of the text
 abbrev pub gathered : Plant → ℕ → ℕ → List Name
-gathered t seen id = fold with_name (fold with_name (fold with_name [] (parameter_names t id)) (function_names t id)) (filter_map (var_name_in t id) (take seen (ends t)))
+gathered t seen id = fold with_name (fold with_name (fold with_name [] (parameter_names t id)) (function_names t id)) (filter_map (var_name_in t id) (take seen (in_text t)))
 
 -- the scopes of the first nodes, gathered so far
 pub record AreGathered (t : Plant) (seen count : ℕ) (scopes : List Names) : Type 0 where

@@ -6,7 +6,7 @@ use Rattle.rip_tree.specs.declared.form.Form.{Form}
 use Rattle.rip_tree.specs.declared.form.Form.TheVariants as F
 use Rattle.rip_tree.specs.declared.node.Piece.{Piece}
 use Rattle.rip_tree.specs.Branches.{Plant, units_at}
-use Rattle.rip_early.specs.Around.{ends, form_of, children_of, home_of}
+use Rattle.rip_early.specs.Around.{in_text, form_of, children_of, home_of}
 
 abbrev pub Name : Type 0
 Name = List ℕ
@@ -65,7 +65,7 @@ var_name_in t id node = if is_at_home t id node then name_by var_piece t node el
 
 -- the names that a script or a function declares by `var`, anywhere in its code (12.2), in the order of the text
 abbrev pub var_names : Plant → ℕ → List Name
-var_names t id = filter_map (var_name_in t id) (ends t)
+var_names t id = filter_map (var_name_in t id) (in_text t)
 
 -- the names that the scope of a function binds: parameters, functions, `var` names, each name once (10.5)
 unfoldable pub function_scope : Plant → ℕ → List Name

@@ -1,6 +1,7 @@
-ghost use Rattle.std.specs.Prelude.{◌≡◌, ◌<◌, ◌-◌, fold, filter_map, length, option_map, OnOk};
+ghost use Rattle.std.specs.Prelude.{◌≡◌, ◌<◌, fold, filter_map, length, option_map, OnOk};
+ghost use Rattle.std.specs.List.{All};
 ghost use Rattle.rip_tree.specs.Branches.{units_at};
-ghost use Rattle.rip_early.specs.Around.{form_of, home_of};
+ghost use Rattle.rip_early.specs.Around.{form_of, home_of, in_text};
 ghost use Rattle.rip_early.specs.Contexts.{AreContexts};
 ghost use Rattle.rip_early.specs.Indexed.{names_of, name_of_child, IsIndexed};
 ghost use Rattle.rip_early.specs.Names.{with_name, name_by, parameter_piece, parameter_names, declared_piece, function_names, var_piece, var_name_in, var_names};
@@ -18,14 +19,6 @@ pub(crate) fn form_of(tree: &Tree, id: u32) -> Form
         return Form::Empty;
     }
     tree.node(id).form
-}
-
-/// The node that ends in the text behind so many others.
-pub(crate) fn end_at(tree: &Tree, seen: u32) -> u32
-    requires { seen < length tree.now.branches }
-    ensures { result ≡ length tree.now.branches - 1 - seen }
-{
-    tree.count() - 1 - seen
 }
 
 /// What a form names as a parameter.
@@ -133,21 +126,24 @@ fn var_name_in(tree: &Tree, home: u32, id: u32, context: Context) -> Option<&[u1
     }
 }
 
-/// Adds the names that the code of a script or function declares by `var`.
+/// Adds the names that the code of a script or function declares by `var`. The nodes are known in the order of the text.
 pub(crate) fn add_vars<'a>(
     names: &mut Names<'a>,
     tree: &'a Tree,
     home: u32,
     contexts: &[Context],
+    order: &[u32],
 ) -> Result<(), NoMemory>
     requires kept { IsIndexed names.old }
     requires contexts { AreContexts tree.now (length tree.now.branches) contexts.now }
+    requires listed { order.now ≡ in_text tree.now }
+    requires within { All (λ id. id < length tree.now.branches) order.now }
     ensures kept { OnOk result (IsIndexed names.new) }
     ensures added { OnOk result (names_of names.new ≡ fold with_name (names_of names.old) (var_names tree.now home)) }
 {
-    for seen in 0..tree.count() {
-        let id = end_at(tree, seen);
-        names.add_any(var_name_in(tree, home, id, contexts[id as usize]))?;
+    for id in order {
+        let context = contexts[*id as usize];
+        names.add_any(var_name_in(tree, home, *id, context))?;
     }
     Ok(())
 }

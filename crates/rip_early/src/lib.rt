@@ -11,6 +11,7 @@
 //! | what | its definition in `specs/` |
 //! |---|---|
 //! | the nodes around a node, and the script or function that it is code of | `Around.around`, `Around.home_of` |
+//! | the nodes of a script in the order of its text | `Around.in_text` |
 //! | the names that a function and the one top scope bind | `Names.function_scope`, `Names.top_scope` |
 //! | the globals of the profile | `Names.globals` |
 //! | what a name means where it stands | `Scopes.meaning_at`: the first scope around it that binds it, or else a global |
@@ -34,6 +35,7 @@ mod meaning;
 mod mistake;
 mod names;
 mod node;
+mod order;
 mod program;
 mod refusal;
 mod scopes;

@@ -17,6 +17,7 @@ use crate::declared::form_of;
 use crate::meaning::{Meaning, meaning_of};
 use crate::mistake::Mistake;
 use crate::names::Names;
+use crate::order::text_order;
 use crate::refusal::EarlyRefusal;
 use crate::scopes::{scopes_of, top_names};
 use crate::script::script_mistake;
@@ -92,7 +93,8 @@ fn judge(
 {
     let parents = parents_of(alloc, tree)?;
     let contexts = contexts_of(alloc, tree, &parents)?;
-    let scopes = scopes_of(alloc, tree, &contexts)?;
+    let order = text_order(alloc, tree)?;
+    let scopes = scopes_of(alloc, tree, &contexts, &order)?;
     let least = script_mistake(alloc, tree, top, &contexts, &scopes)?;
     if least.is_some() {
         return Ok(least);

@@ -1,4 +1,6 @@
 ghost use Rattle.std.specs.Prelude.{◌≡◌, ℕ, ◌<◌, [], length, fold, option_map, if◌then◌else◌, slice_index_or, IfOk, OnOk};
+ghost use Rattle.std.specs.List.{All};
+ghost use Rattle.rip_early.specs.Around.{in_text};
 ghost use Rattle.rip_early.specs.Contexts.{AreContexts};
 ghost use Rattle.rip_early.specs.Gathered.{AreGathered, AreScopes};
 ghost use Rattle.rip_early.specs.Indexed.{names_of, with_any, IsIndexed};
@@ -6,10 +8,9 @@ ghost use Rattle.rip_early.specs.Names.{with_name, parameter_names, function_nam
 ghost use Rattle.rip_early.specs.declared.names.Names.{Names};
 
 use crate::context::{Context, contexts_of, parents_of};
-use crate::declared::{
-    add_functions, add_parameters, add_vars, end_at, form_of, name_of, var_piece,
-};
+use crate::declared::{add_functions, add_parameters, add_vars, form_of, name_of, var_piece};
 use crate::names::Names;
+use crate::order::text_order;
 use rip_tree::Tree;
 use rip_values::NoMemory;
 use std::alloc::Global;
@@ -34,21 +35,25 @@ fn add_script<'a>(alloc: Global, names: &mut Names<'a>, tree: &'a Tree) -> Resul
 {
     let parents = parents_of(alloc, tree)?;
     let contexts = contexts_of(alloc, tree, &parents)?;
+    let order = text_order(alloc, tree)?;
     add_functions(names, tree, 0)?;
-    add_vars(names, tree, 0, &contexts)
+    add_vars(names, tree, 0, &contexts, &order)
 }
 
-/// Of each node the scope that it would make as a function: its names.
+/// Of each node the scope that it would make as a function: its names. The nodes are known in the order of the text.
 pub(crate) fn scopes_of<'a>(
     alloc: Global,
     tree: &'a Tree,
     contexts: &[Context],
+    order: &[u32],
 ) -> Result<Vec<Names<'a>>, NoMemory>
-    requires { AreContexts tree.now (length tree.now.branches) contexts.now }
+    requires contexts { AreContexts tree.now (length tree.now.branches) contexts.now }
+    requires listed { order.now ≡ in_text tree.now }
+    requires within { All (λ id. id < length tree.now.branches) order.now }
     ensures { IfOk result (λ scopes. AreScopes tree.now scopes.items) }
 {
     let mut scopes = declared_scopes(alloc, tree)?;
-    add_all_vars(&mut scopes, tree, contexts)?;
+    add_all_vars(&mut scopes, tree, contexts, order)?;
     Ok(scopes)
 }
 
@@ -79,15 +84,18 @@ fn add_all_vars<'a>(
     scopes: &mut Vec<Names<'a>>,
     tree: &'a Tree,
     contexts: &[Context],
+    order: &[u32],
 ) -> Result<(), NoMemory>
     requires contexts { AreContexts tree.now (length tree.now.branches) contexts.now }
+    requires listed { order.now ≡ in_text tree.now }
+    requires within { All (λ id. id < length tree.now.branches) order.now }
     requires declared { AreGathered tree.now 0 (length tree.now.branches) scopes.old.items }
     ensures { OnOk result (AreScopes tree.now scopes.new.items) }
 {
-    for seen in 0..tree.count() {
-        let id = end_at(tree, seen);
-        let name = name_of(tree, var_piece(form_of(tree, id)));
-        add_var(scopes, contexts[id as usize].home, name)?;
+    for id in order {
+        let context = contexts[*id as usize];
+        let name = name_of(tree, var_piece(form_of(tree, *id)));
+        add_var(scopes, context.home, name)?;
     }
     Ok(())
 }
