@@ -1,5 +1,5 @@
 -- What joined trees hold, and how they are kept.
-use Rattle.std.specs.Prelude.{◌^◌, ◌<◌, length}
+use Rattle.std.specs.Prelude.{ℕ, ◌^◌, ◌<◌, List, length}
 use Rattle.rip_tree.specs.Making.{branches_at, LieWithin}
 use Rattle.rip_tree.specs.Program.{Grove}
 use Rattle.rip_tree.specs.declared.joined.Joined.{Joined}
@@ -14,3 +14,8 @@ pub record IsJoined (j : Joined) : Type 0 where
   pub numbered : length j.rows.items < 2 ^ 32
   pub spanned : length j.units.items < 2 ^ 32
   pub listed : length j.roots.items < 2 ^ 32
+
+-- what a program keeps: its trees are joined, and 32 bits count the names of its top scope
+pub record IsProgram (trees : Joined) (top : List (List ℕ)) : Type 0 where
+  pub joined : IsJoined trees
+  pub counted : length top < 2 ^ 32

@@ -16,10 +16,12 @@ pub record Grove : Type 0 where
   pub units : List ℕ
   pub roots : List ℕ
 
--- what a program holds: its trees, how many bindings the top scope has, and of each node what the rules of scope say
+-- what a program holds: its trees, the names that the top scope binds, by place, of each script the places of those that
+-- it declares by `var` (ECMA-262 10.5), and of each node what the rules of scope say
 pub record Code : Type 0 where
   pub grove : Grove
-  pub top_names : ℕ
+  pub top : List (List ℕ)
+  pub vars : List (List ℕ)
   pub scoping : List Scoping
 
 -- the piece of units of which so many are there, when they stand behind others: the part that is there, moved
@@ -76,6 +78,10 @@ joined trees = fold with_tree (record { branches = []; units = []; roots = [] })
 -- of a script, which are numbered from 1, the number of its root; past the last it is 0
 abbrev pub root_of : Grove → ℕ → ℕ
 root_of g script = slice_index_or g.roots (script - 1) 0
+
+-- of a script, which are numbered from 1, the places of the names that it declares by `var`; past the last there are none
+abbrev pub vars_of : List (List ℕ) → ℕ → List ℕ
+vars_of vars script = slice_index_or vars (script - 1) []
 
 -- what the rules of scope say of the node with this number; past the last node they say nothing
 abbrev pub scoping_of : List Scoping → ℕ → Scoping

@@ -4,7 +4,8 @@
 //! the script itself, and a child's number is above its parent's. Reading is total. The forms are those of ECMA-262 11
 //! to 14 that the language has; parentheses and semicolons make no node. A [`TreeMaker`] makes a tree from the leaves
 //! up, in the order in which a parser ends its nodes. A [`Program`] is the trees of all scripts of a page, numbered
-//! through, with what the rules of scope say of each node: it holds what it is given, and reading it is total.
+//! through, with the names of their one top scope and what the rules of scope say of each node: it holds what it is given,
+//! and reading it is total.
 //!
 //! | what | its definition in `specs/` |
 //! |---|---|
@@ -13,6 +14,7 @@
 //! | [`Tree::units`] | `Branches.units_at` |
 //! | [`Program::new`] | `Program.joined`: the branches and units of each tree, moved behind those before it |
 //! | [`Program::root`] | `Program.root_of`, in the list of the roots of the scripts |
+//! | [`Program::top_name`], [`Program::vars`] | `Program.Code` has the names; `Program.vars_of`, in the list that it was given |
 //! | [`Program::names`], [`Program::resolved`], [`Program::is_own_name`] | `Program.scoping_of`, in the list that it was given |
 //! | [`Form::is_level`], [`Form::is_charged`] | `Levels.level_of`, one line for each form |
 #![tactic(auto)]

@@ -1,11 +1,11 @@
-ghost use Rattle.std.specs.Prelude.{◌≡◌, ◌<◌, length, Some, IfOk};
+ghost use Rattle.std.specs.Prelude.{◌≡◌, ◌<◌, length, Some, IfOk, option_map, slice_get};
 ghost use Rattle.rip_tree.specs.Branches.{child_of, node_of, units_at};
-ghost use Rattle.rip_tree.specs.Program.{joined, root_of, scoping_of};
+ghost use Rattle.rip_tree.specs.Program.{joined, root_of, scoping_of, vars_of};
 
 use crate::joined::Joined;
 use crate::node::{Node, Piece};
 use crate::tree::Tree;
-use rip_values::NoMemory;
+use rip_values::{List, NoMemory, Units};
 use std::alloc::Global;
 use std::marker::Model;
 
@@ -31,41 +31,49 @@ pub struct Scoping {
 }
 
 /// The program of a page: the nodes of all its scripts, numbered through in the order of the scripts, with what the
-/// rules of scope say of each. Reading is total, and takes the same time in every program.
+/// rules of scope say of each, and the names of the one top scope. Reading is total, and takes the same time in every
+/// program.
 #[derive(Debug, Drop)]
 pub struct Program {
     trees: Joined,
-    top_names: u32,
+    top: Vec<Units>,
+    vars: Vec<List<u32>>,
     scoping: Vec<Scoping>,
 }
 
 impl Model for Program {
     ghost use Rattle.rip_tree.specs.Program.{Code};
-    ghost use Rattle.rip_tree.specs.Joining.{grove_of, IsJoined};
+    ghost use Rattle.rip_tree.specs.Joining.{grove_of, IsProgram};
 
     ghost Value = { Code };
 
-    ghost view = { λ p. record { grove = grove_of p.trees; top_names = p.top_names; scoping = p.scoping.items } };
+    ghost view = { λ p. record { grove = grove_of p.trees; top = p.top.items; vars = p.vars.items; scoping = p.scoping.items } };
 
-    ghost invariant = { λ p. IsJoined p.trees };
+    ghost invariant = { λ p. IsProgram p.trees p.top.items };
 }
 
 impl Program {
-    /// The program of these trees, where the top scope has so many bindings and the rules of scope say this of each
-    /// node; of nodes past the last of which they speak they say nothing. Trees whose nodes or units 32 bits cannot count
-    /// are refused as want of memory.
+    /// The program of these trees, where the top scope binds these names, by place, each script declares the names at
+    /// these places by `var`, and the rules of scope say this of each node; of nodes past the last of which they speak
+    /// they say nothing. Trees whose nodes or units 32 bits cannot count, and names that they cannot count, are refused as
+    /// want of memory.
     pub fn new(
         alloc: Global,
         trees: &[Tree],
-        top_names: u32,
+        top: Vec<Units>,
+        vars: Vec<List<u32>>,
         scoping: Vec<Scoping>,
     ) -> Result<Program, NoMemory>
-        ensures { IfOk result (λ program. program ≡ record { grove = joined trees.now; top_names = top_names; scoping = scoping.items }) }
+        ensures { IfOk result (λ program. program ≡ record { grove = joined trees.now; top = top.items; vars = vars.items; scoping = scoping.items }) }
     {
+        if top.len() > u32::MAX as usize {
+            return Err(NoMemory);
+        }
         let trees = Joined::of(alloc, trees)?;
         Ok(Program {
             trees,
-            top_names,
+            top,
+            vars,
             scoping,
         })
     }
@@ -120,11 +128,33 @@ impl Program {
         self.trees.root(script)
     }
 
-    /// How many bindings the one top scope of all scripts has.
+    /// How many names the one top scope of all scripts binds.
     pub fn top_names(&self) -> u32
-        ensures { result ≡ self.now.top_names }
+        ensures { result ≡ length self.now.top }
     {
-        self.top_names
+        self.top.len() as u32
+    }
+
+    /// The name that the top scope binds at this place, or none past the last.
+    pub fn top_name(&self, place: u32) -> Option<&[u16]>
+        ensures { option_map (λ n. n.now) result ≡ slice_get self.now.top place }
+    {
+        match self.top.get(place as usize) {
+            Some(name) => Some(name.as_slice()),
+            None => None,
+        }
+    }
+
+    /// The places in the top scope of the names that a script declares by `var`. Scripts are numbered from 1; past the
+    /// last there are none.
+    pub fn vars(&self, script: u32) -> &[u32]
+        ensures { result.now ≡ vars_of self.now.vars script }
+    {
+        let place = script.saturating_sub(1) as usize;
+        if place >= self.vars.len() {
+            return &[];
+        }
+        self.vars[place].as_slice()
     }
 
     /// How many bindings the scope of this function or catch clause has; of another node it is 0.

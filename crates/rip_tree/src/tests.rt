@@ -1,5 +1,5 @@
 use crate::{Form, Node, Piece, Program, Resolved, Scoping, Tree, TreeMaker};
-use rip_values::{BinaryOperator, Whole};
+use rip_values::{BinaryOperator, List, Units, Whole};
 use std::alloc::{AllocError, Global};
 use std::test::Fail;
 
@@ -131,9 +131,18 @@ fn a_program_is_read(rt: HostRuntime) -> Result<(), Fail> {
             is_own: place == 5,
         })?;
     }
-    let program = Program::new(rt.alloc(), &trees, 7, scoping)?;
+    let top = vec![in rt.alloc();
+        Units::from_slice(rt.alloc(), &[97])?,
+        Units::from_slice(rt.alloc(), &[98, 99])?,
+    ]?;
+    let vars = vec![in rt.alloc(); List::from_slice(rt.alloc(), &[1])?]?;
+    let program = Program::new(rt.alloc(), &trees, top, vars, scoping)?;
     assert_eq!(rt; program.count(), 6);
-    assert_eq!(rt; (program.scripts(), program.top_names()), (2, 7));
+    assert_eq!(rt; (program.scripts(), program.top_names()), (2, 2));
+    assert_eq!(rt; program.top_name(1), Some([98, 99].as_slice()));
+    assert!(rt; program.top_name(2).is_none());
+    assert_eq!(rt; program.vars(1), [1].as_slice());
+    assert!(rt; program.vars(2).is_empty());
     assert_eq!(rt;
         (program.root(1), program.root(2), program.root(3)),
         (0, 3, 0)
