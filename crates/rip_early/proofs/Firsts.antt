@@ -1,9 +1,9 @@
 -- The first early error of all scripts.
-use Rattle.std.proofs.Common.{◌≡◌, ℕ, suc, ◌+◌, ◌<◌, ◌≤◌, inl, inr, List, [], ◌∷◌, ◌++◌, length, get_or, take, drop, Option, Some, None, refl, sym, ap, ◌∙◌, subst, arith}
+use Rattle.std.proofs.Common.{◌≡◌, ℕ, suc, ◌+◌, ◌<◌, ◌≤◌, inl, inr, List, [], ◌∷◌, ◌++◌, length, map, get_or, take, drop, Option, Some, None, refl, sym, ap, ◌∙◌, subst, arith}
 use Rattle.std.specs.List.{All, Contains, flat_map}
 use Rattle.std.proofs.lemmas.Grind.{flat_map-append}
 use Rattle.std.proofs.Math.Seq.{drop-cons}
-use Rattle.std.proofs.lemmas.List.{append-nil, take-append-drop, take_more, length-take-le}
+use Rattle.std.proofs.lemmas.List.{append-nil, map-append, take-append-drop, take_more, length-take-le}
 use Rattle.std.proofs.lemmas.List.Elements.{All-contains, All-head, All-more, All-tail, Contains-append_right}
 use Rattle.rip_tree.specs.Branches.{Plant}
 use Rattle.rip_early.specs.declared.mistake.Mistake.{Mistake}
@@ -59,6 +59,15 @@ said_more f trees i tree old new within is was said =
     ∙ ap (λ xs. flat_map f (take i trees) ++ xs) (sym (append-nil (f tree)))
     ∙ sym (flat_map-append f (take i trees) (tree ∷ []))
     ∙ ap (flat_map f) (ap (λ t. take i trees ++ t ∷ []) is ∙ sym (take_more trees i tree within))
+
+-- one thing that is said of one script more
+pub said_one_more : {X : Type 0} (f : Plant → X) (trees : List Plant) (i : ℕ) (tree : Plant) (old new : List X) → i < length trees → tree ≡ get_or trees i tree
+    → old ≡ map f (take i trees) → new ≡ old ++ f tree ∷ [] → new ≡ map f (take (i + 1) trees)
+said_one_more f trees i tree old new within is was said =
+    said
+    ∙ ap (λ xs. xs ++ f tree ∷ []) was
+    ∙ sym (map-append f (take i trees) (tree ∷ []))
+    ∙ ap (map f) (ap (λ t. take i trees ++ t ∷ []) is ∙ sym (take_more trees i tree within))
 
 -- LAWS
 

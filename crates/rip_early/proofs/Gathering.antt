@@ -1,5 +1,6 @@
 -- Names that are added one after another.
 use Rattle.std.proofs.Common.{◌≡◌, ℕ, zero, suc, ◌+◌, ◌<◌, ◌≤◌, List, [], ◌∷◌, ◌++◌, length, map, take, append_assoc, filter_map, fold, Option, Some, None, if◌then◌else◌, get_or, refl, sym, ap, ◌∙◌, arith}
+use Rattle.std.specs.Prelude.{option_and_then, option_to_list}
 use Rattle.std.specs.List.{range_with_len, flat_map}
 use Rattle.std.proofs.Math.Seq.{take-length}
 use Rattle.std.proofs.lemmas.List.{map-append, take_all, take_more}
@@ -8,7 +9,7 @@ use Rattle.std.proofs.lemmas.List.Sums.{fold-append}
 use Rattle.rip_tree.specs.Branches.{Plant}
 use Rattle.rip_early.specs.Around.{home_of, in_text, present}
 use Rattle.rip_early.specs.Gathered.{gathered}
-use Rattle.rip_early.specs.Names.{Name, with_name, name_by, var_piece, is_number, parameter_names, function_names, var_names, var_name_in, function_scope, top_scope}
+use Rattle.rip_early.specs.Names.{Name, place_in, with_name, name_by, var_piece, is_number, parameter_names, function_names, var_names, var_name_in, function_scope, top_scope}
 use Rattle.rip_early.specs.Indexed.{with_any, name_of_child}
 
 -- the children of two lists of children
@@ -54,6 +55,25 @@ node-more f names ids seen d h =
     ∙ ap (fold with_name names) (filter_map-append f (take seen ids) (n ∷ []))
     ∙ fold-append with_name names (filter_map f (take seen ids)) (filter_map f (n ∷ []))
     ∙ one-more (fold with_name names (filter_map f (take seen ids))) (f n) f n refl
+
+-- the place of one name
+place-one : (names : List Name) (f : ℕ → Option Name) (id : ℕ) (o : Option Name) (place : Option ℕ) → f id ≡ o → option_and_then (place_in names) o ≡ place
+    → filter_map (place_in names) (filter_map f (id ∷ [])) ≡ option_to_list place
+place-one names f id None None named is = rw named refl
+place-one names f id None (Some place) named is = cc
+place-one names f id (Some name) None named is = rw named (rw is refl)
+place-one names f id (Some name) (Some place) named is = rw named (rw is refl)
+
+-- the places of the names of one node more
+pub place-more : (f : ℕ → Option Name) (names : List Name) (ids : List ℕ) (seen d : ℕ) → seen < length ids
+    → filter_map (place_in names) (filter_map f (take (seen + 1) ids))
+    ≡ filter_map (place_in names) (filter_map f (take seen ids)) ++ option_to_list (option_and_then (place_in names) (f (get_or ids seen d)))
+place-more f names ids seen d h =
+    let n = get_or ids seen d in
+    ap (λ ms. filter_map (place_in names) (filter_map f ms)) (take_more ids seen d h)
+    ∙ ap (filter_map (place_in names)) (filter_map-append f (take seen ids) (n ∷ []))
+    ∙ filter_map-append (place_in names) (filter_map f (take seen ids)) (filter_map f (n ∷ []))
+    ∙ ap (λ ps. filter_map (place_in names) (filter_map f (take seen ids)) ++ ps) (place-one names f n (f n) (option_and_then (place_in names) (f n)) refl refl)
 
 -- a scope, when a node more was looked at
 pub gathered-more : (t : Plant) (seen node id : ℕ) (old new : List Name) (home : Option ℕ) (name : Option Name)

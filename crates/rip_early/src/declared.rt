@@ -1,15 +1,17 @@
-ghost use Rattle.std.specs.Prelude.{◌≡◌, ◌<◌, fold, filter_map, length, option_map, OnOk};
+ghost use Rattle.std.specs.Prelude.{◌≡◌, ◌++◌, ◌<◌, fold, filter_map, length, option_and_then, option_map, option_to_list, IfOk, OnOk};
 ghost use Rattle.std.specs.List.{All};
 ghost use Rattle.rip_tree.specs.Branches.{units_at};
 ghost use Rattle.rip_early.specs.Around.{form_of, home_of, in_text};
 ghost use Rattle.rip_early.specs.Contexts.{AreContexts};
 ghost use Rattle.rip_early.specs.Indexed.{names_of, name_of_child, IsIndexed};
-ghost use Rattle.rip_early.specs.Names.{with_name, name_by, parameter_piece, parameter_names, declared_piece, function_names, var_piece, var_name_in, var_names};
+ghost use Rattle.rip_early.specs.Names.{place_in, with_name, name_by, parameter_piece, parameter_names, declared_piece, function_names, var_piece, var_name_in, var_names};
+ghost use Rattle.rip_early.specs.Program.{declared_places};
 
 use crate::context::Context;
 use crate::names::Names;
 use rip_tree::{Form, Piece, Tree};
 use rip_values::NoMemory;
+use std::alloc::Global;
 
 /// The form of a node, or past the last that of the empty statement.
 pub(crate) fn form_of(tree: &Tree, id: u32) -> Form
@@ -144,6 +146,45 @@ pub(crate) fn add_vars<'a>(
     for id in order {
         let context = contexts[*id as usize];
         names.add_any(var_name_in(tree, home, *id, context))?;
+    }
+    Ok(())
+}
+
+/// The places among these names of those that a script declares by `var`. The nodes are known in the order of the text.
+pub(crate) fn declared_places(
+    alloc: Global,
+    tree: &Tree,
+    names: &Names<'_>,
+    contexts: &[Context],
+    order: &[u32],
+) -> Result<Vec<u32>, NoMemory>
+    requires kept { IsIndexed names.now }
+    requires contexts { AreContexts tree.now (length tree.now.branches) contexts.now }
+    requires listed { order.now ≡ in_text tree.now }
+    requires within { All (λ id. id < length tree.now.branches) order.now }
+    ensures { IfOk result (λ places. places.items ≡ declared_places (names_of names.now) tree.now) }
+{
+    let mut places = Vec::new(alloc);
+    for id in order {
+        let name = var_name_in(tree, 0, *id, contexts[*id as usize]);
+        push_place(&mut places, names, name)?;
+    }
+    Ok(places)
+}
+
+/// Adds the place of a name among these names, if it is one of them.
+fn push_place(
+    places: &mut Vec<u32>,
+    names: &Names<'_>,
+    name: Option<&[u16]>,
+) -> Result<(), NoMemory>
+    requires { IsIndexed names.now }
+    ensures { OnOk result (places.new.items ≡ places.old.items ++ option_to_list (option_and_then (place_in (names_of names.now)) (option_map (λ n. n.now) name.entry))) }
+{
+    if let Some(name) = name {
+        if let Some(place) = names.place(name) {
+            places.push(place)?;
+        }
     }
     Ok(())
 }

@@ -1,8 +1,8 @@
-ghost use Rattle.std.specs.Prelude.{◌≡◌, [], ◌∷◌, ◌++◌, length, option_map, OnOk};
+ghost use Rattle.std.specs.Prelude.{◌≡◌, [], ◌∷◌, ◌++◌, length, option_map, IfOk, OnOk};
 ghost use Rattle.rip_early.specs.Names.{place_in, with_name};
 ghost use Rattle.rip_early.specs.Indexed.{names_of, with_any, IsIndexed};
 
-use rip_values::NoMemory;
+use rip_values::{NoMemory, Units};
 use std::alloc::Global;
 use std::collections::BTreeMap;
 
@@ -39,6 +39,17 @@ impl<'a> Names<'a> {
         ensures { result ≡ place_in (names_of self.now) name.now }
     {
         self.places.get(name).copied()
+    }
+
+    /// The names themselves, by place.
+    pub fn units(&self, alloc: Global) -> Result<Vec<Units>, NoMemory>
+        ensures { IfOk result (λ names. names.items ≡ names_of self.now) }
+    {
+        let mut names = Vec::new(alloc);
+        for name in &self.list {
+            names.push(Units::from_slice(alloc, name)?)?;
+        }
+        Ok(names)
     }
 
     /// Adds a name behind the others, if it is none of them.

@@ -1,4 +1,4 @@
-ghost use Rattle.std.specs.Prelude.{◌≡◌, ◌+◌, ◌++◌, ◌<◌, length, IfErr, IfOk, OnOk};
+ghost use Rattle.std.specs.Prelude.{◌≡◌, ◌+◌, [], ◌∷◌, ◌++◌, ◌<◌, length, map, IfErr, IfOk, OnOk};
 ghost use Rattle.std.specs.List.{flat_map};
 ghost use Rattle.rip_tree.specs.Branches.{ChildrenFollow};
 ghost use Rattle.rip_early.specs.Around.{form_of};
@@ -9,11 +9,11 @@ ghost use Rattle.rip_early.specs.Laws.{AreNotClean, HaveOneFirst};
 ghost use Rattle.rip_early.specs.Least.{IsLeast};
 ghost use Rattle.rip_early.specs.Mistakes.{mistakes, AreClean, IsRefusalOf};
 ghost use Rattle.rip_early.specs.Names.{function_scope, top_scope};
-ghost use Rattle.rip_early.specs.Program.{script_scoping, program_of};
+ghost use Rattle.rip_early.specs.Program.{declared_places, script_scoping, program_of};
 ghost use Rattle.rip_early.specs.Scopes.{binding_count, first_binding, no_meaning, name_meaning, node_meaning, own_meaning, scoping_at};
 
 use crate::context::{Context, contexts_of, parents_of};
-use crate::declared::form_of;
+use crate::declared::{declared_places, form_of};
 use crate::meaning::{Meaning, meaning_of};
 use crate::mistake::Mistake;
 use crate::names::Names;
@@ -22,8 +22,16 @@ use crate::refusal::EarlyRefusal;
 use crate::scopes::{scopes_of, top_names};
 use crate::script::script_mistake;
 use rip_tree::{Form, Piece, Program, Resolved, Scoping, Tree, Trees};
-use rip_values::NoMemory;
+use rip_values::{List, NoMemory};
 use std::alloc::Global;
+
+/// What the rules of scope say of scripts: of each node, and of each script the places in the top scope of the names that
+/// it declares by `var`.
+#[derive(Debug, Drop)]
+struct Resolution {
+    scoping: Vec<Scoping>,
+    vars: Vec<List<u32>>,
+}
 
 /// Checks the scripts of a page, in their order, before the first one runs: their program, or their first early error.
 /// Of scripts or nodes that 32 bits cannot count memory runs out.
@@ -35,8 +43,9 @@ pub fn check(alloc: Global, trees: &Trees) -> Result<Program, EarlyRefusal>
 {
     let scripts = trees.as_slice();
     let top = top_names(alloc, scripts)?;
-    let scoping = scoping_of(alloc, scripts, &top)?;
-    let program = Program::new(alloc, scripts, top.count(), scoping)?;
+    let Resolution { scoping, vars } = resolution_of(alloc, scripts, &top)?;
+    let names = top.units(alloc)?;
+    let program = Program::new(alloc, scripts, names, vars, scoping)?;
     Ok(program)
 }
 
@@ -46,23 +55,27 @@ pub fn refusals_are_one()
     ensures apart { AreNotClean }
 {}
 
-/// What the rules of scope say of the nodes of all scripts, or their first early error.
-fn scoping_of(
+/// What the rules of scope say of all scripts, or their first early error.
+fn resolution_of(
     alloc: Global,
     scripts: &[Tree],
     top: &Names<'_>,
-) -> Result<Vec<Scoping>, EarlyRefusal>
+) -> Result<Resolution, EarlyRefusal>
     requires kept { IsIndexed top.now }
     requires named { names_of top.now ≡ top_scope scripts.now }
     ensures clean { OnOk result (AreClean scripts.now) }
-    ensures made { IfOk result (λ scoping. scoping.items ≡ flat_map (script_scoping (top_scope scripts.now)) scripts.now) }
+    ensures scoping { IfOk result (λ said. said.scoping.items ≡ flat_map (script_scoping (top_scope scripts.now)) scripts.now) }
+    ensures vars { IfOk result (λ said. said.vars.items ≡ map (declared_places (top_scope scripts.now)) scripts.now) }
     ensures first { IfErr result (IsRefusalOf scripts.now) }
 {
-    let mut scoping = Vec::new(alloc);
+    let mut said = Resolution {
+        scoping: Vec::new(alloc),
+        vars: Vec::new(alloc),
+    };
     let mut script = 0u32;
     for tree in scripts {
         script = number_after(script)?;
-        if let Some(found) = judge(alloc, &mut scoping, tree, top)? {
+        if let Some(found) = judge(alloc, &mut said, tree, top)? {
             return Err(EarlyRefusal::At {
                 script,
                 place: found.place,
@@ -70,7 +83,7 @@ fn scoping_of(
             });
         }
     }
-    Ok(scoping)
+    Ok(said)
 }
 
 /// The number of the script behind the one with this number.
@@ -80,16 +93,17 @@ fn number_after(script: u32) -> Result<u32, NoMemory>
     script.checked_add(1).ok_or(NoMemory)
 }
 
-/// The early error of a script that counts first; if it has none, adds what the rules of scope say of its nodes.
+/// The early error of a script that counts first; if it has none, adds what the rules of scope say of it.
 fn judge(
     alloc: Global,
-    scoping: &mut Vec<Scoping>,
+    said: &mut Resolution,
     tree: &Tree,
     top: &Names<'_>,
 ) -> Result<Option<Mistake>, NoMemory>
     requires { IsIndexed top.now }
     ensures least { IfOk result (λ least. IsLeast (mistakes (names_of top.now) tree.now) least) }
-    ensures added { IfOk result (λ least. least ≡ None → scoping.new.items ≡ scoping.old.items ++ script_scoping (names_of top.now) tree.now) }
+    ensures scoping { IfOk result (λ least. least ≡ None → said.new.scoping.items ≡ said.old.scoping.items ++ script_scoping (names_of top.now) tree.now) }
+    ensures vars { IfOk result (λ least. least ≡ None → said.new.vars.items ≡ said.old.vars.items ++ declared_places (names_of top.now) tree.now ∷ []) }
 {
     let parents = parents_of(alloc, tree)?;
     let contexts = contexts_of(alloc, tree, &parents)?;
@@ -99,7 +113,9 @@ fn judge(
     if least.is_some() {
         return Ok(least);
     }
-    push_scoping(scoping, tree, top, &contexts, &scopes)?;
+    push_scoping(&mut said.scoping, tree, top, &contexts, &scopes)?;
+    let places = declared_places(alloc, tree, top, &contexts, &order)?;
+    said.vars.push(List::from_vec(places))?;
     Ok(least)
 }
 

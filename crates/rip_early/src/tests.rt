@@ -1,6 +1,6 @@
 use crate::{EarlyKind, EarlyRefusal, check};
 use rip_tree::{Form, Node, Piece, Resolved, TextLiteral, Tree, TreeMaker, Trees};
-use rip_values::NoMemory;
+use rip_values::{NoMemory, Whole};
 use std::alloc::Global;
 use std::test::Fail;
 
@@ -18,6 +18,12 @@ const READS_NOTHING: [u16; 16] = [
 const BINDS_THREE: [u16; 40] = [
     34, 117, 115, 101, 32, 115, 116, 114, 105, 99, 116, 34, 59, 118, 97, 114, 32, 97, 59, 105, 102,
     40, 78, 97, 78, 41, 123, 118, 97, 114, 32, 98, 59, 125, 118, 97, 114, 32, 99, 59,
+];
+
+/// The script `"use strict";try{}catch(e){var e=1;}` and its units.
+const DECLARES_IN_A_CLAUSE: [u16; 36] = [
+    34, 117, 115, 101, 32, 115, 116, 114, 105, 99, 116, 34, 59, 116, 114, 121, 123, 125, 99, 97,
+    116, 99, 104, 40, 101, 41, 123, 118, 97, 114, 32, 101, 61, 49, 59, 125,
 ];
 
 /// The tree of a script of two statements: the directive, and behind its 13 units a name of three.
@@ -126,6 +132,38 @@ fn names_are_bound_in_the_order_of_the_text(rt: HostRuntime) -> Result<(), Fail>
     Ok(())
 }
 
+/// The tree of the script whose name of `var` is that of the clause around it.
+fn tree_of_clause(alloc: Global) -> Result<Tree, Fail> {
+    let mut maker = TreeMaker::new(alloc, 10, &DECLARES_IN_A_CLAUSE)?;
+    let one = Whole::new(1).ok_or("one is whole")?;
+    let number = maker.push(node(0, Form::Number(one)), &[])?;
+    let declared = Form::Declarator(Piece {
+        start: 31,
+        count: 1,
+    });
+    let declarator = maker.push(node(0, declared), &[Some(number)])?;
+    let var = maker.push(node(0, Form::Var), &[Some(declarator)])?;
+    let block = maker.push(node(0, Form::Block), &[Some(var)])?;
+    let caught = Form::Catch(Piece {
+        start: 24,
+        count: 1,
+    });
+    let clause = maker.push(node(0, caught), &[Some(block)])?;
+    let tried = maker.push(node(0, Form::Block), &[])?;
+    let second = maker.push(node(0, Form::Try), &[Some(tried), Some(clause), None])?;
+    let directive = Form::Text(TextLiteral {
+        value: Piece {
+            start: 1,
+            count: 10,
+        },
+        is_plain: true,
+    });
+    let text = maker.push(node(0, directive), &[])?;
+    let first = maker.push(node(0, Form::Expression), &[Some(text)])?;
+    maker.push(node(0, Form::Script), &[Some(first), Some(second)])?;
+    Ok(maker.finish())
+}
+
 #[test]
 fn scripts_without_an_early_error_are_a_program(rt: HostRuntime) -> Result<(), Fail> {
     let script = tree_of(rt.alloc(), &READS_A_GLOBAL)?;
@@ -133,6 +171,20 @@ fn scripts_without_an_early_error_are_a_program(rt: HostRuntime) -> Result<(), F
     let program = check(rt.alloc(), &trees)?;
     assert_eq!(rt; (program.count(), program.top_names()), (5, 0));
     assert_eq!(rt; program.resolved(4), Some(Resolved::Global(11)));
+    Ok(())
+}
+
+/// The name of `var` is one of the top scope, and what it means where it stands is the binding of the clause.
+#[test]
+fn a_name_of_var_in_a_clause_is_one_of_the_top_scope(rt: HostRuntime) -> Result<(), Fail> {
+    let script = tree_of_clause(rt.alloc())?;
+    let trees = Trees::from_vec(vec![in rt.alloc(); script]?);
+    let program = check(rt.alloc(), &trees)?;
+    assert_eq!(rt; program.top_names(), 1);
+    assert_eq!(rt; program.top_name(0), Some([101].as_slice()));
+    assert_eq!(rt; program.vars(1), [0].as_slice());
+    let inner = Some(Resolved::Binding { up: 0, place: 0 });
+    assert_eq!(rt; program.resolved(8), inner);
     Ok(())
 }
 
