@@ -8,4 +8,3 @@ pub mod Resumes
 pub mod Scopes
 pub mod StepLaws
 pub mod TextsStand
-pub mod Vars

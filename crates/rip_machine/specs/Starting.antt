@@ -61,5 +61,5 @@ call_begun p depth this args NotCallable w = Runs (throws ThrownTypeError w)
 
 -- what a start comes to, where so much depth is left for the run
 abbrev pub begun : Loaded → ℕ → Start → World → Beginning
-begun p depth (start.Script n) w = script_begun p depth (root_of p.code.grove n) (script_entered p (root_of p.code.grove n) w)
+begun p depth (start.Script n) w = script_begun p depth (root_of p.code.grove n) (script_entered p n w)
 begun p depth (start.Function f this args) w = call_begun p depth this args.now (callable w (Object f)) w

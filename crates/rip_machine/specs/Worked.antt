@@ -1,5 +1,5 @@
 -- Worked scripts, whose counts were found by hand from the table of charges. The meaning gives them.
-use Rattle.std.specs.Prelude.{ℕ, ◌-◌, suc, pos, true, false, List, [], ◌∷◌, Option, None, Some, replicate, option_map}
+use Rattle.std.specs.Prelude.{ℕ, ◌-◌, suc, pos, true, false, List, [], ◌∷◌, length, codes, Option, None, Some, replicate, option_map}
 use Rattle.rip_values.specs.declared.operator.BinaryOperator.TheVariants.{Less}
 use Rattle.rip_values.specs.declared.operator.StepOperator.TheVariants.{Increment}
 use Rattle.rip_values.specs.declared.value.Fault.TheVariants.{NotInProfile}
@@ -40,16 +40,16 @@ no_name = record { names = 0; resolved = None; is_own = false }
 abbrev pub names : ℕ → ℕ → Scoping
 names up place = record no_name { resolved = Some (Binding up place) }
 
--- the only script of a page, whose top scope has so many bindings
-abbrev pub script : ℕ → List Branch → List Scoping → Loaded
-script top branches scoping = record {
-  code = record { grove = record { branches = branches; units = []; roots = 0 ∷ [] }; top_names = top; scoping = scoping };
+-- the only script of a page, whose top scope has these names, of which it declares those at these places by `var`
+abbrev pub script : List (List ℕ) → List ℕ → List Branch → List Scoping → Loaded
+script top vars branches scoping = record {
+  code = record { grove = record { branches = branches; units = []; roots = 0 ∷ [] }; top = top; vars = vars ∷ []; scoping = scoping };
   literals = [];
 }
 
 -- "use strict";var i=0;while(i<3){i++;}
 abbrev pub counting : Loaded
-counting = script 1
+counting = script (codes "i" ∷ []) (0 ∷ [])
     (node form.Script (Some 1 ∷ Some 3 ∷ Some 6 ∷ [])
     ∷ node form.Expression (Some 2 ∷ [])
     ∷ node text []
@@ -69,7 +69,7 @@ counting = script 1
 
 -- "use strict";function c(){var n=0;return function(){n++;return n;};}var f=c();f();var r=f();
 abbrev pub closing : Loaded
-closing = script 3
+closing = script (codes "c" ∷ codes "f" ∷ codes "r" ∷ []) (1 ∷ 2 ∷ [])
     (node form.Script (Some 1 ∷ Some 3 ∷ Some 14 ∷ Some 18 ∷ Some 21 ∷ [])
     ∷ node form.Expression (Some 2 ∷ [])
     ∷ node text []
@@ -105,10 +105,10 @@ closing = script 3
 abbrev pub at_first : Loaded → ℕ → World
 at_first p limit = record {
   limit = limit;
-  cells = suc p.code.top_names;
+  cells = suc (length p.code.top);
   pool = record { units = []; used = 0; limit = 0; text_limit = 0 };
   objects = [];
-  scopes = record { parent = None; bindings = replicate p.code.top_names None } ∷ [];
+  scopes = record { parent = None; bindings = replicate (length p.code.top) None } ∷ [];
 }
 
 -- a host with nothing behind it

@@ -157,12 +157,12 @@ impl Machine {
     ) -> Result<(), Refused>
         ensures keeps { IfOk result (λ _. (self.new.literals ≡ self.old.literals) × (self.new.depth ≡ self.old.depth)) }
         ensures nested { IsInside (self.new.depth + 1) self.new.control self.new.frames }
-        ensures starts { Starts (table (loaded program.now self.old)) (let root = root_of program.now.grove script in script_begun (loaded program.now self.old) self.old.depth root (script_entered (loaded program.now self.old) root heap.old)) fuel heap.old heap.new self.old self.new result }
+        ensures starts { Starts (table (loaded program.now self.old)) (script_begun (loaded program.now self.old) self.old.depth (root_of program.now.grove script) (script_entered (loaded program.now self.old) script heap.old)) fuel heap.old heap.new self.old self.new result }
         ensures grows { Grows heap.old heap.new }
     {
-        let root = program.root(script);
-        match self.enter_script(alloc, program, heap, root) {
+        match self.enter_script(alloc, program, heap, script) {
             Ok(true) => {
+                let root = program.root(script);
                 let at = script_part(root, self.depth);
                 self.begin_list(program, &at, Ending::Script, 0, fuel)
             },
@@ -263,16 +263,16 @@ impl Machine {
         alloc: Global,
         program: &Program,
         heap: &mut Heap,
-        root: u32,
+        script: u32,
     ) -> Result<bool, NoMemory>
-        ensures entered { IfOk result (λ fits. MatchBool fits (script_entered (loaded program.now self.now) root heap.old ≡ Some heap.new) ((script_entered (loaded program.now self.now) root heap.old ≡ None) × (heap.new ≡ heap.old))) }
+        ensures entered { IfOk result (λ fits. MatchBool fits (script_entered (loaded program.now self.now) script heap.old ≡ Some heap.new) ((script_entered (loaded program.now self.now) script heap.old ≡ None) × (heap.new ≡ heap.old))) }
         ensures grows { Grows heap.old heap.new }
     {
         let p = Source {
             program,
             literals: self.literals.as_slice(),
         };
-        enter_script(alloc, &p, heap, root)
+        enter_script(alloc, &p, heap, script)
     }
 
     /// The scope of a function that is entered; none where the charge would pass the limit.
