@@ -118,7 +118,7 @@ no_host s w request = (host.Fault NotInProfile, w, s)
 -- how the script comes out with so many cells as the limit and so much fuel, after k units, where 64 is the depth; none
 -- where it may not begin
 abbrev pub comes_out : Loaded → ℕ → ℕ → ℕ → Option (Answer (Unit {0}))
-comes_out p limit fuel k = option_map (λ w. run_of no_host (table p) 64 (script_row p 0 64 w) tt fuel k) (script_entered p 0 (at_first p limit))
+comes_out p limit fuel k = option_map (λ w. run_of no_host (table p) 64 (script_row p 0 64 w) tt fuel k) (script_entered p 1 (at_first p limit))
 
 -- what is seen of an answer: how it ends, the units left or the depth that is open, the cells, and the top binding at a
 -- place
