@@ -223,8 +223,10 @@ fn enter<H: Host>(
         *control = Control::Give(Completion::Normal(v));
         return Ok(());
     }
-    let next = begin(alloc, p, heap, part)?;
-    open(stack, &next, part.room.saturating_sub(1), control)
+    match begin(alloc, p, heap, part) {
+        Ok(next) => open(stack, &next, part.room.saturating_sub(1), control),
+        Err(NoMemory) => Err(NoMemory),
+    }
 }
 
 /// A completion is given to the innermost frame; where there is none, nothing is done.
@@ -252,9 +254,13 @@ fn give<H: Host>(
         None => return Ok(false),
     };
     let room = frame.part().room.saturating_sub(1);
-    let next = finish(alloc, p, heap, host, frame, stack.values(), &c)?;
-    reopen(stack, &next, room, control)?;
-    Ok(true)
+    match finish(alloc, p, heap, host, frame, stack.values(), &c) {
+        Ok(next) => {
+            reopen(stack, &next, room, control)?;
+            Ok(true)
+        },
+        Err(NoMemory) => Err(NoMemory),
+    }
 }
 
 /// One step of a run, and whether there was one: none where no unit is left for a part, or the run is at its end.

@@ -21,22 +21,22 @@ returns-in-Some-clause-rest g c u =
 
 pub open-requires : goal.open-requires
 open-requires g c =
-    entered_fits (table c.args.p.now) c.in_ok-next.next c.args.part.now c.args.part.now.room (c.args.stack.now.most - length c.args.stack.now.frames) c.args.heap.now c.begin.new.heap refl c.requires.1 (c.in_ok-next.ensures.row [])
+    entered_fits (table c.args.p.now) c.in-Ok.next c.args.part.now c.args.part.now.room (c.args.stack.now.most - length c.args.stack.now.frames) c.args.heap.now c.begin.new.heap refl c.requires.1 (c.in-Ok.ensures.row [])
 
-pub returns-clause-rest : goal.returns-clause-rest
-returns-clause-rest g c =
+pub returns-in-Ok-clause-rest : goal.returns-in-Ok-clause-rest
+returns-in-Ok-clause-rest g c =
     let h = host_calls g.H.Host.read_gives g.H.Host.write_gives g.H.Host.call_gives in
-    let stack : Frames = record c.args.stack.now { frames = c.args.stack.now.frames ++ frame_of c.in_ok-next.next [] } in
+    let stack : Frames = record c.args.stack.now { frames = c.args.stack.now.frames ++ frame_of c.in-Ok.next [] } in
     let inside : c.saturating_sub.result ≡ c.args.part.now.room - 1 = search rules in
-    ok_both c.open.result (c.open.new.control ≡ control_of c.saturating_sub.result c.in_ok-next.next) (c.open.new.stack ≡ stack)
+    ok_both c.open.result (c.open.new.control ≡ control_of c.saturating_sub.result c.in-Ok.next) (c.open.new.stack ≡ stack)
     ((u : ℕ) → rest h (table c.args.p.now) c.open.new.control c.open.new.stack.frames u c.begin.new.heap c.args.host.now ≡ rest h (table c.args.p.now) (Enter c.args.part.now) c.args.stack.now.frames (u + 1) c.args.heap.now c.args.host.now)
     c.open.ensures.control c.open.ensures.frames
-    (λ control f u. enter_rest h (table c.args.p.now) c.saturating_sub.result c.args.part.now c.in_ok-next.next c.args.stack.now.frames c.open.new.stack.frames c.open.new.control c.args.heap.now c.begin.new.heap c.args.host.now u (passes c.args.part.now.room c.in_ok-next.next c.in_ok-next.ensures.nests) inside c.in_ok-next.ensures.row control (ap (λ (m : Frames). m.frames) f))
+    (λ control f u. enter_rest h (table c.args.p.now) c.saturating_sub.result c.args.part.now c.in-Ok.next c.args.stack.now.frames c.open.new.stack.frames c.open.new.control c.args.heap.now c.begin.new.heap c.args.host.now u (passes c.args.part.now.room c.in-Ok.next c.in-Ok.ensures.nests) inside c.in-Ok.ensures.row control (ap (λ (m : Frames). m.frames) f))
 
-pub returns-clause-inside : goal.returns-clause-inside
-returns-clause-inside g c =
-    let stack : Frames = record c.args.stack.now { frames = c.args.stack.now.frames ++ frame_of c.in_ok-next.next [] } in
-    ok_both c.open.result (c.open.new.control ≡ control_of c.saturating_sub.result c.in_ok-next.next) (c.open.new.stack ≡ stack)
+pub returns-in-Ok-clause-inside : goal.returns-in-Ok-clause-inside
+returns-in-Ok-clause-inside g c =
+    let stack : Frames = record c.args.stack.now { frames = c.args.stack.now.frames ++ frame_of c.in-Ok.next [] } in
+    ok_both c.open.result (c.open.new.control ≡ control_of c.saturating_sub.result c.in-Ok.next) (c.open.new.stack ≡ stack)
     (IsInside c.open.new.stack.most c.open.new.control c.open.new.stack.frames)
     c.open.ensures.control c.open.ensures.frames
-    (λ control f. went_inside c.args.stack.now c.open.new.stack c.args.part.now.room c.saturating_sub.result c.in_ok-next.next [] c.args.stack.now.frames c.open.new.control c.requires.0 c.requires.1 c.in_ok-next.ensures.nests control f)
+    (λ control f. went_inside c.args.stack.now c.open.new.stack c.args.part.now.room c.saturating_sub.result c.in-Ok.next [] c.args.stack.now.frames c.open.new.control c.requires.0 c.requires.1 c.in-Ok.ensures.nests control f)
