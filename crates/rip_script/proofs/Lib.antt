@@ -8,6 +8,5 @@ pub mod Writing
 pub mod Printing
 pub mod Runs
 pub mod Commands
-pub mod Declaring
 pub mod Evaluating
 pub mod Reporting

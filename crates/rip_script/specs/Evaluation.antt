@@ -1,5 +1,5 @@
 -- What a run of a script comes to, in the terms of the evaluator.
-use Rattle.std.specs.Prelude.{◌≡◌, ◌⊎◌, ℕ, [], None, Some, Ok, Err}
+use Rattle.std.specs.Prelude.{◌≡◌, ◌⊎◌, ℕ, [], length, None, Some, Ok, Err}
 use Rattle.rip_values.specs.declared.value.Limit.{Limit}
 use Rattle.rip_values.specs.declared.value.Limit.TheVariants.{Cells}
 use Rattle.rip_values.specs.declared.value.Refused.TheVariants.{Limit as At}
@@ -39,7 +39,7 @@ machine_at_first limits = record { control = Give (Normal Undefined); frames = [
 
 -- the world has the top scope, scope 0, and nothing else
 abbrev pub HasTopScope : RunLimits → Code → World → Type 0
-HasTopScope limits code w = new_scope (world_at_first limits) None code.top_names ≡ Some (0, w)
+HasTopScope limits code w = new_scope (world_at_first limits) None (length code.top) ≡ Some (0, w)
 
 -- what the start of the only script of a program comes to
 abbrev pub script_begins : Code → Standing → World → Beginning
@@ -74,7 +74,7 @@ stopped limit w = record { outcome = LimitPassed limit; spent = 0; heap = w }
 
 -- the cells of the top scope would pass the limit
 pub record LacksScope (limits : RunLimits) (code : Code) (ended : Ended) : Type 0 where
-  pub none : new_scope (world_at_first limits) None code.top_names ≡ None
+  pub none : new_scope (world_at_first limits) None (length code.top) ≡ None
   pub is : ended ≡ stopped Cells (world_at_first limits)
 
 -- the texts of the program would pass a limit

@@ -130,7 +130,7 @@ pub record IsRun (bytes : List ℕ) (limits : RunLimits) (text : List ℕ) : Typ
   pub clean : AreClean (tree ∷ [])
   pub ended : Ended
   pub evaluated : IsEvaluated limits (program_of (tree ∷ [])) ended
-  pub text-is : text ≡ run_text tree (program_of (tree ∷ [])) ended
+  pub text-is : text ≡ run_text (program_of (tree ∷ [])) ended
 
 -- what is put for bytes that are accepted
 abbrev pub AnswersBytes : Task → List ℕ → List ℕ → Type 0

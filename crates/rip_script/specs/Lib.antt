@@ -3,7 +3,6 @@ pub mod Words
 pub mod Texts
 pub mod Forms
 pub mod Values
-pub mod TopNames
 pub mod Evaluation
 pub mod Report
 pub mod Given

@@ -1,20 +1,17 @@
 -- What is put for a run of a script.
-use Rattle.std.specs.Prelude.{ℕ, List, [], ◌∷◌, ◌++◌, length, map, Option, Some, None, codes, decimal}
+use Rattle.std.specs.Prelude.{ℕ, List, [], ◌∷◌, ◌++◌, length, map, Option, Some, None, codes, decimal, slice_get}
 use Rattle.std.specs.List.{range_with_len}
 use Rattle.rip_values.specs.declared.value.Fault.{Fault}
 use Rattle.rip_values.specs.declared.value.Fault.TheVariants as fault
 use Rattle.rip_values.specs.declared.value.Limit.{Limit}
 use Rattle.rip_values.specs.declared.value.Limit.TheVariants as limit
 use Rattle.rip_values.specs.declared.value.Value.{Value}
-use Rattle.rip_tree.specs.Branches.{Plant, units_at}
 use Rattle.rip_tree.specs.Program.{Code}
-use Rattle.rip_tree.specs.declared.node.Piece.{Piece}
 use Rattle.rip_heap.specs.Scopes.{binding, bindings_of}
 use Rattle.rip_heap.specs.World.{World, scope_at}
 use Rattle.rip_machine.specs.declared.outcome.Outcome.{Outcome}
 use Rattle.rip_machine.specs.declared.outcome.Outcome.TheVariants as outcome
 use Rattle.rip_script.specs.Lines.{lines_text}
-use Rattle.rip_script.specs.TopNames.{name_at, top_names}
 use Rattle.rip_script.specs.Values.{name_text, value_text}
 use Rattle.rip_script.specs.declared.evaluate.Ended.{Ended}
 use Rattle.rip_script.specs.declared.print.TheConstants.{LEVELS}
@@ -53,10 +50,10 @@ outcome_words w code (outcome.Fault f) = codes "fault" ∷ fault_word f ∷ []
 outcome_words w code (outcome.Limit l) = codes "limit" ∷ limit_word l ∷ []
 outcome_words w code outcome.Memory = codes "memory" ∷ []
 
--- the name of a binding, or `?` where no declaration of the script binds it
-abbrev pub name_word : Plant → Option Piece → List ℕ
-name_word tree None = codes "?"
-name_word tree (Some name) = name_text (units_at tree.units name)
+-- the name of a binding, or `?` where the program has none
+abbrev pub name_word : Option (List ℕ) → List ℕ
+name_word None = codes "?"
+name_word (Some name) = name_text name
 
 -- the value of a binding, or `unbound` where it has none yet
 abbrev pub bound_word : World → Code → Option Value → List ℕ
@@ -64,12 +61,12 @@ bound_word w code None = codes "unbound"
 bound_word w code (Some v) = value_word w code v
 
 -- the words for the binding of the top scope at this place
-abbrev pub binding_line : Plant → Code → List (Option Piece) → World → ℕ → List (List ℕ)
-binding_line tree code names w place = name_word tree (name_at names place) ∷ codes "=" ∷ bound_word w code (binding w 0 place) ∷ []
+abbrev pub binding_line : Code → World → ℕ → List (List ℕ)
+binding_line code w place = name_word (slice_get code.top place) ∷ codes "=" ∷ bound_word w code (binding w 0 place) ∷ []
 
 -- a line for each binding of the top scope, in their order
-abbrev pub binding_lines : Plant → Code → World → List (List (List ℕ))
-binding_lines tree code w = map (binding_line tree code (top_names tree code) w) (range_with_len 0 (length (bindings_of (scope_at w 0))))
+abbrev pub binding_lines : Code → World → List (List (List ℕ))
+binding_lines code w = map (binding_line code w) (range_with_len 0 (length (bindings_of (scope_at w 0))))
 
 -- the lines before those: how the run ended, its fuel, and the cells and units that were charged
 abbrev pub head_lines : Code → Ended → List (List (List ℕ))
@@ -81,5 +78,5 @@ head_lines code ended =
     ∷ []
 
 -- what is put for a run that ended so
-abbrev pub run_text : Plant → Code → Ended → List ℕ
-run_text tree code ended = lines_text (head_lines code ended ++ binding_lines tree code ended.heap)
+abbrev pub run_text : Code → Ended → List ℕ
+run_text code ended = lines_text (head_lines code ended ++ binding_lines code ended.heap)

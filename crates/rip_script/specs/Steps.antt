@@ -131,13 +131,8 @@ comma_before (suc place) = 44 ∷ []
 
 -- RUNNING
 
--- the trees are this one alone
-abbrev pub IsOnly : List Plant → Plant → Type 0
-IsOnly trees tree = trees ≡ tree ∷ []
-
--- the tree is the only one, and has no early error, and this is its program
-pub record IsChecked (tree : Plant) (trees : List Plant) (program : Code) : Type 0 where
-  pub only : IsOnly trees tree
+-- the script of this tree alone has no early error, and this is its program
+pub record IsChecked (tree : Plant) (program : Code) : Type 0 where
   pub clean : AreClean (tree ∷ [])
   pub made : program ≡ program_of (tree ∷ [])
 

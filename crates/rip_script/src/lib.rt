@@ -10,7 +10,7 @@
 //! | the words of the command line | `Words.IsTask` |
 //! | what the program did, by its [`Status`] | `Run.Ran` |
 //! | the text of tokens, and that of a tree | `Texts.tokens_text`, `Texts.tree_text`, and the table `Forms.form_word` |
-//! | what a run comes to, and its text | `Evaluation.IsEvaluated`, `Report.run_text`, `TopNames.top_names` |
+//! | what a run comes to, and its text | `Evaluation.IsEvaluated`, `Report.run_text` |
 //! | why a script is refused, and the line that says so | `Given.RefusesBytes`, `Given.refusal_line` |
 #![tactic(auto)]
 
@@ -21,7 +21,6 @@ mod evaluate;
 mod lines;
 mod list;
 mod named;
-mod names;
 mod print;
 mod read;
 mod refusal;

@@ -1,20 +1,17 @@
-ghost use Rattle.std.specs.Prelude.{◌≡◌, ◌∷◌, ◌++◌, [], codes, decimal, OnOk};
-ghost use Rattle.rip_heap.specs.Scopes.{binding};
+ghost use Rattle.std.specs.Prelude.{◌≡◌, ◌∷◌, ◌++◌, [], codes, decimal, option_map, OnOk};
 ghost use Rattle.rip_outer.specs.Writing.{CountsPut};
 ghost use Rattle.rip_script.specs.Lines.{line_text, lines_text};
-ghost use Rattle.rip_script.specs.Report.{bound_word, fault_word, head_lines, limit_word, name_word, outcome_words, run_text, value_word};
+ghost use Rattle.rip_script.specs.Report.{binding_line, bound_word, fault_word, head_lines, limit_word, name_word, outcome_words, run_text, value_word};
 ghost use Rattle.rip_script.specs.Steps.{Puts};
-ghost use Rattle.rip_script.specs.TopNames.{name_at};
 
 use crate::block::{put_block, put_full_block};
 use crate::evaluate::Ended;
 use crate::named::write_name;
-use crate::names::top_names;
 use crate::print::value_text;
 use rip_heap::Heap;
 use rip_machine::Outcome;
 use rip_outer::{Sink, SinkError};
-use rip_tree::{Piece, Program, Tree};
+use rip_tree::Program;
 use rip_values::{Fault, Limit, NoMemory, Value};
 use rip_wire::Writer;
 use std::alloc::Global;
@@ -22,20 +19,17 @@ use std::alloc::Global;
 /// Puts what a run came to: how it ended, what it took, and a line for each binding of the top scope.
 pub fn put_run<S: Sink>(
     alloc: Global,
-    tree: &Tree,
     program: &Program,
     ended: &Ended,
     out: &mut S,
 ) -> Result<(), SinkError>
-    ensures put { Puts result (run_text tree.now program.now ended.now) (S.held out.old) (S.held out.new) }
+    ensures put { Puts result (run_text program.now ended.now) (S.held out.old) (S.held out.new) }
     ensures counted { CountsPut result (S.count out.old) (S.count out.new) }
 {
-    let names = top_names(alloc, tree, program)?;
     let mut block = Writer::new(alloc);
     write_head(alloc, &mut block, program, ended)?;
     for place in 0..ended.heap.names(0) {
-        let name = name_at(names.as_slice(), place);
-        write_binding(alloc, &mut block, tree, program, &ended.heap, name, place)?;
+        write_binding(alloc, &mut block, program, &ended.heap, place)?;
         put_full_block(&mut block, out)?;
     }
     put_block(&mut block, out)
@@ -125,45 +119,28 @@ fn write_count(out: &mut Writer, word: &[u8], count: u64) -> Result<(), NoMemory
     out.text(b"\n")
 }
 
-/// The name of the binding at this place.
-fn name_at(names: &[Option<Piece>], place: u32) -> Option<Piece>
-    ensures { result ≡ name_at names.now place }
-{
-    match names.get(place as usize) {
-        Some(name) => *name,
-        None => None,
-    }
-}
-
 /// Writes the line of the binding of the top scope at this place.
 fn write_binding(
     alloc: Global,
     out: &mut Writer,
-    tree: &Tree,
     program: &Program,
     heap: &Heap,
-    name: Option<Piece>,
     place: u32,
 ) -> Result<(), NoMemory>
-    ensures { OnOk result (out.new ≡ out.old ++ line_text (name_word tree.now name ∷ codes "=" ∷ bound_word heap.now program.now (binding heap.now 0 place) ∷ [])) }
+    ensures { OnOk result (out.new ≡ out.old ++ line_text (binding_line program.now heap.now place)) }
 {
-    write_name_of(alloc, out, tree, name)?;
+    write_name_of(alloc, out, program.top_name(place))?;
     out.text(b" = ")?;
     write_bound(alloc, out, program, heap, heap.binding(0, place))?;
     out.text(b"\n")
 }
 
 /// Writes the name of a binding, or `?` where it has none.
-fn write_name_of(
-    alloc: Global,
-    out: &mut Writer,
-    tree: &Tree,
-    name: Option<Piece>,
-) -> Result<(), NoMemory>
-    ensures { OnOk result (out.new ≡ out.old ++ name_word tree.now name) }
+fn write_name_of(alloc: Global, out: &mut Writer, name: Option<&[u16]>) -> Result<(), NoMemory>
+    ensures { OnOk result (out.new ≡ out.old ++ name_word (option_map (λ n. n.now) name.entry)) }
 {
     match name {
-        Some(name) => write_name(alloc, out, tree.units(name)),
+        Some(name) => write_name(alloc, out, name),
         None => out.text(b"?"),
     }
 }

@@ -1,4 +1,4 @@
-use crate::checked::Checked;
+use crate::checked::read_program;
 use crate::evaluate::Ended;
 use crate::report::put_run;
 use crate::{LEVELS, Status, script, value_text};
@@ -124,10 +124,10 @@ fn report(alloc: Global, text: &str, slice: u64) -> Result<Bytes, Fail> {
     if text.len() > MAX_FILE {
         return Err("too long".into());
     }
-    let checked = Checked::read(alloc, text.as_bytes())?;
-    let ended = ended_in_slices(alloc, &checked.program, slice)?;
+    let program = read_program(alloc, text.as_bytes())?;
+    let ended = ended_in_slices(alloc, &program, slice)?;
     let mut sink = MemorySink::make(alloc, &NumberList::new(alloc))?;
-    put_run(alloc, checked.tree(), &checked.program, &ended, &mut sink)?;
+    put_run(alloc, &program, &ended, &mut sink)?;
     Ok(Bytes::from_slice(alloc, sink.bytes())?)
 }
 
@@ -186,9 +186,9 @@ fn open_after(alloc: Global, text: &str, units: u64) -> Result<u32, Fail> {
     if text.len() > MAX_FILE {
         return Err("too long".into());
     }
-    let checked = Checked::read(alloc, text.as_bytes())?;
-    let (mut heap, mut machine) = begun(alloc, &checked.program)?;
-    machine.resume(alloc, &checked.program, &mut heap, &mut EmptyHost, units);
+    let program = read_program(alloc, text.as_bytes())?;
+    let (mut heap, mut machine) = begun(alloc, &program)?;
+    machine.resume(alloc, &program, &mut heap, &mut EmptyHost, units);
     Ok(machine.depth())
 }
 
@@ -223,6 +223,19 @@ fn commands_are_answered(rt: HostRuntime) -> Result<(), Fail> {
     let ran = "outcome value undefined\nfuel 6\ncells 2\nunits 18\ns = \"abcd\"\n";
     let text = b"\"use strict\";var s=\"ab\"+\"cd\";";
     assert!(rt; answers(alloc, &["run", "s"], text, Status::Done, ran)?);
+    Ok(())
+}
+
+/// A name of `var` in a clause is the script's. Where the clause has the same name, that one is assigned.
+#[test]
+fn names_of_var_in_a_clause_are_the_scripts(rt: HostRuntime) -> Result<(), Fail> {
+    let alloc = rt.alloc();
+    let hidden = b"\"use strict\";try{throw 1;}catch(e){var e=2;}";
+    let ran = "outcome value undefined\nfuel 9\ncells 4\nunits 10\ne = undefined\n";
+    assert!(rt; answers(alloc, &["run", "s"], hidden, Status::Done, ran)?);
+    let other = b"\"use strict\";try{throw 1;}catch(e){var f=2;}";
+    let ran = "outcome value undefined\nfuel 9\ncells 4\nunits 10\nf = 2\n";
+    assert!(rt; answers(alloc, &["run", "s"], other, Status::Done, ran)?);
     Ok(())
 }
 
@@ -270,7 +283,13 @@ fn what_fails_is_told(rt: HostRuntime) -> Result<(), Fail> {
 #[test]
 fn writes_values(rt: HostRuntime) -> Result<(), Fail> {
     let alloc = rt.alloc();
-    let program = Program::new(alloc, &[], 0, Vec::new(alloc))?;
+    let program = Program::new(
+        alloc,
+        &[],
+        Vec::new(alloc),
+        Vec::new(alloc),
+        Vec::new(alloc),
+    )?;
     let mut heap = Heap::make(alloc, HEAP)?;
     let object = heap.new_object(alloc, None)?;
     let first = heap.add_name(alloc, &[97])?;
@@ -294,7 +313,13 @@ fn writes_values(rt: HostRuntime) -> Result<(), Fail> {
 #[test]
 fn shows_six_levels(rt: HostRuntime) -> Result<(), Fail> {
     let alloc = rt.alloc();
-    let program = Program::new(alloc, &[], 0, Vec::new(alloc))?;
+    let program = Program::new(
+        alloc,
+        &[],
+        Vec::new(alloc),
+        Vec::new(alloc),
+        Vec::new(alloc),
+    )?;
     let mut heap = Heap::make(alloc, HEAP)?;
     let mut nested = heap.new_of(alloc, Class::Event)?;
     for _ in 0..LEVELS {

@@ -5,7 +5,7 @@ ghost use Rattle.rip_script.specs.Run.{Ran};
 ghost use Rattle.rip_script.specs.Steps.{CountsStatus, IsWhole, PutsStop, PutsThen, Settles, status_after};
 ghost use Rattle.rip_script.specs.Words.{task_of};
 
-use crate::checked::Checked;
+use crate::checked::read_program;
 use crate::draw::put_tree;
 use crate::evaluate::evaluate;
 use crate::list::put_tokens;
@@ -99,13 +99,13 @@ fn settle_run<S: Sink>(alloc: Global, bytes: &[u8], limits: RunLimits, out: &mut
     ensures settles { Settles (λ text. IsRun bytes.now limits text) (RefusesRun bytes.now) result (S.held out.old) (S.held out.new) }
     ensures counted { CountsStatus result (S.count out.old) (S.count out.new) }
 {
-    let checked = match Checked::read(alloc, bytes) {
-        Ok(checked) => checked,
+    let program = match read_program(alloc, bytes) {
+        Ok(program) => program,
         Err(stop) => return stop_at(alloc, stop, out),
     };
-    match evaluate(alloc, &checked.program, limits) {
+    match evaluate(alloc, &program, limits) {
         Ok(ended) => {
-            let put = put_run(alloc, checked.tree(), &checked.program, &ended, out);
+            let put = put_run(alloc, &program, &ended, out);
             status_after(put, Status::Done)
         }
         Err(_) => Status::NoMemory,
