@@ -218,13 +218,36 @@ fn enter<H: Host>(
     ensures most { stack.new.most ≡ stack.old.most }
     ensures grows { Grows heap.old heap.new }
 {
-    let _ = host;
-    if let Some(v) = value_at_once(p, heap, part) {
-        *control = Control::Give(Completion::Normal(v));
-        return Ok(());
+    match value_at_once(p, heap, part) {
+        Some(v) => {
+            *control = Control::Give(Completion::Normal(v));
+            Ok(())
+        },
+        None => enter_row(alloc, p, heap, host, stack, part, control),
     }
-    match begin(alloc, p, heap, part) {
-        Ok(next) => open(stack, &next, part.room.saturating_sub(1), control),
+}
+
+/// A part is entered by its row.
+fn enter_row<H: Host>(
+    alloc: Global,
+    p: &Source,
+    heap: &mut Heap,
+    host: &H,
+    stack: &mut Stack,
+    part: &Part,
+    control: &mut Control,
+) -> Result<(), NoMemory>
+    requires { IsInside stack.old.most (Control.Enter part.now) stack.old.frames }
+    ensures rest { OnOk result ((u : ℕ) → rest (host_calls H.read_gives H.write_gives H.call_gives) (table p.now) control.new stack.new.frames u heap.new host.now ≡ rest (host_calls H.read_gives H.write_gives H.call_gives) (table p.now) (Control.Enter part.now) stack.old.frames (u + 1) heap.old host.now) }
+    ensures weight { OnOk result (weight control.new stack.new.frames ≤ 2 * length stack.old.frames + 2) }
+    ensures inside { OnOk result (IsInside stack.new.most control.new stack.new.frames) }
+    ensures kept { OnErr result ((stack.new ≡ stack.old) × (control.new ≡ control.old)) }
+    ensures most { stack.new.most ≡ stack.old.most }
+    ensures grows { Grows heap.old heap.new }
+{
+    let _ = host;
+    match &begin(alloc, p, heap, part) {
+        Ok(next) => open(stack, next, part.room.saturating_sub(1), control),
         Err(NoMemory) => Err(NoMemory),
     }
 }
@@ -254,9 +277,9 @@ fn give<H: Host>(
         None => return Ok(false),
     };
     let room = frame.part().room.saturating_sub(1);
-    match finish(alloc, p, heap, host, frame, stack.values(), &c) {
+    match &finish(alloc, p, heap, host, frame, stack.values(), &c) {
         Ok(next) => {
-            reopen(stack, &next, room, control)?;
+            reopen(stack, next, room, control)?;
             Ok(true)
         },
         Err(NoMemory) => Err(NoMemory),

@@ -1,14 +1,10 @@
-use Rattle.std.proofs.Common.{◌≡◌, ℕ, ◌+◌, ◌-◌, [], ◌++◌, length, refl, ap, sym, append-nil, rules}
+use Rattle.std.proofs.Common.{◌-◌, refl, sym, append-nil}
 use Rattle.rip_frames.specs.declared.completion.Completion.TheVariants.{Normal}
-use Rattle.rip_frames.specs.declared.next.Control.TheVariants.{Enter, Give}
+use Rattle.rip_frames.specs.declared.next.Control.TheVariants.{Give}
 use Rattle.rip_frames.specs.declared.next.Next.TheVariants.{End}
-use Rattle.rip_frames.specs.Rest.{control_of, frame_of, rest}
-use Rattle.rip_frames.specs.Stack.{Frames}
 use Rattle.rip_machine.specs.Law.{host_calls}
-use Rattle.rip_machine.specs.Nesting.{IsInside}
 use Rattle.rip_machine.specs.Table.{table}
-use Rattle.rip_machine.proofs.Nested.{entered_fits, went_inside}
-use Rattle.rip_machine.proofs.StepLaws.{enter_rest, ok_both, passes}
+use Rattle.rip_machine.proofs.StepLaws.{enter_rest}
 use Rattle.rip_machine.proofs.steps.enter.Goals as goal
 
 -- the value of a part that takes no part of its own
@@ -18,25 +14,3 @@ returns-in-Some-clause-rest g c u =
     let frames = c.args.stack.now.frames in
     enter_rest h (table c.args.p.now) (c.args.part.now.room - 1) c.args.part.now (End (Normal c.in-Some.v)) frames frames (Give (Normal c.in-Some.v)) c.args.heap.now c.args.heap.now c.args.host.now u
     tt refl (λ values. sym c.in-Some.ensures) refl (sym (append-nil frames))
-
-pub open-requires : goal.open-requires
-open-requires g c =
-    entered_fits (table c.args.p.now) c.in-Ok.next c.args.part.now c.args.part.now.room (c.args.stack.now.most - length c.args.stack.now.frames) c.args.heap.now c.begin.new.heap refl c.requires.1 (c.in-Ok.ensures.row [])
-
-pub returns-in-Ok-clause-rest : goal.returns-in-Ok-clause-rest
-returns-in-Ok-clause-rest g c =
-    let h = host_calls g.H.Host.read_gives g.H.Host.write_gives g.H.Host.call_gives in
-    let stack : Frames = record c.args.stack.now { frames = c.args.stack.now.frames ++ frame_of c.in-Ok.next [] } in
-    let inside : c.saturating_sub.result ≡ c.args.part.now.room - 1 = search rules in
-    ok_both c.open.result (c.open.new.control ≡ control_of c.saturating_sub.result c.in-Ok.next) (c.open.new.stack ≡ stack)
-    ((u : ℕ) → rest h (table c.args.p.now) c.open.new.control c.open.new.stack.frames u c.begin.new.heap c.args.host.now ≡ rest h (table c.args.p.now) (Enter c.args.part.now) c.args.stack.now.frames (u + 1) c.args.heap.now c.args.host.now)
-    c.open.ensures.control c.open.ensures.frames
-    (λ control f u. enter_rest h (table c.args.p.now) c.saturating_sub.result c.args.part.now c.in-Ok.next c.args.stack.now.frames c.open.new.stack.frames c.open.new.control c.args.heap.now c.begin.new.heap c.args.host.now u (passes c.args.part.now.room c.in-Ok.next c.in-Ok.ensures.nests) inside c.in-Ok.ensures.row control (ap (λ (m : Frames). m.frames) f))
-
-pub returns-in-Ok-clause-inside : goal.returns-in-Ok-clause-inside
-returns-in-Ok-clause-inside g c =
-    let stack : Frames = record c.args.stack.now { frames = c.args.stack.now.frames ++ frame_of c.in-Ok.next [] } in
-    ok_both c.open.result (c.open.new.control ≡ control_of c.saturating_sub.result c.in-Ok.next) (c.open.new.stack ≡ stack)
-    (IsInside c.open.new.stack.most c.open.new.control c.open.new.stack.frames)
-    c.open.ensures.control c.open.ensures.frames
-    (λ control f. went_inside c.args.stack.now c.open.new.stack c.args.part.now.room c.saturating_sub.result c.in-Ok.next [] c.args.stack.now.frames c.open.new.control c.requires.0 c.requires.1 c.in-Ok.ensures.nests control f)
