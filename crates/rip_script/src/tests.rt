@@ -87,7 +87,11 @@ static OPEN: [(&str, u64, u32); 6] = [
     (COUNTING, 12, 1),
     (COUNTING, 29, 0),
     (r#""use strict";function g(){return g();}g();"#, 500, DEPTH),
-    (r#""use strict";function f(){return g.x;}var g;f();"#, 500, 0),
+    (
+        r#""use strict";function f(){return g.x;}var g;f();"#,
+        500,
+        0,
+    ),
 ];
 
 /// A loop of three turns.
@@ -195,7 +199,11 @@ fn open_after(alloc: Global, text: &str, units: u64) -> Result<u32, Fail> {
 #[test]
 fn open_nodes_and_functions_are_counted(rt: HostRuntime) -> Result<(), Fail> {
     for (text, units, open) in &OPEN {
-        assert_eq!(rt; open_after(rt.alloc(), text, *units)?, *open, "{text} {units}");
+        assert_eq!(rt;
+            open_after(rt.alloc(), text, *units)?,
+            *open,
+            "{text} {units}"
+        );
     }
     Ok(())
 }

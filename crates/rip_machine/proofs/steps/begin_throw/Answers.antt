@@ -19,5 +19,10 @@ returns-in-Ok-clause-stands c =
     ok_both c.open.result (c.open.new.control ≡ control_of c.args.depth next) (c.open.new.stack ≡ stack)
     (GoesOn (table c.args.p.now) (throws ThrownTypeError c.args.heap.now) c.args.depth c.throw.new.heap c.open.new.control c.open.new.stack.frames)
     c.open.ensures.control c.open.ensures.frames
-    (λ control f. (next, c.in-Ok.ensures.row [], passes 0 next (c.in-Ok.ensures.nests 0), control,
-        ap (λ (m : Frames). m.frames) f ∙ ap (λ (m : Frames). m.frames ++ frame_of next []) c.clear.ensures))
+    (λ control f. (
+      next,
+      c.in-Ok.ensures.row [],
+      passes 0 next (c.in-Ok.ensures.nests 0),
+      control,
+      ap (λ (m : Frames). m.frames) f ∙ ap (λ (m : Frames). m.frames ++ frame_of next []) c.clear.ensures,
+    ))
