@@ -1,0 +1,85 @@
+#!/usr/bin/env python3
+"""What each crate costs to check: its lines by kind, and on request the processor time of its proof, tests and edits.
+
+    crate_costs.py                    a table of lines for all crates
+    crate_costs.py --measure NAME ..  also proves these crates and their tests from nothing and tries their edits
+                                      (the crates below are built first, and are not counted)
+"""
+
+import os
+import re
+import resource
+import subprocess
+import sys
+
+TOP = os.path.dirname(os.path.dirname(os.path.abspath(__file__)))
+FUNCTION = re.compile(r"^\s*(?:pub(?:\([a-z]+\))? )?(?:const )?fn ", re.M)
+
+
+def crates():
+    with open(os.path.join(TOP, "crates.txt"), encoding="utf-8") as f:
+        return [line.split(":")[0].split()[0] for line in f if line.split("#")[0].strip()]
+
+
+def files(folder, ending):
+    for at, _, names in os.walk(folder):
+        for name in sorted(names):
+            if name.endswith(ending):
+                yield os.path.join(at, name)
+
+
+def text_of(path):
+    with open(path, encoding="utf-8") as f:
+        return f.read()
+
+
+def is_test(path):
+    return "tests" in os.path.relpath(path, TOP).split("/src/")[-1]
+
+
+def sizes(crate):
+    """Lines of code, tests, specs and proofs, functions outside tests, and edits."""
+    at = os.path.join(TOP, "crates", crate)
+    code = tests = functions = 0
+    for path in files(os.path.join(at, "src"), ".rt"):
+        text = text_of(path)
+        if is_test(path):
+            tests += text.count("\n")
+        else:
+            code += text.count("\n")
+            functions += len(FUNCTION.findall(text))
+    lines = lambda part: sum(text_of(it).count("\n") for it in files(os.path.join(at, part), ".antt"))
+    edits = len(list(files(os.path.join(at, "must-fail"), ".edit")))
+    return code, tests, lines("specs"), lines("proofs"), functions, edits
+
+
+def processor_seconds(words, folder):
+    """The processor time of a command and all that it starts, and whether it ended well."""
+    before = resource.getrusage(resource.RUSAGE_CHILDREN)
+    status = subprocess.run(words, cwd=folder, stdout=subprocess.DEVNULL, stderr=subprocess.STDOUT).returncode
+    after = resource.getrusage(resource.RUSAGE_CHILDREN)
+    return round(after.ru_utime + after.ru_stime - before.ru_utime - before.ru_stime), status == 0
+
+
+def measured(crate):
+    folder = os.path.join(TOP, "crates", crate)
+    subprocess.run(["rt", "check"], cwd=folder, stdout=subprocess.DEVNULL, stderr=subprocess.STDOUT)
+    told = []
+    for words, at in (["rt", "verdict"], folder), (["rt", "must-fail", crate], TOP):
+        seconds, is_well = processor_seconds(words, at)
+        told.append(f"{seconds}" if is_well else f"{seconds} (failed)")
+    return told
+
+
+def main(words):
+    named = words[1:] if words[:1] == ["--measure"] else []
+    head = "| crate | code | tests | specs | proofs | functions | edits |"
+    print(head + (" proof and tests, s | edits, s |" if named else ""))
+    print("|---" * (head.count("|") - 1 + (2 if named else 0)) + "|")
+    for crate in named or crates():
+        row = [crate, *map(str, sizes(crate)), *(measured(crate) if named else [])]
+        print("| " + " | ".join(row) + " |", flush=True)
+
+
+if __name__ == "__main__":
+    main(sys.argv[1:])
