@@ -1,9 +1,10 @@
 -- The conversions of all values, and the text that is joined.
-use Rattle.std.proofs.Common.{◌≡◌, ℕ, ◌+◌, ◌-◌, ◌<◌, Bool, true, false, cond, List, [], ◌∷◌, ◌++◌, length, take, drop, get_or, ℤ, None, Some, Result, Ok, Err, refl, sym, ap, ◌∙◌, subst, arith, nat_le, map}
+use Rattle.std.proofs.Common.{◌≡◌, ℕ, ◌+◌, ◌-◌, ◌<◌, ◌≤◌, Bool, true, false, cond, List, [], ◌∷◌, ◌++◌, length, take, drop, get_or, ℤ, Option, None, Some, Result, Ok, Err, refl, sym, ap, ◌∙◌, subst, arith, nat_le, map}
 use Rattle.std.proofs.lemmas.Bool.Decides.{nat_tests}
 use Rattle.std.proofs.Math.Seq.{take-length}
 use Rattle.std.specs.Fmt.{signed_decimal}
 use Rattle.std.specs.List.{flat_map}
+use Rattle.rip_values.specs.declared.value.Span.{Span}
 use Rattle.rip_values.specs.declared.value.Value.{Value}
 use Rattle.rip_values.specs.declared.value.Value.TheVariants.{Undefined, Null, Bool as Boolean, Num, NaN, Text, Object}
 use Rattle.rip_values.specs.declared.value.Fault.TheVariants.{TextTooLong}
@@ -14,7 +15,10 @@ use Rattle.rip_heap.specs.declared.outcome.Halt.TheVariants.{Fault as HaltFault,
 use Rattle.rip_heap.specs.declared.outcome.OpDone.{OpDone}
 use Rattle.rip_heap.specs.Conversions.{text_made, halted}
 use Rattle.rip_heap.specs.Outcome.{Outcome, Faults, Exceeds, AnswersOrLacks, halting, judged, text_or_limit}
+use Rattle.rip_heap.specs.Step.{Makes, TakesNoMemory}
 use Rattle.rip_heap.specs.Texts.{new_text}
+use Rattle.rip_values.specs.declared.value.Refused.{Refused}
+use Rattle.rip_values.specs.declared.value.Refused.TheVariants.{Limit as At, Memory}
 use Rattle.rip_heap.specs.World.{World}
 use Rattle.rip_builtins.specs.Joining.{converted, next, all_charged, then_charged, after_all, join_items, joined_by, separator_in, element_in, text_within}
 
@@ -31,30 +35,40 @@ Leaves w (Ok u) (Err halt) = ⊥
 Leaves w (Err halt) (Ok used) = ⊥
 Leaves w (Err halt) (Err other) = halt ≡ other
 
-all-leave : (w v : World) (limit used : ℕ) (values : List Value) → v.pool.used ≡ used → v.pool.limit ≡ limit → limit ≡ w.pool.limit → v.pool.text_limit ≡ w.pool.text_limit
-    → Leaves w (converted v values) (all_charged limit used values)
-all-leave w v limit used [] u l m t = (u, l ∙ m, t)
-all-leave w v limit used (Undefined ∷ rest) u l m t = all-leave w v limit used rest u l m t
-all-leave w v limit used (Null ∷ rest) u l m t = all-leave w v limit used rest u l m t
-all-leave w v limit used (Boolean true ∷ rest) u l m t = all-leave w v limit used rest u l m t
-all-leave w v limit used (Boolean false ∷ rest) u l m t = all-leave w v limit used rest u l m t
-all-leave w v limit used (NaN ∷ rest) u l m t = all-leave w v limit used rest u l m t
-all-leave w v limit used (Text span ∷ rest) u l m t = all-leave w v limit used rest u l m t
-all-leave w v limit used (Object n ∷ rest) u l m t = refl
-all-leave w v limit used (Num z ∷ rest) u l m t =
-    by (all-leave w (grown v z) limit (used + length (signed_decimal z)) rest (ap (λ n. n + length (signed_decimal z)) u) l m t)
-    (nat_le (v.pool.used + length (signed_decimal z)) v.pool.limit) (nat_le (used + length (signed_decimal z)) limit) (λ i. nat_le (u i + length (signed_decimal z)) (l i))
+all-leave : (w v : World) (used : ℕ) (values : List Value) → v.pool.used ≡ used → v.pool.limit ≡ w.pool.limit → v.pool.text_limit ≡ w.pool.text_limit
+    → Leaves w (converted v values) (all_charged w.pool used values)
+all-leave w v used [] u l t = (u, l, t)
+all-leave w v used (Undefined ∷ rest) u l t = all-leave w v used rest u l t
+all-leave w v used (Null ∷ rest) u l t = all-leave w v used rest u l t
+all-leave w v used (Boolean true ∷ rest) u l t = all-leave w v used rest u l t
+all-leave w v used (Boolean false ∷ rest) u l t = all-leave w v used rest u l t
+all-leave w v used (NaN ∷ rest) u l t = all-leave w v used rest u l t
+all-leave w v used (Text span ∷ rest) u l t = all-leave w v used rest u l t
+all-leave w v used (Object n ∷ rest) u l t = refl
+all-leave w v used (Num z ∷ rest) u l t =
+    by (all-leave w (grown v z) (used + length (signed_decimal z)) rest (ap (λ n. n + length (signed_decimal z)) u) l t)
+    (nat_le (v.pool.used + length (signed_decimal z)) v.pool.limit) (nat_le (used + length (signed_decimal z)) w.pool.limit)
+    (nat_le (length (signed_decimal z)) v.pool.text_limit) (nat_le (length (signed_decimal z)) w.pool.text_limit)
+    (λ i. nat_le (u i + length (signed_decimal z)) (l i)) (λ i. nat_le (length (signed_decimal z)) (t i))
   where
-    by : Leaves w (converted (grown v z) rest) (all_charged limit (used + length (signed_decimal z)) rest) → (a b : Bool) → a ≡ b
-        → Leaves w (next (text_made v (cond a (Some (span_behind v.pool (signed_decimal z), grown v z)) None)) (λ x. converted x rest))
-        (then_charged (cond b (Ok (used + length (signed_decimal z))) (Err (HaltLimit Units))) (λ more. all_charged limit more rest))
-    by more true true e = more
-    by more false false e = refl
-    by more true false e = cc
-    by more false true e = cc
+    made : Bool → Bool → Result Span Halt × World
+    made a c = cond c (text_made v (cond a (Some (span_behind v.pool (signed_decimal z), grown v z)) None)) (Err (HaltFault TextTooLong), v)
 
-charges : (w : World) (values : List Value) → Leaves w (converted w values) (all_charged w.pool.limit w.pool.used values)
-charges w values = all-leave w w w.pool.limit w.pool.used values refl refl refl refl
+    count : Bool → Bool → Result ℕ Halt
+    count b d = cond d (cond b (Ok (used + length (signed_decimal z))) (Err (HaltLimit Units))) (Err (HaltFault TextTooLong))
+
+    by : Leaves w (converted (grown v z) rest) (all_charged w.pool (used + length (signed_decimal z)) rest) → (a b c d : Bool) → a ≡ b → c ≡ d
+        → Leaves w (next (made a c) (λ x. converted x rest)) (then_charged (count b d) (λ more. all_charged w.pool more rest))
+    by more true true true true e f = more
+    by more false false true true e f = refl
+    by more a b false false e f = refl
+    by more true false true true e f = cc
+    by more false true true true e f = cc
+    by more a b true false e f = cc
+    by more a b false true e f = cc
+
+charges : (w : World) (values : List Value) → Leaves w (converted w values) (all_charged w.pool w.pool.used values)
+charges w values = all-leave w w w.pool.used values refl refl refl
 
 -- THE TEXT
 
@@ -81,7 +95,7 @@ module _ (w : World) (separator : Value) (items : List Value) where
   answer r = after_all r (λ u. judged u text)
 
   abbrev all : Result ℕ Halt
-  all = all_charged w.pool.limit w.pool.used (separator ∷ items)
+  all = all_charged w.pool w.pool.used (separator ∷ items)
 
   pub join-halts : (halt : Halt) → Err halt ≡ all → join_items w separator items ≡ halting halt
   join-halts halt e = by (converted w (separator ∷ items)) all (charges w (separator ∷ items)) e
@@ -131,6 +145,38 @@ module _ (w : World) (separator : Value) (items : List Value) where
       by (Ok u) (Err other) h e = absurd h
       by (Err this) (Ok used') h e = absurd h
       by (Err this) (Err other) h e = cc
+
+  -- where all can be charged, no conversion halts
+  pub join-converts : (used : ℕ) (halt : Halt) → all ≡ Ok used → converted w (separator ∷ items) ≡ Err halt → ⊥
+  join-converts used halt e r = by (converted w (separator ∷ items)) all (charges w (separator ∷ items)) e r
+    where
+      by : (r : Result World Halt) (c : Result ℕ Halt) → Leaves w r c → c ≡ Ok used → r ≡ Err halt → ⊥
+      by (Ok u) c h e r = cc
+      by (Err this) (Ok used') h e r = h
+      by (Err this) (Err other) h e r = cc
+
+  -- nor is the joined text then past the limit of units
+  pub join-fits : (used : ℕ) (made : List ℕ) (u : World) → all ≡ Ok used → converted w (separator ∷ items) ≡ Ok u → used + length made ≤ w.pool.limit → new_text u made ≡ None → ⊥
+  join-fits used made u e r room none = by (converted w (separator ∷ items)) all (charges w (separator ∷ items)) e r
+    where
+      over : (b : Bool) → b ≡ true → cond {A = Option (Span × World)} b (Some (span_behind u.pool made, record u { pool = with_text u.pool made (length made) })) None ≡ None → ⊥
+      over true e h = cc
+      over false e h = cc
+
+      by : (r : Result World Halt) (c : Result ℕ Halt) → Leaves w r c → c ≡ Ok used → r ≡ Ok u → ⊥
+      by (Ok v) (Ok used') h e r =
+          let same : v ≡ u = cc in
+          let count : used' ≡ used = cc in
+          let units : u.pool.used ≡ used = ap (λ x. x.pool.used) (sym same) ∙ h.0 ∙ count in
+          let limit : u.pool.limit ≡ w.pool.limit = ap (λ x. x.pool.limit) (sym same) ∙ h.1 in
+          over (nat_le (u.pool.used + length made) u.pool.limit) (grind (arith, nat_tests, units, limit, room)) none
+      by (Ok v) (Err other) h e r = h
+      by (Err this) c h e r = cc
+
+-- a call that makes a text and takes no memory is refused where the text is none
+pub none-made : (step : Option (Span × World)) (u new : World) (refused : Refused) → Makes {A = Span} Units step u (Err refused) new → TakesNoMemory {A = Span} (Err refused) → step ≡ None
+none-made step u new (At limit) made room = made.1
+none-made step u new Memory made room = absurd room
 
 -- how a halt is answered
 pub halt-answers : (w : World) (halt : Halt) (done : OpDone) → done ≡ halted halt → AnswersOrLacks (halting halt) w done w

@@ -6,7 +6,7 @@ use Rattle.rip_values.specs.declared.value.Value.TheVariants.{Undefined, Num}
 use Rattle.rip_values.specs.declared.value.Fault.{Fault}
 use Rattle.rip_values.specs.declared.value.Limit.TheVariants.{Cells}
 use Rattle.rip_values.specs.Pool.{Texts}
-use Rattle.rip_heap.specs.Arrays.{elements_at, last_of, popped, with_elements, new_array}
+use Rattle.rip_heap.specs.Arrays.{elements_at, last_of, popped, push_items, new_array}
 use Rattle.rip_heap.specs.Conversions.{strictly_equal}
 use Rattle.rip_heap.specs.Outcome.{Outcome, Gives, Faults, Exceeds}
 use Rattle.rip_heap.specs.World.{World, as_array, object_at, charging}
@@ -15,18 +15,14 @@ use Rattle.rip_builtins.specs.Texts.{end_in}
 
 -- PUSH AND POP
 
--- the array with more elements behind the others
-abbrev pub with_more : World → ℕ → List Value → World
-with_more w n items = with_elements w n (λ elements. elements ++ items) (as_array (object_at w n))
-
--- a value and a world, or the limit of cells
-abbrev pub count_or_limit : ℕ → Option World → Outcome
-count_or_limit count None = Exceeds Cells
-count_or_limit count (Some w) = Gives (Num (pos count)) w
+-- the new length and the world, or the limit of cells
+abbrev pub pushed : ℕ → Option World → Outcome
+pushed n None = Exceeds Cells
+pushed n (Some w) = Gives (Num (pos (length (elements_at w n)))) w
 
 -- `push` (ECMA-262 15.4.4.7): all arguments behind the elements, at a cell each; the new length
 abbrev pub push : World → ℕ → List Value → Outcome
-push w n args = count_or_limit (length (elements_at w n) + length args) (charging (length args) w (λ x. with_more x n args))
+push w n args = pushed n (push_items w n args)
 
 -- `pop` (15.4.4.6): the last element, which is taken away
 abbrev pub pop : World → ℕ → Outcome

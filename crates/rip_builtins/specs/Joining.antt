@@ -6,13 +6,13 @@ use Rattle.rip_values.specs.declared.value.Span.{Span}
 use Rattle.rip_values.specs.declared.value.Value.{Value}
 use Rattle.rip_values.specs.declared.value.Value.TheVariants.{Undefined, Null, Bool as Boolean, Num, NaN, Text, Object}
 use Rattle.rip_values.specs.declared.fixed.FixedText.TheVariants.{Undefined as UndefinedText, Null as NullText, True as TrueText, False as FalseText, NaN as NaNText}
-use Rattle.rip_values.specs.Pool.{text_at}
-use Rattle.rip_values.specs.declared.value.Fault.TheVariants.{ObjectToPrimitive}
+use Rattle.rip_values.specs.Pool.{Texts}
+use Rattle.rip_values.specs.declared.value.Fault.TheVariants.{ObjectToPrimitive, TextTooLong}
 use Rattle.rip_values.specs.declared.value.Limit.TheVariants.{Units}
 use Rattle.rip_heap.specs.declared.outcome.Halt.{Halt}
 use Rattle.rip_heap.specs.declared.outcome.Halt.TheVariants.{Fault as HaltFault, Limit as HaltLimit}
 use Rattle.rip_heap.specs.Arrays.{elements_at}
-use Rattle.rip_heap.specs.Conversions.{text_of_value, span_of}
+use Rattle.rip_heap.specs.Conversions.{text_of_value, text_in}
 use Rattle.rip_heap.specs.Outcome.{Outcome, halting, judged}
 use Rattle.rip_heap.specs.World.{World}
 use Rattle.rip_builtins.specs.Arguments.{argument}
@@ -34,37 +34,33 @@ converted w (v ∷ rest) = next (text_of_value w v) (λ u. converted u rest)
 
 -- THE CHARGES
 
--- the units that are charged behind a conversion, of which so many were charged before it
-abbrev pub charged : ℕ → ℕ → Value → Result ℕ Halt
-charged limit used Undefined = Ok used
-charged limit used Null = Ok used
-charged limit used (Boolean b) = Ok used
-charged limit used (Num z) = if nat_le (used + length (signed_decimal z)) limit then Ok (used + length (signed_decimal z)) else Err (HaltLimit Units)
-charged limit used NaN = Ok used
-charged limit used (Text span) = Ok used
-charged limit used (Object n) = Err (HaltFault ObjectToPrimitive)
+-- the units that are charged behind a numeral of so many, which is judged before its charge
+abbrev pub numeral_charged : Texts → ℕ → ℕ → Result ℕ Halt
+numeral_charged pool used count =
+    if nat_le count pool.text_limit then
+    (if nat_le (used + count) pool.limit then Ok (used + count) else Err (HaltLimit Units))
+    else Err (HaltFault TextTooLong)
+
+-- the same behind a conversion, of which so many were charged before it
+abbrev pub charged : Texts → ℕ → Value → Result ℕ Halt
+charged pool used Undefined = Ok used
+charged pool used Null = Ok used
+charged pool used (Boolean b) = Ok used
+charged pool used (Num z) = numeral_charged pool used (length (signed_decimal z))
+charged pool used NaN = Ok used
+charged pool used (Text span) = Ok used
+charged pool used (Object n) = Err (HaltFault ObjectToPrimitive)
 
 abbrev pub then_charged : Result ℕ Halt → (ℕ → Result ℕ Halt) → Result ℕ Halt
 then_charged (Ok used) further = further used
 then_charged (Err halt) further = Err halt
 
 -- the same behind all conversions
-abbrev pub all_charged : ℕ → ℕ → List Value → Result ℕ Halt
-all_charged limit used [] = Ok used
-all_charged limit used (v ∷ rest) = then_charged (charged limit used v) (λ more. all_charged limit more rest)
+abbrev pub all_charged : Texts → ℕ → List Value → Result ℕ Halt
+all_charged pool used [] = Ok used
+all_charged pool used (v ∷ rest) = then_charged (charged pool used v) (λ more. all_charged pool more rest)
 
 -- THE TEXT
-
--- the text of a value (9.8); an object has none
-abbrev pub text_in : World → Value → List ℕ
-text_in w Undefined = text_at w.pool (span_of UndefinedText)
-text_in w Null = text_at w.pool (span_of NullText)
-text_in w (Boolean false) = text_at w.pool (span_of FalseText)
-text_in w (Boolean true) = text_at w.pool (span_of TrueText)
-text_in w (Num z) = signed_decimal z
-text_in w NaN = text_at w.pool (span_of NaNText)
-text_in w (Text span) = text_at w.pool span
-text_in w (Object n) = []
 
 -- the numeral of a number; other values have none
 abbrev pub numeral_of : Value → List ℕ

@@ -10,37 +10,14 @@ use Rattle.rip_heap.specs.declared.class.Class.{Class}
 use Rattle.rip_heap.specs.declared.class.Class.TheVariants.{Plain, Prototype, Array, Function, Error, TypeError, RangeError, ThrownTypeError, ThrownReferenceError, Code, Event}
 use Rattle.rip_heap.specs.Arrays.{elements_at}
 use Rattle.rip_heap.specs.Conversions.{text_of_value}
+use Rattle.rip_heap.specs.declared.holder.Holder.{Holder}
+use Rattle.rip_heap.specs.declared.holder.Holder.TheVariants.{PlainObject, ArrayObject, OtherObject}
+use Rattle.rip_heap.specs.Holders.{holder_of, not_in_profile}
 use Rattle.rip_heap.specs.Keys.{is_barred, is_index, is_named, is_underscored, index_of}
 use Rattle.rip_heap.specs.Objects.{own}
 use Rattle.rip_heap.specs.Outcome.{Outcome, Gives, Faults, after_text}
 use Rattle.rip_heap.specs.World.{World, Object as HeapObject, object_at, class_of}
 use Rattle.rip_builtins.specs.Arguments.{argument}
-use Rattle.rip_builtins.specs.declared.own_properties.Owner.{Owner}
-use Rattle.rip_builtins.specs.declared.own_properties.Owner.TheVariants.{PlainObject, ArrayObject, OtherValue}
-
--- what a receiver is to the call: arrays and plain objects have own properties in the profile, of which thrown codes
--- are some
-abbrev pub owner_of_class : Class → Owner
-owner_of_class Plain = PlainObject
-owner_of_class Prototype = PlainObject
-owner_of_class Code = PlainObject
-owner_of_class Array = ArrayObject
-owner_of_class Function = OtherValue
-owner_of_class Error = OtherValue
-owner_of_class TypeError = OtherValue
-owner_of_class RangeError = OtherValue
-owner_of_class ThrownTypeError = OtherValue
-owner_of_class ThrownReferenceError = OtherValue
-owner_of_class Event = OtherValue
-
--- a number that is no object of the heap is a built-in or a node
-abbrev pub owner_of : Option HeapObject → Owner
-owner_of None = OtherValue
-owner_of (Some o) = owner_of_class o.class
-
--- the conversion of the key, and then the fault
-abbrev pub not_in_profile : World → Value → Outcome
-not_in_profile w key = after_text (text_of_value w key) (λ name v. Faults NotInProfile)
 
 -- whether a plain object has its own property of this name
 abbrev pub own_of_plain : World → ℕ → Span → Outcome
@@ -69,8 +46,8 @@ number_of_array w n z =
     if is_index z then Gives (Boolean (nat_lt (unsigned_abs z) (length (elements_at w n)))) w
     else after_text (text_of_value w (Num z)) (λ name v. Gives (Boolean false) v)
 
-abbrev pub own_of : Owner → World → ℕ → Value → Outcome
-own_of OtherValue w n key = not_in_profile w key
+abbrev pub own_of : Holder → World → ℕ → Value → Outcome
+own_of OtherObject w n key = not_in_profile w key
 own_of PlainObject w n (Num z) = numeral_of_plain w n z
 own_of PlainObject w n key = after_text (text_of_value w key) (λ name v. own_of_plain v n name)
 own_of ArrayObject w n (Num z) = number_of_array w n z
@@ -78,7 +55,7 @@ own_of ArrayObject w n key = after_text (text_of_value w key) (λ name v. own_of
 
 -- whether a value has its own property of that key
 abbrev pub has_own : World → Value → Value → Outcome
-has_own w (Object n) key = own_of (owner_of (object_at w n)) w n key
+has_own w (Object n) key = own_of (holder_of (object_at w n)) w n key
 has_own w Undefined key = not_in_profile w key
 has_own w Null key = not_in_profile w key
 has_own w (Boolean b) key = not_in_profile w key

@@ -6,8 +6,7 @@ ghost use Rattle.rip_heap.specs.Arrays.{elements_at, new_array};
 ghost use Rattle.rip_heap.specs.Growth.{Grows};
 ghost use Rattle.rip_heap.specs.Outcome.{Answers, AnswersOrLacks};
 ghost use Rattle.rip_builtins.specs.Arguments.{value_or_fault, object_or_limit};
-ghost use Rattle.rip_builtins.specs.Arrays.{push, pop, slice, slice_between, index_of, index_in, place_from_end, place_or_none, place_of_value, first_equal, with_more};
-ghost use Rattle.rip_heap.specs.World.{paid, is_array, class_of, object_at};
+ghost use Rattle.rip_builtins.specs.Arrays.{push, pop, slice, slice_between, index_of, index_in, place_from_end, place_or_none, place_of_value, first_equal};
 
 use crate::arguments::{argument, count_value, integer_of};
 use crate::texts::end_of;
@@ -17,30 +16,14 @@ use std::alloc::Global;
 
 // `push` (ECMA-262 15.4.4.7).
 pub fn push(alloc: Global, heap: &mut Heap, array: u32, args: &[Value]) -> OpDone
-    requires { is_array (class_of (object_at heap.old array)) ≡ true }
     ensures answers { AnswersOrLacks (push heap.old array args.now) heap.old result heap.new }
     ensures grows { Grows heap.old heap.new }
 {
-    if args.len() > heap.free_cells() as usize {
-        return OpDone::Limit(Limit::Cells);
-    }
-    match push_all(alloc, heap, array, args) {
+    match heap.push_items(alloc, array, args) {
         Ok(()) => OpDone::Value(count_value(heap.count(array))),
-        Err(_) => OpDone::Memory,
+        Err(Refused::Limit(limit)) => OpDone::Limit(limit),
+        Err(Refused::Memory) => OpDone::Memory,
     }
-}
-
-// Puts the values behind the elements of the array, for which there are cells.
-fn push_all(alloc: Global, heap: &mut Heap, array: u32, args: &[Value]) -> Result<(), Refused>
-    requires array { is_array (class_of (object_at heap.old array)) ≡ true }
-    requires room { heap.old.cells + length args.now ≤ heap.old.limit }
-    ensures pushed { OnOk result (heap.new ≡ with_more (paid (length args.now) heap.old) array args.now) }
-    ensures grows { Grows heap.old heap.new }
-{
-    for v in args {
-        heap.push_item(alloc, array, *v)?;
-    }
-    Ok(())
 }
 
 // `pop` (ECMA-262 15.4.4.6).
@@ -73,13 +56,10 @@ fn slice_between(alloc: Global, heap: &mut Heap, array: u32, a: i64, b: i64) -> 
     let count = heap.count(array);
     let from = place_from_end(count, a);
     let to = place_from_end(count, b);
-    match elements(alloc, heap, array, from, to) {
-        Ok(items) => match heap.new_array(alloc, &items) {
-            Ok(made) => OpDone::Value(Value::Object(made)),
-            Err(Refused::Limit(limit)) => OpDone::Limit(limit),
-            Err(Refused::Memory) => OpDone::Memory,
-        },
-        Err(NoMemory) => OpDone::Memory,
+    match heap.new_piece(alloc, array, from, to) {
+        Ok(made) => OpDone::Value(Value::Object(made)),
+        Err(Refused::Limit(limit)) => OpDone::Limit(limit),
+        Err(Refused::Memory) => OpDone::Memory,
     }
 }
 

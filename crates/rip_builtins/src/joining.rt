@@ -1,10 +1,11 @@
-ghost use Rattle.std.specs.Prelude.{◌≡◌, ◌+◌, ◌<◌, ◌≤◌, ◌^◌, ◌∷◌, ◌++◌, IfOk, OnOk, Ok, Some, drop, length, map, min, option_map};
+ghost use Rattle.std.specs.Prelude.{◌≡◌, ◌+◌, ◌<◌, ◌≤◌, ◌^◌, ◌∷◌, ◌++◌, IfOk, IfErr, OnOk, Ok, Err, Some, drop, length, map, min, option_map};
 ghost use Rattle.std.specs.List.{flat_map};
 ghost use Rattle.rip_values.specs.Pool.{text_at};
 ghost use Rattle.rip_heap.specs.Arrays.{elements_at};
+ghost use Rattle.rip_heap.specs.Conversions.{text_in};
 ghost use Rattle.rip_heap.specs.Growth.{Grows};
 ghost use Rattle.rip_heap.specs.Outcome.{AnswersOrLacks};
-ghost use Rattle.rip_builtins.specs.Joining.{join, join_items, converted, charged, all_charged, text_in, element_in, separator_in, joined_by, text_within, numeral_of};
+ghost use Rattle.rip_builtins.specs.Joining.{join, join_items, converted, charged, all_charged, element_in, separator_in, joined_by, text_within, numeral_of};
 
 use crate::arguments::{argument, fixed_span};
 use crate::arrays::elements;
@@ -38,14 +39,14 @@ fn join_items(alloc: Global, heap: &mut Heap, separator: &Value, items: &[Value]
 
 // The units that are charged behind the conversions of all values, the separator's first.
 fn all_charged(heap: &Heap, separator: &Value, items: &[Value]) -> Result<u32, Halt>
-    ensures { result ≡ all_charged heap.now.pool.limit heap.now.pool.used (separator.now ∷ items.now) }
+    ensures { result ≡ all_charged heap.now.pool heap.now.pool.used (separator.now ∷ items.now) }
 {
     let used = charged(heap, heap.pool().used(), separator)?;
     all_charged_behind(heap, used, items)
 }
 
 fn all_charged_behind(heap: &Heap, before: u32, items: &[Value]) -> Result<u32, Halt>
-    ensures { result ≡ all_charged heap.now.pool.limit before items.now }
+    ensures { result ≡ all_charged heap.now.pool before items.now }
 {
     let mut used = before;
     for v in items {
@@ -56,12 +57,16 @@ fn all_charged_behind(heap: &Heap, before: u32, items: &[Value]) -> Result<u32, 
 
 // The units that are charged behind the conversion of the value.
 fn charged(heap: &Heap, used: u32, v: &Value) -> Result<u32, Halt>
-    ensures { result ≡ charged heap.now.pool.limit used v.now }
+    ensures { result ≡ charged heap.now.pool used v.now }
 {
     match v {
         Value::Num(number) => {
             let mut room = [0; 17];
-            let more = u64::from(used) + text_of_whole(*number, &mut room) as u64;
+            let count = text_of_whole(*number, &mut room);
+            if count > heap.pool().text_limit() as usize {
+                return Err(Halt::Fault(Fault::TextTooLong));
+            }
+            let more = u64::from(used) + count as u64;
             if more <= u64::from(heap.pool().limit()) {
                 Ok(more as u32)
             } else {
@@ -81,7 +86,7 @@ fn join_charged(
     items: &[Value],
     used: u32,
 ) -> OpDone
-    requires { all_charged heap.old.pool.limit heap.old.pool.used (separator.now ∷ items.now) ≡ Ok used }
+    requires { all_charged heap.old.pool heap.old.pool.used (separator.now ∷ items.now) ≡ Ok used }
     ensures answers { AnswersOrLacks (join_items heap.old separator.now items.now) heap.old result heap.new }
     ensures grows { Grows heap.old heap.new }
 {
@@ -90,7 +95,7 @@ fn join_charged(
             if u64::from(used) + text.len() as u64 > u64::from(heap.pool().limit()) {
                 return OpDone::Limit(Limit::Units);
             }
-            add_joined(alloc, heap, separator, items, &text)
+            add_joined(alloc, heap, separator, items, used, &text)
         }
         Ok(None) => OpDone::Fault(Fault::TextTooLong),
         Err(NoMemory) => OpDone::Memory,
@@ -258,14 +263,17 @@ fn text_at(heap: &Heap, span: Span) -> &[u16]
     heap.pool().get(span)
 }
 
-// Makes all values texts, and then the joined text.
+// Makes all values texts, and then the joined text, for all of which there is room.
 fn add_joined(
     alloc: Global,
     heap: &mut Heap,
     separator: &Value,
     items: &[Value],
+    used: u32,
     text: &[u16],
 ) -> OpDone
+    requires charged { all_charged heap.old.pool heap.old.pool.used (separator.now ∷ items.now) ≡ Ok used }
+    requires room { used + length text.now ≤ heap.old.pool.limit }
     requires text { text_within heap.old.pool.text_limit (joined_by (separator_in heap.old separator.now) (map (element_in heap.old) items.now)) ≡ Some text.now }
     ensures answers { AnswersOrLacks (join_items heap.old separator.now items.now) heap.old result heap.new }
     ensures grows { Grows heap.old heap.new }
@@ -287,6 +295,7 @@ fn convert_all(
     items: &[Value],
 ) -> Result<(), Halt>
     ensures made { OnOk result (converted heap.old (separator.now ∷ items.now) ≡ Ok heap.new) }
+    ensures halts { IfErr result (λ halt. converted heap.old (separator.now ∷ items.now) ≡ Err halt) }
     ensures grows { Grows heap.old heap.new }
 {
     to_text(alloc, heap, *separator)?;
@@ -295,6 +304,7 @@ fn convert_all(
 
 fn convert_items(alloc: Global, heap: &mut Heap, items: &[Value]) -> Result<(), Halt>
     ensures made { OnOk result (converted heap.old items.now ≡ Ok heap.new) }
+    ensures halts { IfErr result (λ halt. converted heap.old items.now ≡ Err halt) }
     ensures grows { Grows heap.old heap.new }
 {
     for v in items {

@@ -4,8 +4,7 @@ ghost use Rattle.rip_builtins.specs.Arguments.{then_tries};
 ghost use Rattle.rip_builtins.specs.Numbers.{absolute, math_abs, math_floor, math_extreme, extreme_of, extreme_of_two, numbers_of, is_nan_call, number_call};
 
 use crate::arguments::{argument, count_value};
-use crate::outcome::{number_done, truth_done};
-use rip_heap::{Heap, OpDone, to_number};
+use rip_heap::{Heap, OpDone, number_done, to_number, truth_done};
 use rip_values::{Fault, Numeral, Value, Whole};
 
 /// Which number of several is asked for.

@@ -1,24 +1,15 @@
 ghost use Rattle.std.specs.Prelude.{◌≡◌};
 ghost use Rattle.rip_heap.specs.Growth.{Grows};
 ghost use Rattle.rip_heap.specs.Outcome.{Answers};
-ghost use Rattle.rip_heap.specs.World.{object_at};
-ghost use Rattle.rip_builtins.specs.OwnProperties.{has_own_property, has_own, own_of, own_of_plain, own_of_array, numeral_of_plain, number_of_array, not_in_profile, owner_of};
+ghost use Rattle.rip_builtins.specs.OwnProperties.{has_own_property, has_own, own_of, own_of_plain, own_of_array, numeral_of_plain, number_of_array};
 
 use crate::arguments::argument;
-use crate::numerals::has_room;
 use rip_heap::{
-    Class, Heap, OpDone, index_of, is_barred, is_index, is_named, is_underscored, to_text,
+    Heap, Holder, OpDone, holder_of, index_of, is_barred, is_index, is_named, is_underscored,
+    not_in_profile, to_text,
 };
-use rip_values::{FIRST_HEAP_OBJECT, Fault, FixedText, Limit, Span, Value, Whole};
+use rip_values::{Fault, FixedText, Span, Value, Whole};
 use std::alloc::Global;
-
-/// What a receiver is to `hasOwnProperty`.
-#[derive(Clone, Copy, Debug, PartialEq, Eq)]
-pub enum Owner {
-    PlainObject,
-    ArrayObject,
-    OtherValue,
-}
 
 // `hasOwnProperty` (ECMA-262 15.2.4.5).
 pub fn has_own_property(alloc: Global, heap: &mut Heap, this: Value, args: &[Value]) -> OpDone
@@ -34,54 +25,26 @@ fn has_own(alloc: Global, heap: &mut Heap, this: Value, key: Value) -> OpDone
 {
     match this {
         Value::Object(number) => {
-            let owner = owner_of(heap, number);
-            own_of(alloc, heap, owner, number, key)
+            let holder = holder_of(heap, number);
+            own_of(alloc, heap, holder, number, key)
         }
         _ => not_in_profile(heap, key),
     }
 }
 
-fn owner_of(heap: &Heap, number: u32) -> Owner
-    ensures { result ≡ owner_of (object_at heap.now number) }
-{
-    if number < FIRST_HEAP_OBJECT || number - FIRST_HEAP_OBJECT >= heap.objects() {
-        return Owner::OtherValue;
-    }
-    match heap.class(number) {
-        Class::Plain | Class::Prototype | Class::Code => Owner::PlainObject,
-        Class::Array => Owner::ArrayObject,
-        _ => Owner::OtherValue,
-    }
-}
-
-fn own_of(alloc: Global, heap: &mut Heap, owner: Owner, number: u32, key: Value) -> OpDone
-    ensures answers { Answers (own_of owner heap.old number key) heap.old result heap.new }
+fn own_of(alloc: Global, heap: &mut Heap, holder: Holder, number: u32, key: Value) -> OpDone
+    ensures answers { Answers (own_of holder heap.old number key) heap.old result heap.new }
     ensures grows { Grows heap.old heap.new }
 {
-    match owner {
-        Owner::PlainObject => in_plain_object(alloc, heap, number, key),
-        Owner::ArrayObject => in_array_object(alloc, heap, number, key),
-        Owner::OtherValue => not_in_profile(heap, key),
-    }
-}
-
-// The fault, behind the conversion of the key.
-fn not_in_profile(heap: &Heap, key: Value) -> OpDone
-    ensures { Answers (not_in_profile heap.now key) heap.now result heap.now }
-{
-    match key {
-        Value::Object(_) => OpDone::Fault(Fault::ObjectToPrimitive),
-        Value::Num(number) => if has_room(heap, number) {
-            OpDone::Fault(Fault::NotInProfile)
-        } else {
-            OpDone::Limit(Limit::Units)
-        },
-        _ => OpDone::Fault(Fault::NotInProfile),
+    match holder {
+        Holder::PlainObject => in_plain_object(alloc, heap, number, key),
+        Holder::ArrayObject => in_array_object(alloc, heap, number, key),
+        Holder::OtherObject => not_in_profile(heap, key),
     }
 }
 
 fn in_plain_object(alloc: Global, heap: &mut Heap, number: u32, key: Value) -> OpDone
-    ensures answers { Answers (own_of Owner.PlainObject heap.old number key) heap.old result heap.new }
+    ensures answers { Answers (own_of Holder.PlainObject heap.old number key) heap.old result heap.new }
     ensures grows { Grows heap.old heap.new }
 {
     match key {
@@ -113,7 +76,7 @@ fn own_of_plain(heap: &Heap, number: u32, name: Span) -> OpDone
 }
 
 fn in_array_object(alloc: Global, heap: &mut Heap, number: u32, key: Value) -> OpDone
-    ensures answers { Answers (own_of Owner.ArrayObject heap.old number key) heap.old result heap.new }
+    ensures answers { Answers (own_of Holder.ArrayObject heap.old number key) heap.old result heap.new }
     ensures grows { Grows heap.old heap.new }
 {
     match key {

@@ -14,8 +14,8 @@ ghost use Rattle.rip_builtins.specs.ParseInt.{is_marked, base_of, without_mark, 
 
 use crate::arguments::argument;
 use crate::numerals::behind_numeral;
-use crate::outcome::{value_done, value_of};
-use rip_heap::{Heap, OpDone, to_int32, to_number, to_text};
+use crate::outcome::value_done;
+use rip_heap::{Heap, OpDone, to_int32, to_number, to_text, value_of};
 use rip_values::{Fault, Numeral, Value, Whole, is_line_end, is_white_space, text_of_whole};
 use std::alloc::Global;
 

@@ -1,4 +1,4 @@
-use Rattle.std.specs.Prelude.{ℕ, Option, None, Some, List, [], ◌∷◌, ◌++◌, length, ◌-◌, take, slice_get, slice_set}
+use Rattle.std.specs.Prelude.{ℕ, Option, None, Some, List, [], ◌∷◌, ◌++◌, length, ◌-◌, ◌*◌, take, slice_get, slice_range, slice_set}
 use Rattle.rip_values.specs.declared.value.Value.{Value}
 use Rattle.rip_heap.specs.declared.class.Class.TheVariants.{Array}
 use Rattle.rip_heap.specs.Objects.{adding}
@@ -50,6 +50,20 @@ cut w n count = with_elements w n (take count) (as_array (object_at w n))
 abbrev pub push_in : World → ℕ → Value → Option Object → Option World
 push_in w n v None = Some w
 push_in w n v (Some o) = charging cost_of_element w (λ x. with_object x n (record o { elements = o.elements ++ v ∷ [] }))
+
+-- the array with these elements behind the others, at a cell each, or the world as it was where there is no array
+abbrev pub push_all_in : World → ℕ → List Value → Option Object → Option World
+push_all_in w n items None = Some w
+push_all_in w n items (Some o) =
+    charging (length items * cost_of_element) w (λ x. with_object x n (record o { elements = o.elements ++ items }))
+
+-- the array with these elements behind the others, all of them or none; what is no array of the world stays as it is
+abbrev pub push_items : World → ℕ → List Value → Option World
+push_items w n items = push_all_in w n items (as_array (object_at w n))
+
+-- a new array of the elements of an array from one place up to another
+abbrev pub new_piece : World → ℕ → ℕ → ℕ → Option (ℕ × World)
+new_piece w n from to = new_array w (slice_range (elements_at w n) from to)
 
 -- the array with one element more behind the others; what is no array of the world stays as it is
 abbrev pub push_item : World → ℕ → Value → Option World

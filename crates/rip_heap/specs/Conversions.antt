@@ -1,4 +1,4 @@
-use Rattle.std.specs.Prelude.{ℕ, ℤ, pos, Bool, true, false, not, List, [], ◌∷◌, length, drop, Option, None, Some, Result, Ok, Err, ◌==◌, ◌^◌, ◌-ℤ◌, nat_eq, nat_le, nat_lt, if◌then◌else◌, unsigned_abs, codes, unwrap_or}
+use Rattle.std.specs.Prelude.{ℕ, ℤ, pos, Bool, true, false, not, List, [], ◌∷◌, length, drop, Option, None, Some, Result, Ok, Err, ◌==◌, ◌^◌, ◌+◌, ◌-ℤ◌, nat_eq, nat_le, nat_lt, if◌then◌else◌, unsigned_abs, codes, unwrap_or}
 use Rattle.std.specs.Cmp.Lexicographic.{pointwise}
 use Rattle.std.specs.Int.{int_rem_euclid}
 use Rattle.std.specs.Ordering.{int_eq}
@@ -10,7 +10,7 @@ use Rattle.rip_values.specs.declared.value.Value.TheVariants.{Undefined, Null, B
 use Rattle.rip_values.specs.declared.value.Numeral.{Numeral}
 use Rattle.rip_values.specs.declared.value.Numeral.TheVariants.{Num as Number, NaN as NotANumber}
 use Rattle.rip_values.specs.declared.value.Fault.{Fault}
-use Rattle.rip_values.specs.declared.value.Fault.TheVariants.{NotWhole, Infinite, OutOfRange, ObjectToPrimitive}
+use Rattle.rip_values.specs.declared.value.Fault.TheVariants.{NotWhole, Infinite, OutOfRange, ObjectToPrimitive, TextTooLong}
 use Rattle.rip_values.specs.declared.value.Limit.TheVariants.{Units}
 use Rattle.rip_values.specs.declared.fixed.FixedText.{FixedText}
 use Rattle.rip_values.specs.declared.fixed.FixedText.TheVariants.{Undefined as UndefinedText, Null as NullText, True as TrueText, False as FalseText, NaN as NaNText}
@@ -113,6 +113,19 @@ abbrev pub text_made : World → Option (Span × World) → Result Span Halt × 
 text_made w None = (Err (HaltLimit Units), w)
 text_made w (Some made) = (Ok made.0, made.1)
 
+-- whether a text of so many units can be made: no text that a run makes is longer than the limit, which is judged
+-- before the charge
+abbrev pub room_for_text : Texts → ℕ → Result (Unit {0}) Halt
+room_for_text pool count =
+    if nat_le count pool.text_limit then
+    (if nat_le (pool.used + count) pool.limit then Ok tt else Err (HaltLimit Units))
+    else Err (HaltFault TextTooLong)
+
+-- what the conversion of a whole number answers: a new text, whose length is judged before it is charged
+abbrev pub numeral_made : World → List ℕ → Result Span Halt × World
+numeral_made w text =
+    if nat_le (length text) w.pool.text_limit then text_made w (new_text w text) else (Err (HaltFault TextTooLong), w)
+
 -- ECMA-262 9.8: the span of the text, and the world with it. A whole number makes a new text, at its length in units;
 -- the others cost nothing
 abbrev pub text_of_value : World → Value → Result Span Halt × World
@@ -120,10 +133,31 @@ text_of_value w Undefined = (Ok (span_of UndefinedText), w)
 text_of_value w Null = (Ok (span_of NullText), w)
 text_of_value w (Boolean false) = (Ok (span_of FalseText), w)
 text_of_value w (Boolean true) = (Ok (span_of TrueText), w)
-text_of_value w (Num z) = text_made w (new_text w (signed_decimal z))
+text_of_value w (Num z) = numeral_made w (signed_decimal z)
 text_of_value w NaN = (Ok (span_of NaNText), w)
 text_of_value w (Text span) = (Ok span, w)
 text_of_value w (Object n) = (Err (HaltFault ObjectToPrimitive), w)
+
+-- the text of a value; an object has none
+abbrev pub text_in : World → Value → List ℕ
+text_in w Undefined = text_at w.pool (span_of UndefinedText)
+text_in w Null = text_at w.pool (span_of NullText)
+text_in w (Boolean false) = text_at w.pool (span_of FalseText)
+text_in w (Boolean true) = text_at w.pool (span_of TrueText)
+text_in w (Num z) = signed_decimal z
+text_in w NaN = text_at w.pool (span_of NaNText)
+text_in w (Text span) = text_at w.pool span
+text_in w (Object n) = []
+
+-- the fault of the conversion to a text, which comes before any charge
+abbrev pub text_fault : Texts → Value → Option Fault
+text_fault pool Undefined = None
+text_fault pool Null = None
+text_fault pool (Boolean b) = None
+text_fault pool (Num z) = if nat_le (length (signed_decimal z)) pool.text_limit then None else Some TextTooLong
+text_fault pool NaN = None
+text_fault pool (Text span) = None
+text_fault pool (Object n) = Some ObjectToPrimitive
 
 -- STRICT EQUALITY
 

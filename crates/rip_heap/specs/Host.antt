@@ -22,8 +22,16 @@ AnswerBelongs w (Fault fault) = Unit {0}
 AnswerBelongs w (Limit limit) = Unit {0}
 AnswerBelongs w Memory = Unit {0}
 
--- what holds after each call of a host, whatever it answers
-pub record HostKeeps (old new : World) (answer : HostDone) : Type 0 where
+-- a fault, a limit and want of memory change nothing, neither in the world nor in the host
+abbrev pub LeavesOnRefusal : {S : Type 0} → World → S → HostDone → World → S → Type 0
+LeavesOnRefusal w s (Value v) x t = Unit {0}
+LeavesOnRefusal w s TypeFault x t = Unit {0}
+LeavesOnRefusal w s (Dom code) x t = Unit {0}
+LeavesOnRefusal w s (Fault fault) x t = (x ≡ w) × (t ≡ s)
+LeavesOnRefusal w s (Limit limit) x t = (x ≡ w) × (t ≡ s)
+LeavesOnRefusal w s Memory x t = (x ≡ w) × (t ≡ s)
+
+-- what a host keeps of the world in all that it does: it only grew, and by no function of the script
+pub record Keeps (old new : World) : Type 0 where
   pub grows : Grows old new
   pub functions : MakesNoFunction old new
-  pub belongs : AnswerBelongs new answer

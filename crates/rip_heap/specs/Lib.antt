@@ -1,6 +1,8 @@
 pub mod Arrays
 pub mod Conversions
+pub mod Errors
 pub mod Growth
+pub mod Holders
 pub mod Host
 pub mod Keys
 pub mod Laws

@@ -32,13 +32,13 @@ Answers outcome old (OpFault fault) new = (outcome ≡ Faults fault) × (new ≡
 Answers outcome old (OpLimit limit) new = (outcome ≡ Exceeds limit) × (new ≡ old)
 Answers outcome old Memory new = ⊥
 
--- the same of a call that takes memory, of whose want nothing is said
+-- the same of a call that takes memory, whose want leaves the world as before too
 abbrev pub AnswersOrLacks : Outcome → World → OpDone → World → Type 0
 AnswersOrLacks outcome old (OpValue v) new = outcome ≡ Gives v new
 AnswersOrLacks outcome old TypeFault new = (outcome ≡ Throws) × (new ≡ old)
 AnswersOrLacks outcome old (OpFault fault) new = (outcome ≡ Faults fault) × (new ≡ old)
 AnswersOrLacks outcome old (OpLimit limit) new = (outcome ≡ Exceeds limit) × (new ≡ old)
-AnswersOrLacks outcome old Memory new = Unit {0}
+AnswersOrLacks outcome old Memory new = new ≡ old
 
 -- a number as a value
 abbrev pub value_of : Numeral → Value

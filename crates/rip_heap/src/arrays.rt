@@ -1,7 +1,7 @@
-ghost use Rattle.std.specs.Prelude.{◌≡◌, ◌+◌, ◌^◌, ◌<◌, ⊤, IfOk, MatchOption, slice_get, length};
+ghost use Rattle.std.specs.Prelude.{◌≡◌, ◌+◌, ◌^◌, ◌<◌, ⊤, IfOk, MatchOption, slice_get, slice_range, length};
 ghost use Rattle.rip_values.specs.declared.value.Value.{Value};
 ghost use Rattle.rip_heap.specs.Growth.{Grows};
-ghost use Rattle.rip_heap.specs.Arrays.{new_array, cut, elements_at, last_of, with_item, popped, push_item};
+ghost use Rattle.rip_heap.specs.Arrays.{new_array, new_piece, cut, elements_at, last_of, with_item, popped, push_item, push_items};
 ghost use Rattle.rip_heap.specs.Step.{Makes, Changes};
 ghost use Rattle.rip_heap.specs.World.{object_at, as_array, first_object, IsObject};
 
@@ -71,6 +71,57 @@ impl Heap {
         target.push_element(v)?;
         self.used += 1;
         Ok(())
+    }
+
+    /// Puts these elements behind the others, all of them or none. What is no array of this heap stays as it is.
+    pub fn push_items(&mut self, alloc: Global, array: u32, items: &[Value]) -> Result<(), Refused>
+        ensures made { Changes (push_items self.old array items.now) self.old result self.new }
+        ensures grows { Grows self.old self.new }
+    {
+        let Some(at) = self.place_of_array(array) else {
+            return Ok(());
+        };
+        self.room_for(items.len())?;
+        let target = &mut self.objects[at];
+        target.push_elements(items)?;
+        self.used += items.len() as u32;
+        Ok(())
+    }
+
+    /// A new array of the elements of an array from one place up to another.
+    pub fn new_piece(
+        &mut self,
+        alloc: Global,
+        array: u32,
+        from: u32,
+        to: u32,
+    ) -> Result<u32, Refused>
+        ensures made { Makes Limit.Cells (new_piece self.old array from to) self.old result self.new }
+        ensures stands { IfOk result (IsObject self.new) }
+        ensures grows { Grows self.old self.new }
+    {
+        let items = self.piece(array, from as usize, to as usize);
+        let count = items.len();
+        self.room_for(count + 1)?;
+        let made = StoredObject::array(alloc, items)?;
+        let number = FIRST_HEAP_OBJECT + self.objects.len() as u32;
+        push(&mut self.objects, made)?;
+        self.used += count as u32 + 1;
+        Ok(number)
+    }
+
+    // The elements of the array from one place up to another.
+    fn piece(&self, array: u32, from: usize, to: usize) -> &[Value]
+        ensures items { result.now ≡ slice_range (elements_at self.now array) from to }
+        ensures counted { length result.now < 2 ^ 32 }
+    {
+        match self.array(array) {
+            Some(found) => {
+                let end = to.min(found.elements.len());
+                &found.elements[from.min(end)..end]
+            }
+            None => &[],
+        }
     }
 
     /// Takes the last element away and gives it. No cell is given back.

@@ -1,12 +1,15 @@
-ghost use Rattle.std.specs.Prelude.{◌≡◌};
+ghost use Rattle.std.specs.Prelude.{◌≡◌, length};
+ghost use Rattle.std.specs.Fmt.{signed_decimal};
 ghost use Rattle.rip_values.specs.Whole.{IsWhole};
 ghost use Rattle.rip_heap.specs.Growth.{Grows};
-ghost use Rattle.rip_heap.specs.Conversions.{boolean_of, number_of, IsSpelled, integer_of, uint32_of, int32_of, text_of_value, strictly_equal, span_of};
+ghost use Rattle.rip_heap.specs.Conversions.{boolean_of, number_of, IsSpelled, integer_of, uint32_of, int32_of, text_of_value, room_for_text, strictly_equal, span_of};
 
 use crate::heap::Heap;
 use crate::names::same_text;
 use crate::outcome::Halt;
-use rip_values::{Fault, FixedText, Numeral, Span, Value, Whole, number_of_text, text_of_whole};
+use rip_values::{
+    Fault, FixedText, Limit, Numeral, Span, Value, Whole, number_of_text, text_of_whole,
+};
 use std::alloc::Global;
 
 /// ToBoolean (ECMA-262 9.2).
@@ -77,6 +80,29 @@ pub fn to_text(alloc: Global, heap: &mut Heap, v: Value) -> Result<Span, Halt>
         Value::Text(span) => Ok(span),
         Value::Object(_) => Err(Halt::Fault(Fault::ObjectToPrimitive)),
     }
+}
+
+/// Whether a text of so many units can be made: its length is judged before it is charged.
+pub fn room_for_text(heap: &Heap, count: usize) -> Result<(), Halt>
+    ensures { result ≡ room_for_text heap.now.pool count }
+{
+    let pool = heap.pool();
+    if count > pool.text_limit() as usize {
+        return Err(Halt::Fault(Fault::TextTooLong));
+    }
+    if count > pool.free() as usize {
+        return Err(Halt::Limit(Limit::Units));
+    }
+    Ok(())
+}
+
+/// Whether the number's numeral can be made. No text is.
+pub fn room_for_numeral(heap: &Heap, number: Whole) -> Result<(), Halt>
+    ensures { result ≡ room_for_text heap.now.pool (length (signed_decimal number)) }
+{
+    let mut room = [0; 17];
+    let count = text_of_whole(number, &mut room);
+    room_for_text(heap, count)
 }
 
 /// `===` (ECMA-262 11.9.6).

@@ -17,7 +17,8 @@ pub enum HostDone {
 }
 
 /// What stands behind the objects that are not the heap's: the document, its nodes, and the built-in functions that
-/// work on them. Each call is a function of the heap and the host, its charges included.
+/// work on them. Each call is a function of the heap and the host, its charges included. A fault, a limit and want of
+/// memory leave both as they were.
 pub trait Host {
     ghost use Rattle.std.specs.Prelude.{◌≡◌, ℕ, Bool, IsTrue, List};
     ghost use Rattle.rip_values.specs.declared.value.Span.{Span};
@@ -25,7 +26,7 @@ pub trait Host {
     ghost use Rattle.rip_heap.specs.declared.host.HostDone.{HostDone};
     ghost use Rattle.rip_heap.specs.World.{World};
     ghost use Rattle.rip_heap.specs.Growth.{Grows};
-    ghost use Rattle.rip_heap.specs.Host.{Gives, HostKeeps};
+    ghost use Rattle.rip_heap.specs.Host.{Gives, Keeps, AnswerBelongs, LeavesOnRefusal};
 
     // The host goes with a heap of this world: each span and object that it keeps stands there.
     ghost fits: { Self → World → Type 0 };
@@ -46,7 +47,9 @@ pub trait Host {
         ensures gives { Gives (read_gives self.old heap.old object name) result heap.new self.new }
         ensures memory { result ≡ HostDone.Memory → IsTrue may_want_memory }
         ensures fits { fits self.new heap.new }
-        ensures keeps { HostKeeps heap.old heap.new result };
+        ensures keeps { Keeps heap.old heap.new }
+        ensures belongs { AnswerBelongs heap.new result }
+        ensures refused { LeavesOnRefusal heap.old self.old result heap.new self.new };
 
     /// Writes this member of the object. The value that is answered counts for nothing.
     fn write(&mut self, heap: &mut Heap, object: u32, name: Span, v: Value) -> HostDone
@@ -54,7 +57,9 @@ pub trait Host {
         ensures gives { Gives (write_gives self.old heap.old object name v) result heap.new self.new }
         ensures memory { result ≡ HostDone.Memory → IsTrue may_want_memory }
         ensures fits { fits self.new heap.new }
-        ensures keeps { HostKeeps heap.old heap.new result };
+        ensures keeps { Keeps heap.old heap.new }
+        ensures belongs { AnswerBelongs heap.new result }
+        ensures refused { LeavesOnRefusal heap.old self.old result heap.new self.new };
 
     /// The call of the built-in function `which` on `this`.
     fn call(&mut self, heap: &mut Heap, which: u32, this: Value, args: &[Value]) -> HostDone
@@ -62,7 +67,9 @@ pub trait Host {
         ensures gives { Gives (call_gives self.old heap.old which this args.now) result heap.new self.new }
         ensures memory { result ≡ HostDone.Memory → IsTrue may_want_memory }
         ensures fits { fits self.new heap.new }
-        ensures keeps { HostKeeps heap.old heap.new result };
+        ensures keeps { Keeps heap.old heap.new }
+        ensures belongs { AnswerBelongs heap.new result }
+        ensures refused { LeavesOnRefusal heap.old self.old result heap.new self.new };
 
     // A heap that only grew is still one that the host goes with.
     ghost stays: { (host : Self) (old new : World) → fits host old → Grows old new → fits host new };

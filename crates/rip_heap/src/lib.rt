@@ -13,11 +13,14 @@
 //! | [`Heap::own`], [`Heap::find`], [`Heap::own_at`] | `Objects.own`, `Objects.find`, `Objects.own_at` |
 //! | [`Heap::put`], [`Heap::remove`] | `Objects.put`, `Objects.removed` |
 //! | arrays and scopes | `Arrays`, `Scopes` |
+//! | [`Heap::new_error`] | `Errors.new_error` |
 //! | [`Heap::concat`], [`same_text`] | `Texts.concat`, `Names.same_text` |
 //! | what a call answers of its step | `Step.Makes`, `Step.Changes`, `Step.Charges` |
 //! | what every later world keeps of a world | `Growth.Grows` |
 //! | [`to_boolean`], [`to_number`], [`to_integer`], [`to_uint32`], [`to_int32`], [`to_text`], [`strictly_equal`] | `Conversions`, one table each |
-//! | [`Host`] | its own members; `Host.Gives` and `Host.HostKeeps` say what each call answers and keeps |
+//! | [`room_for_text`], [`room_for_numeral`] | `Conversions.room_for_text`: the limit `text`, and then the units |
+//! | [`holder_of`], [`not_in_profile`] | `Holders`, for `in` and `hasOwnProperty` |
+//! | [`Host`] | its own members; `Host.Gives`, `Host.Keeps` and `Host.LeavesOnRefusal` say what each call answers and keeps |
 //!
 //! Laws of worlds stand in `Laws`, each the contract of a function: what is put is read ([`puts_are_read`]) and changes no
 //! other property ([`puts_leave_others`]), and each fixed text stands at its span ([`fixed_texts_stand`]).
@@ -30,7 +33,9 @@
 mod arrays;
 mod class;
 mod convert;
+mod errors;
 mod heap;
+mod holder;
 mod host;
 mod keys;
 mod laws;
@@ -49,9 +54,11 @@ mod texts;
 
 pub use class::Class;
 pub use convert::{
-    strictly_equal, to_boolean, to_int32, to_integer, to_number, to_text, to_uint32,
+    room_for_numeral, room_for_text, strictly_equal, to_boolean, to_int32, to_integer, to_number,
+    to_text, to_uint32,
 };
 pub use heap::Heap;
+pub use holder::{Holder, holder_of, not_in_profile};
 pub use host::{EmptyHost, Host, HostDone};
 pub use keys::{
     Found, Key, Reference, index_of, is_barred, is_index, is_named, is_of_object_prototype,
@@ -62,5 +69,5 @@ pub use laws::{
 };
 pub use limits::{HeapLimits, Used};
 pub use names::same_text;
-pub use outcome::{Halt, OpDone};
+pub use outcome::{Halt, OpDone, number_done, truth_done, value_of};
 pub use property::Property;

@@ -1,5 +1,6 @@
 ghost use Rattle.std.specs.Prelude.{◌≡◌, ◌<◌, ◌∷◌, ◌++◌, [], length, remove, slice_set, IfOk, IfSome, OnOk, OnErr, replicate, take};
 ghost use Rattle.rip_heap.specs.Arrays.{array_object, last_of, without_last};
+ghost use Rattle.rip_heap.specs.Errors.{error_object};
 ghost use Rattle.rip_heap.specs.Growth.{KeepsObject};
 ghost use Rattle.rip_heap.specs.Names.{place_of};
 ghost use Rattle.rip_heap.specs.Objects.{bare, function_object, with_value};
@@ -7,7 +8,7 @@ ghost use Rattle.rip_heap.specs.Objects.{bare, function_object, with_value};
 use crate::class::Class;
 use crate::names::same_text;
 use crate::property::Property;
-use crate::room::{push, set};
+use crate::room::{push, push_all, set};
 use rip_values::{FixedText, NoMemory, Pool, Span, Value};
 use std::alloc::Global;
 use std::marker::Model;
@@ -90,6 +91,27 @@ impl StoredObject {
         })
     }
 
+    /// An error with this message.
+    pub fn error(alloc: Global, class: Class, message: Span) -> Result<StoredObject, NoMemory>
+        ensures { IfOk result (λ object. object ≡ error_object class message) }
+    {
+        let mut properties = Vec::new(alloc);
+        push(
+            &mut properties,
+            Property {
+                name: FixedText::Message.span(),
+                value: Value::Text(message),
+            },
+        )?;
+        Ok(StoredObject {
+            class,
+            proto: None,
+            code: None,
+            properties,
+            elements: Vec::new(alloc),
+        })
+    }
+
     /// The place of the property with this name.
     pub fn place(&self, pool: &Pool, name: Span) -> Option<usize>
         ensures place { result ≡ place_of pool.now name self.now.properties }
@@ -143,6 +165,15 @@ impl StoredObject {
         ensures keeps { KeepsObject self.old self.new }
     {
         push(&mut self.elements, v)
+    }
+
+    /// Puts these elements behind the others, all of them or none.
+    pub fn push_elements(&mut self, items: &[Value]) -> Result<(), NoMemory>
+        ensures ok { OnOk result (self.new ≡ record self.old { elements = self.old.elements ++ items.now }) }
+        ensures err { OnErr result (self.new ≡ self.old) }
+        ensures keeps { KeepsObject self.old self.new }
+    {
+        push_all(&mut self.elements, items)
     }
 
     /// Takes the last element away and gives it.

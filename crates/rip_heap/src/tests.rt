@@ -177,6 +177,92 @@ fn texts_are_charged(rt: HostRuntime) -> Result<(), Fail> {
 }
 
 #[test]
+fn numerals_are_judged_against_the_limit_text(rt: HostRuntime) -> Result<(), Fail> {
+    let alloc = rt.alloc();
+    let too_long = Fault::TextTooLong;
+    let mut heap = Heap::make(
+        alloc,
+        HeapLimits {
+            cells: 4,
+            units: 10,
+            text: 1,
+        },
+    )?;
+    to_text(alloc, &mut heap, number(7))?;
+    let rows = [
+        (number(8), Ok(())),
+        (number(12), Err(Halt::Fault(too_long))),
+        (number(-1), Err(Halt::Fault(too_long))),
+    ];
+    for (v, room) in rows {
+        if let Value::Num(whole) = v {
+            assert_eq!(rt; room_for_numeral(&heap, whole), room, "{v:?}");
+        }
+    }
+    assert_eq!(rt;
+        to_text(alloc, &mut heap, number(12)),
+        Err(Halt::Fault(too_long))
+    );
+    let error = heap.new_error(alloc, Class::Error, number(12));
+    assert_eq!(rt; error, OpDone::Fault(too_long));
+    assert_eq!(rt; not_in_profile(&heap, number(12)), OpDone::Fault(too_long));
+    assert_eq!(rt;
+        (heap.pool().used(), heap.pool().free(), heap.used_cells()),
+        (1, 9, 0)
+    );
+    Ok(())
+}
+
+#[test]
+fn errors_are_made_in_one_step(rt: HostRuntime) -> Result<(), Fail> {
+    let alloc = rt.alloc();
+    let mut heap = Heap::make(
+        alloc,
+        HeapLimits {
+            cells: 5,
+            units: 3,
+            text: 9,
+        },
+    )?;
+    let first = heap.new_error(alloc, Class::Error, Value::Null);
+    assert_eq!(rt; first, OpDone::Value(Value::Object(128)));
+    assert_eq!(rt;
+        heap.new_error(alloc, Class::RangeError, number(1_000)),
+        OpDone::Limit(Limit::Units)
+    );
+    let second = heap.new_error(alloc, Class::RangeError, number(-10));
+    assert_eq!(rt; second, OpDone::Value(Value::Object(129)));
+    let Some(Value::Text(message)) = heap.own(129, FixedText::Message.span()) else {
+        return Err(Fail::new("no message"));
+    };
+    assert_eq!(rt; heap.pool().get(message), [0x2D, 0x31, 0x30].as_slice());
+    assert_eq!(rt;
+        heap.new_error(alloc, Class::Error, Value::Null),
+        OpDone::Limit(Limit::Cells)
+    );
+    assert_eq!(rt; (heap.used_cells(), heap.objects()), (4, 2));
+    assert_eq!(rt; holder_of(&heap, 128), Holder::OtherObject);
+    Ok(())
+}
+
+#[test]
+fn elements_are_pushed_and_copied_together(rt: HostRuntime) -> Result<(), Fail> {
+    let alloc = rt.alloc();
+    let mut heap = Heap::make(alloc, LIMITS)?;
+    let array = heap.new_array(alloc, &[])?;
+    heap.push_items(alloc, array, &[Value::Null, Value::NaN, number(3)])?;
+    let piece = heap.new_piece(alloc, array, 1, 9)?;
+    assert_eq!(rt; (heap.count(array), heap.count(piece)), (3, 2));
+    assert_eq!(rt; heap.item(piece, 1), Some(number(3)));
+    assert_eq!(rt;
+        heap.push_items(alloc, piece, &[Value::Null, Value::Null]),
+        Err(Refused::Limit(Limit::Cells))
+    );
+    assert_eq!(rt; (heap.used_cells(), heap.count(piece)), (7, 2));
+    Ok(())
+}
+
+#[test]
 fn fixed_texts_cost_nothing(rt: HostRuntime) -> Result<(), Fail> {
     let alloc = rt.alloc();
     let mut heap = Heap::make(alloc, LIMITS)?;

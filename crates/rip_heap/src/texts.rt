@@ -3,14 +3,14 @@ ghost use Rattle.std.specs.Borrow.{sem};
 ghost use Rattle.std.specs.Fmt.{signed_decimal};
 ghost use Rattle.rip_heap.specs.Growth.{Grows};
 ghost use Rattle.rip_values.specs.Pool.{text_at, joined};
-ghost use Rattle.rip_heap.specs.Conversions.{text_made};
+ghost use Rattle.rip_heap.specs.Conversions.{numeral_made};
 ghost use Rattle.rip_heap.specs.Lending.{LendsPool};
 ghost use Rattle.rip_heap.specs.Step.{Makes, TakesNoMemory};
 ghost use Rattle.rip_heap.specs.Texts.{concat, name_added, new_text};
 
 use crate::heap::Heap;
 use crate::outcome::Halt;
-use rip_values::{Limit, NoMemory, Pool, Refused, Span, Whole, text_of_whole};
+use rip_values::{Fault, Limit, NoMemory, Pool, Refused, Span, Whole, text_of_whole};
 use std::alloc::Global;
 
 impl Heap {
@@ -46,11 +46,14 @@ impl Heap {
 
     // A new text: the decimal numeral of the number (ECMA-262 9.8.1).
     pub(crate) fn add_number(&mut self, alloc: Global, number: Whole) -> Result<Span, Halt>
-        ensures made { (result, self.new) ≡ text_made self.old (new_text self.old (signed_decimal number)) }
+        ensures made { (result, self.new) ≡ numeral_made self.old (signed_decimal number) }
         ensures grows { Grows self.old self.new }
     {
         let mut room = [0; 17];
         let count = text_of_whole(number, &mut room);
+        if count > self.pool.text_limit() as usize {
+            return Err(Halt::Fault(Fault::TextTooLong));
+        }
         match self.pool.add(alloc, &room[..count]) {
             Ok(span) => Ok(span),
             Err(_) => Err(Halt::Limit(Limit::Units)),
@@ -64,7 +67,8 @@ impl Heap {
         &self.pool
     }
 
-    /// The texts of the heap, to which more may be added. All else stays as it is.
+    /// The texts of the heap, to which more may be added. All else stays as it is. Where a heap is at hand texts are
+    /// made by its own calls, which say that older texts stand; this is for a call that takes a pool alone.
     pub fn pool_mut(&mut self) -> &mut Pool
         ensures* writes_back { sem 𝓛 (LendsPool self.entry result) }
         ensures value { result.now ≡ self.old.pool }

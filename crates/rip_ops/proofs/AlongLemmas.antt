@@ -1,10 +1,8 @@
 -- Along prototypes that are older than their objects, no bound on how many are looked at is ever met.
-use Rattle.std.proofs.Common.{◌≡◌, ℕ, zero, suc, ◌+◌, ◌-◌, ◌<◌, ◌≤◌, Bool, false, cond, Option, None, Some, refl, sym, ap, ◌∙◌, arith, IfSome}
-use Rattle.std.specs.Prelude.{is_some, ◌==◌, ◌||◌}
-use Rattle.rip_values.specs.declared.value.Span.{Span}
-use Rattle.rip_heap.specs.Objects.{own}
+use Rattle.std.proofs.Common.{◌≡◌, ℕ, zero, suc, ◌+◌, ◌-◌, ◌<◌, ◌≤◌, Bool, false, Option, None, Some, refl, sym, ap, ◌∙◌, arith, IfSome}
+use Rattle.std.specs.Prelude.{◌==◌, ◌||◌}
 use Rattle.rip_heap.specs.Sound.{HaveOlderProtos}
-use Rattle.rip_heap.specs.World.{World, object_at, class_of, proto_of, first_object}
+use Rattle.rip_heap.specs.World.{World, object_at, proto_of, first_object}
 use Rattle.rip_heap.proofs.FindLemmas.{proto-older}
 use Rattle.rip_ops.specs.Instances.{met, is_within, is_above}
 use Rattle.rip_ops.specs.Laws.{FollowsPrototypes}

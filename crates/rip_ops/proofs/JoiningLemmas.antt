@@ -1,6 +1,6 @@
 -- A text and a numeral joined: what a span stands for stays when a text is added.
-use Rattle.std.proofs.Common.{◌≡◌, ℕ, zero, suc, ℤ, ◌+◌, ◌-◌, ◌≤◌, Bool, true, false, cond, List, [], ◌∷◌, ◌++◌, length, take, drop, None, Some, Result, Ok, Err, refl, sym, ap, ◌∙◌, arith, nat_le, min}
-use Rattle.std.proofs.lemmas.List.{take-append-le, length-append, length-take}
+use Rattle.std.proofs.Common.{◌≡◌, ℕ, ℤ, ◌+◌, ◌-◌, Bool, true, false, cond, List, ◌++◌, length, take, None, Some, Result, Ok, Err, refl, sym, ap, ◌∙◌, arith, nat_le}
+use Rattle.std.proofs.lemmas.List.{length-append}
 use Rattle.std.proofs.Math.Seq.{drop-append_seam, take-length}
 use Rattle.std.specs.Fmt.{signed_decimal}
 use Rattle.rip_values.specs.declared.value.Span.{Span}
@@ -13,31 +13,11 @@ use Rattle.rip_heap.specs.declared.outcome.Halt.TheVariants.{Fault as HaltFault,
 use Rattle.rip_heap.specs.Conversions.{text_of_value, text_made}
 use Rattle.rip_heap.specs.Texts.{new_text, concat}
 use Rattle.rip_heap.specs.World.{World}
-use Rattle.rip_ops.specs.Addition.{joining, room_for}
+use Rattle.rip_ops.specs.Addition.{joining, room_for, room_behind}
 use Rattle.rip_heap.specs.Outcome.{Gives, Faults, after_text, judged, text_or_limit}
-
-take-taken : (c : ℕ) (xs : List ℕ) → take (length (take c xs)) xs ≡ take c xs
-take-taken zero xs = refl
-take-taken (suc c) [] = refl
-take-taken (suc c) (x ∷ xs) = ap (λ l. x ∷ l) (take-taken c xs)
-
-taken-le : (c : ℕ) (xs : List ℕ) → length (take c xs) ≤ length xs
-taken-le c xs = let h : length (take c xs) ≡ min c (length xs) = length-take c xs in omega arith
-
--- what there is of a part of a list stays when more is put behind it
-part-stays : (xs t : List ℕ) (i c : ℕ) → take (length (take c (drop i xs))) (drop i (xs ++ t)) ≡ take c (drop i xs)
-part-stays xs t zero c = take-append-le (length (take c xs)) xs t (taken-le c xs) ∙ take-taken c xs
-part-stays [] t (suc i) zero = refl
-part-stays [] t (suc i) (suc c) = refl
-part-stays (x ∷ xs) t (suc i) c = part-stays xs t i c
 
 counted : (i c : ℕ) → (i + c) - i ≡ c
 counted i c = omega arith
-
-pub held-stays : (pool : Texts) (x h : Span) (t : List ℕ) (charge : ℕ) → h.start ≡ x.start → h.count ≡ length (text_at pool x) → text_at (with_text pool t charge) h ≡ text_at pool x
-held-stays pool x h t charge s c =
-    let count : (h.start + h.count) - h.start ≡ length (text_at pool x) = counted h.start h.count ∙ c in
-    (λ i. take (count i) (drop (s i) (pool.units ++ t))) ∙ part-stays pool.units t x.start ((x.start + x.count) - x.start)
 
 pub behind-stands : (pool : Texts) (t : List ℕ) (charge : ℕ) → text_at (with_text pool t charge) (span_behind pool t) ≡ t
 behind-stands pool t charge =
@@ -72,41 +52,54 @@ module _ (w : World) (z : ℤ) where
   abbrev behind : Span
   behind = span_behind w.pool digits
 
-  pub text_and_numeral-joined : (x h numeral span : Span) (v u : World) → h.start ≡ x.start → h.count ≡ length (text_at w.pool x)
+  abbrev made-numeral : Bool → Bool → Result Span Halt × World
+  made-numeral n a = cond n (text_made w (cond a (Some (behind, grown)) None)) (Err (HaltFault TextTooLong), w)
+
+  pub text_and_numeral-joined : (x h numeral span : Span) (v u : World) → h.count ≡ length (text_at w.pool x) → text_at v.pool h ≡ text_at w.pool x
       → fine ≡ room_for w (length digits) h.count → (Ok numeral, v) ≡ text_of_value w (Num z) → concat v h numeral ≡ Some (span, u)
       → joining w (Text x) (Num z) ≡ Gives (Text span) u
-  text_and_numeral-joined x h numeral span v u s c = by (nat_le (w.pool.used + length digits) w.pool.limit) (nat_le (h.count + length digits) w.pool.text_limit) refl
+  text_and_numeral-joined x h numeral span v u c s = by (nat_le (length digits) w.pool.text_limit) (nat_le (w.pool.used + length digits) w.pool.limit) (nat_le (h.count + length digits) w.pool.text_limit) refl
     where
-      by : (a b : Bool) → nat_le (h.count + length digits) w.pool.text_limit ≡ b
-          → fine ≡ cond a (cond b (cond (nat_le (w.pool.used + length digits + (h.count + length digits)) w.pool.limit) fine (Err (HaltLimit Units))) (Err (HaltFault TextTooLong))) (Err (HaltLimit Units))
-          → (Ok numeral, v) ≡ text_made w (cond a (Some (behind, grown)) None) → concat v h numeral ≡ Some (span, u)
-          → after_text (text_made w (cond a (Some (behind, grown)) None)) (λ y g. judged g (text_at w.pool x ++ digits)) ≡ Gives (Text span) u
-      by false b f r e j = cc
-      by true false f r e j = cc
-      by true true f r e j =
+      joined-room : Bool → Result (Unit {0}) Halt
+      joined-room q = cond q (cond (nat_le (w.pool.used + length digits + (h.count + length digits)) w.pool.limit) fine (Err (HaltLimit Units))) (Err (HaltFault TextTooLong))
+
+      by : (n a b : Bool) → nat_le (h.count + length digits) w.pool.text_limit ≡ b
+          → fine ≡ room_behind w (length digits) (h.count + length digits) (cond n (cond a fine (Err (HaltLimit Units))) (Err (HaltFault TextTooLong)))
+          → (Ok numeral, v) ≡ made-numeral n a → concat v h numeral ≡ Some (span, u)
+          → after_text (made-numeral n a) (λ y g. judged g (text_at w.pool x ++ digits)) ≡ Gives (Text span) u
+      by false a b f r e j = cc
+      by true false b f r e j = cc
+      by true true false f r e j = let long = r ∙ ap joined-room f in cc
+      by true true true f r e j =
           let numeral_is : numeral ≡ behind = spans-same numeral behind (first-of (Ok numeral, v) (Ok behind, grown) e) in
           let world_is : v ≡ grown = second-of (Ok numeral, v) (Ok behind, grown) e in
-          let text_is : joined grown.pool h behind ≡ text_at w.pool x ++ digits = (λ i. held-stays w.pool x h digits (length digits) s c i ++ behind-stands w.pool digits (length digits) i) in
+          let held-is : text_at grown.pool h ≡ text_at w.pool x = ap (λ p. text_at p.pool h) (sym world_is) ∙ s in
+          let text_is : joined grown.pool h behind ≡ text_at w.pool x ++ digits = (λ i. held-is i ++ behind-stands w.pool digits (length digits) i) in
           let long : length (text_at w.pool x ++ digits) ≡ h.count + length digits = length-append (text_at w.pool x) digits ∙ ap (λ n. n + length digits) (sym c) in
           made grown (text_at w.pool x ++ digits) span u
           (ap (λ n. nat_le n w.pool.text_limit) long ∙ f)
           (ap (new_text grown) (sym text_is) ∙ sym (λ i. concat (world_is i) h (numeral_is i)) ∙ j)
 
-  pub numeral_and_text-joined : (y h numeral span : Span) (v u : World) → h.start ≡ y.start → h.count ≡ length (text_at w.pool y)
+  pub numeral_and_text-joined : (y h numeral span : Span) (v u : World) → h.count ≡ length (text_at w.pool y) → text_at v.pool h ≡ text_at w.pool y
       → fine ≡ room_for w (length digits) h.count → (Ok numeral, v) ≡ text_of_value w (Num z) → concat v numeral h ≡ Some (span, u)
       → joining w (Num z) (Text y) ≡ Gives (Text span) u
-  numeral_and_text-joined y h numeral span v u s c = by (nat_le (w.pool.used + length digits) w.pool.limit) (nat_le (h.count + length digits) w.pool.text_limit) refl
+  numeral_and_text-joined y h numeral span v u c s = by (nat_le (length digits) w.pool.text_limit) (nat_le (w.pool.used + length digits) w.pool.limit) (nat_le (h.count + length digits) w.pool.text_limit) refl
     where
-      by : (a b : Bool) → nat_le (h.count + length digits) w.pool.text_limit ≡ b
-          → fine ≡ cond a (cond b (cond (nat_le (w.pool.used + length digits + (h.count + length digits)) w.pool.limit) fine (Err (HaltLimit Units))) (Err (HaltFault TextTooLong))) (Err (HaltLimit Units))
-          → (Ok numeral, v) ≡ text_made w (cond a (Some (behind, grown)) None) → concat v numeral h ≡ Some (span, u)
-          → after_text (text_made w (cond a (Some (behind, grown)) None)) (λ x g. after_text (text_of_value g (Text y)) (λ s2 g2. judged g2 (digits ++ text_at w.pool y))) ≡ Gives (Text span) u
-      by false b f r e j = cc
-      by true false f r e j = cc
-      by true true f r e j =
+      joined-room : Bool → Result (Unit {0}) Halt
+      joined-room q = cond q (cond (nat_le (w.pool.used + length digits + (h.count + length digits)) w.pool.limit) fine (Err (HaltLimit Units))) (Err (HaltFault TextTooLong))
+
+      by : (n a b : Bool) → nat_le (h.count + length digits) w.pool.text_limit ≡ b
+          → fine ≡ room_behind w (length digits) (h.count + length digits) (cond n (cond a fine (Err (HaltLimit Units))) (Err (HaltFault TextTooLong)))
+          → (Ok numeral, v) ≡ made-numeral n a → concat v numeral h ≡ Some (span, u)
+          → after_text (made-numeral n a) (λ x g. after_text (text_of_value g (Text y)) (λ s2 g2. judged g2 (digits ++ text_at w.pool y))) ≡ Gives (Text span) u
+      by false a b f r e j = cc
+      by true false b f r e j = cc
+      by true true false f r e j = let long = r ∙ ap joined-room f in cc
+      by true true true f r e j =
           let numeral_is : numeral ≡ behind = spans-same numeral behind (first-of (Ok numeral, v) (Ok behind, grown) e) in
           let world_is : v ≡ grown = second-of (Ok numeral, v) (Ok behind, grown) e in
-          let text_is : joined grown.pool behind h ≡ digits ++ text_at w.pool y = (λ i. behind-stands w.pool digits (length digits) i ++ held-stays w.pool y h digits (length digits) s c i) in
+          let held-is : text_at grown.pool h ≡ text_at w.pool y = ap (λ p. text_at p.pool h) (sym world_is) ∙ s in
+          let text_is : joined grown.pool behind h ≡ digits ++ text_at w.pool y = (λ i. behind-stands w.pool digits (length digits) i ++ held-is i) in
           let long : length (digits ++ text_at w.pool y) ≡ h.count + length digits = length-append digits (text_at w.pool y) ∙ omega (arith, c) in
           made grown (digits ++ text_at w.pool y) span u
           (ap (λ n. nat_le n w.pool.text_limit) long ∙ f)

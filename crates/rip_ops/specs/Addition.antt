@@ -1,32 +1,16 @@
-use Rattle.std.specs.Prelude.{ℕ, true, false, ◌||◌, List, [], ◌++◌, length, ◌+◌, Option, None, Some, Result, Ok, Err, nat_le, if◌then◌else◌}
-use Rattle.std.specs.Fmt.{signed_decimal}
-use Rattle.rip_values.specs.declared.value.Span.{Span}
+use Rattle.std.specs.Prelude.{ℕ, ◌||◌, ◌++◌, ◌+◌, Result, Ok, Err, nat_le, if◌then◌else◌}
 use Rattle.rip_values.specs.declared.value.Value.{Value}
-use Rattle.rip_values.specs.declared.value.Value.TheVariants.{Undefined, Null, Bool as Boolean, Num, NaN, Text, Object}
+use Rattle.rip_values.specs.declared.value.Value.TheVariants.{Text}
 use Rattle.rip_values.specs.declared.value.Fault.TheVariants.{ObjectToPrimitive, TextTooLong}
 use Rattle.rip_values.specs.declared.value.Limit.TheVariants.{Units}
-use Rattle.rip_values.specs.declared.fixed.FixedText.TheVariants.{Undefined as UndefinedText, Null as NullText, True as TrueText, False as FalseText, NaN as NaNText}
-use Rattle.rip_values.specs.Pool.{text_at}
 use Rattle.rip_heap.specs.declared.outcome.Halt.{Halt}
 use Rattle.rip_heap.specs.declared.outcome.Halt.TheVariants.{Fault as HaltFault, Limit as HaltLimit}
-use Rattle.rip_heap.specs.Conversions.{text_of_value, span_of}
-use Rattle.rip_heap.specs.Texts.{new_text}
+use Rattle.rip_heap.specs.Conversions.{text_of_value, text_in, room_for_text}
 use Rattle.rip_heap.specs.World.{World}
 use Rattle.rip_ops.specs.Arithmetic.{sum}
 use Rattle.rip_ops.specs.Numbers.{of_numbers}
 use Rattle.rip_ops.specs.Order.{is_object}
-use Rattle.rip_heap.specs.Outcome.{Outcome, Gives, Faults, after_text, judged, number_or_fault}
-
--- the text of a value (ECMA-262 9.8); an object has none
-abbrev pub text_in : World → Value → List ℕ
-text_in w Undefined = text_at w.pool (span_of UndefinedText)
-text_in w Null = text_at w.pool (span_of NullText)
-text_in w (Boolean false) = text_at w.pool (span_of FalseText)
-text_in w (Boolean true) = text_at w.pool (span_of TrueText)
-text_in w (Num z) = signed_decimal z
-text_in w NaN = text_at w.pool (span_of NaNText)
-text_in w (Text span) = text_at w.pool span
-text_in w (Object n) = []
+use Rattle.rip_heap.specs.Outcome.{Outcome, Faults, after_text, judged, number_or_fault}
 
 -- both operands to texts, the left one first, and then the two texts joined to a new one
 abbrev pub joining : World → Value → Value → Outcome
@@ -42,11 +26,14 @@ added_primitives w a b = number_or_fault w (of_numbers w.pool sum a b)
 abbrev pub added : World → Value → Value → Outcome
 added w a b = if is_object a || is_object b then Faults ObjectToPrimitive else added_primitives w a b
 
+-- where there is room for a numeral, whether there is some for a text of so many units behind it
+abbrev pub room_behind : World → ℕ → ℕ → Result (Unit {0}) Halt → Result (Unit {0}) Halt
+room_behind w numeral text (Err halt) = Err halt
+room_behind w numeral text (Ok room) =
+    if nat_le text w.pool.text_limit then
+    (if nat_le (w.pool.used + numeral + text) w.pool.limit then Ok tt else Err (HaltLimit Units))
+    else Err (HaltFault TextTooLong)
+
 -- whether a numeral of so many units, and then it and a text of so many joined, can be made
 abbrev pub room_for : World → ℕ → ℕ → Result (Unit {0}) Halt
-room_for w numeral text =
-    if nat_le (w.pool.used + numeral) w.pool.limit then
-    (if nat_le (text + numeral) w.pool.text_limit then
-    (if nat_le (w.pool.used + numeral + (text + numeral)) w.pool.limit then Ok tt else Err (HaltLimit Units))
-    else Err (HaltFault TextTooLong))
-    else Err (HaltLimit Units)
+room_for w numeral text = room_behind w numeral (text + numeral) (room_for_text w.pool numeral)

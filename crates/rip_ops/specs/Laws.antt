@@ -1,6 +1,6 @@
 -- Laws of what is looked for along prototypes: no bound on how many are looked at stands in them.
 use Rattle.std.specs.Prelude.{◌≡◌, ℕ}
-use Rattle.rip_heap.specs.World.{World, object_at, class_of, proto_of}
+use Rattle.rip_heap.specs.World.{World, object_at, proto_of}
 use Rattle.rip_ops.specs.Instances.{met, is_above}
 
 -- an object is above another where it is its prototype or is above its prototype (ECMA-262 15.3.5.3)

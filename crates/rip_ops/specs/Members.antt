@@ -1,12 +1,10 @@
-use Rattle.std.specs.Prelude.{ℕ, ℤ, Bool, true, false, List, length, Option, None, Some, nat_lt, is_some, unsigned_abs, if◌then◌else◌}
+use Rattle.std.specs.Prelude.{ℕ, ℤ, true, false, length, Option, None, Some, nat_lt, is_some, unsigned_abs, if◌then◌else◌}
 use Rattle.rip_values.specs.declared.value.Span.{Span}
 use Rattle.rip_values.specs.declared.value.Value.{Value}
 use Rattle.rip_values.specs.declared.value.Value.TheVariants.{Undefined, Null, Bool as Boolean, Num, NaN, Text, Object}
 use Rattle.rip_values.specs.declared.value.Fault.TheVariants.{NotInProfile}
 use Rattle.rip_values.specs.declared.fixed.FixedText.TheVariants.{Length, HasOwnProperty}
 use Rattle.rip_values.specs.Pool.{text_at}
-use Rattle.rip_heap.specs.declared.class.Class.{Class}
-use Rattle.rip_heap.specs.declared.class.Class.TheVariants.{Plain, Prototype, Array, Function, Error, TypeError, RangeError, ThrownTypeError, ThrownReferenceError, Code, Event}
 use Rattle.rip_heap.specs.declared.keys.Found.{Found}
 use Rattle.rip_heap.specs.declared.keys.Found.TheVariants.{Here, Barred, Nowhere}
 use Rattle.rip_heap.specs.Arrays.{elements_at}
@@ -14,9 +12,10 @@ use Rattle.rip_heap.specs.Conversions.{text_of_value}
 use Rattle.rip_heap.specs.Keys.{is_named, is_index, index_of, is_of_object_prototype, is_underscored, look_up}
 use Rattle.rip_heap.specs.Objects.{find}
 use Rattle.rip_heap.specs.Outcome.{Outcome, Gives, Throws, Faults, after_text}
-use Rattle.rip_heap.specs.World.{World, Object as HeapObject, object_at}
-use Rattle.rip_ops.specs.declared.members.Holder.{Holder}
-use Rattle.rip_ops.specs.declared.members.Holder.TheVariants.{PlainObject, ArrayObject, OtherObject}
+use Rattle.rip_heap.specs.World.{World, object_at}
+use Rattle.rip_heap.specs.declared.holder.Holder.{Holder}
+use Rattle.rip_heap.specs.declared.holder.Holder.TheVariants.{PlainObject, ArrayObject, OtherObject}
+use Rattle.rip_heap.specs.Holders.{holder_of, not_in_profile}
 
 -- what is found nowhere: `hasOwnProperty` is there
 abbrev pub absent : World → Span → Outcome
@@ -43,29 +42,6 @@ abbrev pub in_array : World → ℕ → Span → Outcome
 in_array w n name = at_index w n name (index_of w.pool name)
 
 -- `in`
-
--- what holds the name: arrays and plain objects do, of which thrown codes are some, and others are outside the profile
-abbrev pub holder_of_class : Class → Holder
-holder_of_class Plain = PlainObject
-holder_of_class Prototype = PlainObject
-holder_of_class Code = PlainObject
-holder_of_class Array = ArrayObject
-holder_of_class Function = OtherObject
-holder_of_class Error = OtherObject
-holder_of_class TypeError = OtherObject
-holder_of_class RangeError = OtherObject
-holder_of_class ThrownTypeError = OtherObject
-holder_of_class ThrownReferenceError = OtherObject
-holder_of_class Event = OtherObject
-
--- a number that is no object of the heap is a built-in or a node
-abbrev pub holder_of : Option HeapObject → Holder
-holder_of None = OtherObject
-holder_of (Some o) = holder_of_class o.class
-
--- the conversion of the key, and then the fault
-abbrev pub not_in_profile : World → Value → Outcome
-not_in_profile w a = after_text (text_of_value w a) (λ name v. Faults NotInProfile)
 
 -- a numeral is none of the names that have a rule of their own
 abbrev pub numeral_in_plain : World → ℤ → ℕ → Outcome

@@ -1,6 +1,6 @@
 ghost use Rattle.std.specs.Prelude.{◌≡◌, ◌++◌, length};
 ghost use Rattle.std.specs.Fmt.{signed_decimal};
-ghost use Rattle.rip_values.specs.Pool.{text_at, joined};
+ghost use Rattle.rip_values.specs.Pool.{joined};
 ghost use Rattle.rip_values.specs.declared.value.Value.TheVariants.{Num, Text};
 ghost use Rattle.rip_heap.specs.Growth.{Grows};
 ghost use Rattle.rip_ops.specs.Addition.{added, joining, room_for};
@@ -11,9 +11,8 @@ ghost use Rattle.rip_ops.specs.Arithmetic.{sum};
 use crate::arithmetic::sum;
 use crate::numbers::numbers_of;
 use crate::order::either_is_object;
-use crate::outcome::number_done;
-use rip_heap::{Halt, Heap, OpDone, to_text};
-use rip_values::{Fault, Limit, Numeral, Pool, Refused, Span, Value, Whole, text_of_whole};
+use rip_heap::{Halt, Heap, OpDone, number_done, room_for_text, to_text};
+use rip_values::{Fault, Limit, Numeral, Refused, Span, Value, Whole, text_of_whole};
 use std::alloc::Global;
 
 /// `+` (ECMA-262 11.6.1).
@@ -90,7 +89,7 @@ fn text_and_numeral(alloc: Global, heap: &mut Heap, x: Span, number: Whole) -> O
     ensures answers { Answers (joining heap.old (Text x) (Num number)) heap.old result heap.new }
     ensures grows { Grows heap.old heap.new }
 {
-    let text = held(heap.pool(), x);
+    let text = heap.pool().held(x);
     match room_for(heap, number, text.count) {
         Ok(()) => match to_text(alloc, heap, Value::Num(number)) {
             Ok(numeral) => match heap.concat(alloc, text, numeral) {
@@ -108,7 +107,7 @@ fn numeral_and_text(alloc: Global, heap: &mut Heap, number: Whole, y: Span) -> O
     ensures answers { Answers (joining heap.old (Num number) (Text y)) heap.old result heap.new }
     ensures grows { Grows heap.old heap.new }
 {
-    let text = held(heap.pool(), y);
+    let text = heap.pool().held(y);
     match room_for(heap, number, text.count) {
         Ok(()) => match to_text(alloc, heap, Value::Num(number)) {
             Ok(numeral) => match heap.concat(alloc, numeral, text) {
@@ -125,30 +124,15 @@ fn numeral_and_text(alloc: Global, heap: &mut Heap, number: Whole, y: Span) -> O
 fn room_for(heap: &Heap, number: Whole, text: u32) -> Result<(), Halt>
     ensures { result ≡ room_for heap.now (length (signed_decimal number)) text }
 {
-    let pool = heap.pool();
     let mut room = [0; 17];
-    let numeral = text_of_whole(number, &mut room) as u64;
-    let used = u64::from(pool.used()) + numeral;
-    let joined = u64::from(text) + numeral;
-    if used > u64::from(pool.limit()) {
-        return Err(Halt::Limit(Limit::Units));
-    }
-    if joined > u64::from(pool.text_limit()) {
+    let numeral = text_of_whole(number, &mut room);
+    room_for_text(heap, numeral)?;
+    let joined = u64::from(text) + numeral as u64;
+    if joined > u64::from(heap.pool().text_limit()) {
         return Err(Halt::Fault(Fault::TextTooLong));
     }
-    if used + joined > u64::from(pool.limit()) {
+    if joined > u64::from(heap.pool().free()) - numeral as u64 {
         return Err(Halt::Limit(Limit::Units));
     }
     Ok(())
-}
-
-// The span of what there is of the text, which stands for the same text also when more texts are added.
-fn held(pool: &Pool, x: Span) -> Span
-    ensures start { result.start ≡ x.start }
-    ensures count { result.count ≡ length (text_at pool.now x) }
-{
-    Span {
-        start: x.start,
-        count: pool.get(x).len() as u32,
-    }
 }

@@ -34,7 +34,6 @@ mod members;
 mod numbers;
 mod operators;
 mod order;
-mod outcome;
 #[cfg(test)]
 mod tests;
 

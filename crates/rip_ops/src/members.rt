@@ -1,24 +1,13 @@
-ghost use Rattle.std.specs.Prelude.{◌≡◌, ◌+◌, length, nat_le};
-ghost use Rattle.std.specs.Fmt.{signed_decimal};
-ghost use Rattle.rip_heap.specs.World.{object_at};
 ghost use Rattle.rip_heap.specs.Growth.{Grows};
-ghost use Rattle.rip_ops.specs.Members.{contained, in_holder, in_plain, in_array, numeral_in_plain, number_in_array, not_in_profile, holder_of, absent};
+ghost use Rattle.rip_ops.specs.Members.{contained, in_holder, in_plain, in_array, numeral_in_plain, number_in_array, absent};
 ghost use Rattle.rip_heap.specs.Outcome.{Answers};
 
 use rip_heap::{
-    Class, Found, Heap, OpDone, index_of, is_index, is_named, is_of_object_prototype,
-    is_underscored, look_up, to_text,
+    Found, Heap, Holder, OpDone, holder_of, index_of, is_index, is_named, is_of_object_prototype,
+    is_underscored, look_up, not_in_profile, to_text,
 };
-use rip_values::{FIRST_HEAP_OBJECT, Fault, FixedText, Limit, Span, Value, Whole, text_of_whole};
+use rip_values::{Fault, FixedText, Span, Value, Whole};
 use std::alloc::Global;
-
-/// What an object is to `in`.
-#[derive(Clone, Copy, Debug, PartialEq, Eq)]
-pub enum Holder {
-    PlainObject,
-    ArrayObject,
-    OtherObject,
-}
 
 /// `in` (ECMA-262 11.8.7).
 pub fn contained(alloc: Global, heap: &mut Heap, a: Value, b: Value) -> OpDone
@@ -34,19 +23,6 @@ pub fn contained(alloc: Global, heap: &mut Heap, a: Value, b: Value) -> OpDone
     }
 }
 
-fn holder_of(heap: &Heap, number: u32) -> Holder
-    ensures { result ≡ holder_of (object_at heap.now number) }
-{
-    if number < FIRST_HEAP_OBJECT || number - FIRST_HEAP_OBJECT >= heap.objects() {
-        return Holder::OtherObject;
-    }
-    match heap.class(number) {
-        Class::Plain | Class::Prototype | Class::Code => Holder::PlainObject,
-        Class::Array => Holder::ArrayObject,
-        _ => Holder::OtherObject,
-    }
-}
-
 fn in_holder(alloc: Global, heap: &mut Heap, holder: Holder, a: Value, number: u32) -> OpDone
     ensures answers { Answers (in_holder holder heap.old a number) heap.old result heap.new }
     ensures grows { Grows heap.old heap.new }
@@ -56,30 +32,6 @@ fn in_holder(alloc: Global, heap: &mut Heap, holder: Holder, a: Value, number: u
         Holder::ArrayObject => in_array_object(alloc, heap, a, number),
         Holder::OtherObject => not_in_profile(heap, a),
     }
-}
-
-// The fault, behind the conversion of the key.
-fn not_in_profile(heap: &Heap, a: Value) -> OpDone
-    ensures { Answers (not_in_profile heap.now a) heap.now result heap.now }
-{
-    match a {
-        Value::Object(_) => OpDone::Fault(Fault::ObjectToPrimitive),
-        Value::Num(number) => if has_room(heap, number) {
-            OpDone::Fault(Fault::NotInProfile)
-        } else {
-            OpDone::Limit(Limit::Units)
-        },
-        _ => OpDone::Fault(Fault::NotInProfile),
-    }
-}
-
-// Whether the number's numeral can be charged.
-fn has_room(heap: &Heap, number: Whole) -> bool
-    ensures { result ≡ nat_le (heap.now.pool.used + length (signed_decimal number)) heap.now.pool.limit }
-{
-    let mut room = [0; 17];
-    let numeral = text_of_whole(number, &mut room) as u64;
-    u64::from(heap.pool().used()) + numeral <= u64::from(heap.pool().limit())
 }
 
 fn in_plain_object(alloc: Global, heap: &mut Heap, a: Value, number: u32) -> OpDone

@@ -15,8 +15,7 @@ use crate::instances::instance_of;
 use crate::members::contained;
 use crate::numbers::numbers_of;
 use crate::order::{is_at_least, is_at_most, is_greater, is_less};
-use crate::outcome::{number_done, truth_done};
-use rip_heap::{Heap, OpDone, strictly_equal, to_boolean, to_number};
+use rip_heap::{Heap, OpDone, number_done, strictly_equal, to_boolean, to_number, truth_done};
 use rip_values::{BinaryOperator, Fault, Numeral, Value};
 use std::alloc::Global;
 

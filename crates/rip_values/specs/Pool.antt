@@ -1,4 +1,4 @@
-use Rattle.std.specs.Prelude.{◌≡◌, ℕ, ◌+◌, ◌-◌, ◌^◌, ◌<◌, ◌≤◌, List, ◌++◌, length, take, slice_range}
+use Rattle.std.specs.Prelude.{◌≡◌, ℕ, ◌+◌, ◌-◌, ◌^◌, ◌<◌, ◌≤◌, List, ◌++◌, length, take, min, slice_range}
 use Rattle.rip_values.specs.declared.value.Span.{Span}
 use Rattle.rip_values.specs.FixedTexts.{fixed_units}
 
@@ -17,6 +17,10 @@ text_at pool span = slice_range pool.units span.start (span.start + span.count)
 -- the span lies in the pool
 abbrev pub IsSpan : Texts → Span → Type 0
 IsSpan pool span = span.start + span.count ≤ length pool.units
+
+-- the part of a span that lies in the pool, which stands for the same text
+abbrev pub held : Texts → Span → Span
+held pool span = record { start = min span.start (length pool.units); count = length (text_at pool span) }
 
 -- the span of a text that is put behind all others
 abbrev pub span_behind : Texts → List ℕ → Span

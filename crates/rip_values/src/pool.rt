@@ -1,6 +1,6 @@
 ghost use Rattle.std.specs.Prelude.{◌≡◌, ◌↔◌, ℕ, ◌+◌, ◌-◌, ◌^◌, ◌<◌, ◌≤◌, ◌++◌, [], length, OnOk, OnErr, IfOk, IfErr, IsErr, IfSome, IsNone, vec_len, vec_capacity, min};
 ghost use Rattle.std.specs.List.{flat_map};
-ghost use Rattle.rip_values.specs.Pool.{Texts, text_at, IsSpan, span_behind, with_text, joined, KeepsTexts};
+ghost use Rattle.rip_values.specs.Pool.{Texts, text_at, IsSpan, held, span_behind, with_text, joined, KeepsTexts};
 ghost use Rattle.rip_values.specs.FixedTexts.{text_of, fixed_span, fixed_units};
 ghost use Rattle.rip_values.specs.declared.fixed.FixedText.{FixedText};
 
@@ -74,6 +74,29 @@ impl Pool {
         ensures { result ≡ self.now.used }
     {
         self.used
+    }
+
+    /// The units that may still be charged.
+    pub fn free(&self) -> u32
+        ensures left { result ≡ self.now.limit - self.now.used }
+        ensures within { self.now.used ≤ self.now.limit }
+    {
+        self.limit - self.used
+    }
+
+    /// A span of this pool that stands for the same text: what lies in the pool is itself, and of what does not it is
+    /// the part that is there. Who keeps a text that is handed to it keeps this.
+    pub fn held(&self, s: Span) -> Span
+        ensures span { result ≡ held self.now s }
+        ensures lies { IsSpan self.now result }
+        ensures text { text_at self.now result ≡ text_at self.now s }
+        ensures same { IsSpan self.now s → result ≡ s }
+    {
+        let (start, end) = within(s, self.units.len());
+        Span {
+            start: start as u32,
+            count: (end - start) as u32,
+        }
     }
 
     /// The text that the span stands for. Of a span past the end it is the part that is there.

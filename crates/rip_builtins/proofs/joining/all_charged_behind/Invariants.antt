@@ -3,4 +3,4 @@ use Rattle.rip_builtins.specs.Joining.{all_charged}
 use Rattle.rip_builtins.proofs.joining.all_charged_behind.Given as goal
 
 abbrev pub invariant-loop-v : goal.invariant-loop-v
-invariant-loop-v l = all_charged l.heap.pool.limit l.before l.items ≡ all_charged l.heap.pool.limit l.used (drop l.v-index l.items)
+invariant-loop-v l = all_charged l.heap.pool l.before l.items ≡ all_charged l.heap.pool l.used (drop l.v-index l.items)
