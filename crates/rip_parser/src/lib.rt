@@ -29,6 +29,7 @@ mod error;
 mod forms;
 mod grammar;
 mod headers;
+mod laws;
 mod literal;
 mod machine;
 mod operands;
@@ -41,6 +42,7 @@ mod statements;
 #[cfg(test)]
 mod tests;
 
+pub use laws::{nodes_are_held_once, trees_are_one};
 pub use parser::parse;
 pub use reading::{lexemes, word_of};
 pub use refusal::{ParseKind, ParseRefusal};
