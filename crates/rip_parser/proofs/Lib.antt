@@ -18,3 +18,4 @@ pub mod Trees
 pub mod Refusing
 pub mod Holding
 pub mod Textless
+pub mod Existing

@@ -1,10 +1,17 @@
 -- What holds of all scripts: each has one tree, or it is refused at one place for one cause, and never both; and each node
 -- of a tree but its root is the child of one node, once.
-use Rattle.std.specs.Prelude.{◌≡◌, ◌<◌, ℕ, List, length}
+use Rattle.std.specs.Prelude.{◌≡◌, ◌<◌, ◌⊎◌, ℕ, List, length}
+use Rattle.rip_lexer.specs.declared.token.Token.{Token}
+use Rattle.rip_lexer.specs.Tokens.{IsTokens}
 use Rattle.rip_tree.specs.Branches.{Plant}
 use Rattle.rip_parser.specs.Held.{times_held}
 use Rattle.rip_parser.specs.Parsed.{IsTreeOf, IsNoTree}
 use Rattle.rip_parser.specs.declared.refusal.ParseKind.{ParseKind}
+
+-- a script that has tokens has a tree, or it is refused
+abbrev pub HasReading : Type 0
+HasReading = (script : List ℕ) (tokens : List Token) → IsTokens script tokens
+    → ((tree : Plant) × IsTreeOf script tree) ⊎ ((place : ℕ) × (kind : ParseKind) × IsNoTree script place kind)
 
 -- two trees of one script are one: the same nodes with the same numbers, and the same units
 abbrev pub HaveOneTree : Type 0

@@ -1,7 +1,8 @@
-ghost use Rattle.rip_parser.specs.Laws.{AreHeldOnce, HaveNotBoth, HaveOneRefusal, HaveOneTree};
+ghost use Rattle.rip_parser.specs.Laws.{AreHeldOnce, HaveNotBoth, HaveOneRefusal, HaveOneTree, HasReading};
 
-/// A script has one tree, or it is refused at one place for one cause, and never both.
+/// A script that has tokens has one tree, or it is refused at one place for one cause, and never both.
 pub fn trees_are_one()
+    ensures some { HasReading }
     ensures tree { HaveOneTree }
     ensures refusal { HaveOneRefusal }
     ensures apart { HaveNotBoth }
