@@ -2,3 +2,4 @@ pub mod Statements
 pub mod Pages
 pub mod LoadLemmas
 pub mod ScriptLemmas
+pub mod Answering

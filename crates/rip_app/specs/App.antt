@@ -2,16 +2,12 @@
 use Rattle.std.specs.Prelude.{◌≡◌, ◌+◌, ℕ, suc, List, [], ◌∷◌, length, Some}
 use Rattle.rip_values.specs.Page.{script_at, Contents as Page}
 use Rattle.rip_values.specs.declared.page.PageKind.{PageKind}
-use Rattle.rip_lexer.specs.declared.token.Token.{Token}
 use Rattle.rip_lexer.specs.declared.refusal.LexKind.{LexKind}
-use Rattle.rip_lexer.specs.Tokens.{IsTokens, IsFirstRefusal}
+use Rattle.rip_lexer.specs.Tokens.{IsFirstRefusal}
 use Rattle.rip_tree.specs.Branches.{Plant}
 use Rattle.rip_tree.specs.Program.{Code}
 use Rattle.rip_parser.specs.declared.refusal.ParseKind.{ParseKind}
-use Rattle.rip_parser.specs.declared.refusal.ParseRefusal.TheVariants as parse
-use Rattle.rip_grammar.specs.Phrases.{Phrase}
-use Rattle.rip_parser.specs.Parsed.{HasTree, IsBody, IsRefused, IsShallow, IsTooDeep}
-use Rattle.rip_parser.specs.Shows.{ShowsScript}
+use Rattle.rip_parser.specs.Parsed.{IsTreeOf, IsNoTree}
 use Rattle.rip_early.specs.declared.refusal.EarlyKind.{EarlyKind}
 use Rattle.rip_early.specs.declared.refusal.EarlyRefusal.TheVariants as early
 use Rattle.rip_early.specs.Mistakes.{AreClean, IsRefusalOf}
@@ -31,14 +27,6 @@ pub record Loaded : Type 0 where
   pub manifest : Manifest
 
 -- THE SCRIPTS OF A PAGE
-
--- the script has these tokens and is derived, each of its derivations shows this tree, and none is too deep
-pub record IsTreeOf (script : List ℕ) (tree : Plant) : Type 0 where
-  pub tokens : List Token
-  pub are : IsTokens script tokens
-  pub found : HasTree script tokens tree
-  pub shown : (body : Phrase) → IsBody script tokens body → ShowsScript script tree body
-  pub shallow : (body : Phrase) → IsBody script tokens body → IsShallow body
 
 -- the script of the page with this number has this tree
 abbrev pub HasTreeAt : Page → ℕ → Plant → Type 0
@@ -60,14 +48,6 @@ pub record IsReached (page : Page) (number : ℕ) (script : List ℕ) : Type 0 w
   pub parsed : HaveTreesFrom page 1 before
   pub next : number ≡ length before + 1
   pub text : script_at page number ≡ Some script
-
--- the script has these tokens and, for this cause at this place, no tree: it is not derived, or each derivation is too
--- deep
-pub record IsNoTree (script : List ℕ) (place : ℕ) (kind : ParseKind) : Type 0 where
-  pub tokens : List Token
-  pub are : IsTokens script tokens
-  pub refused : IsRefused script tokens (parse.At place kind)
-  pub deep : (body : Phrase) → IsBody script tokens body → IsTooDeep body (parse.At place kind)
 
 -- the scripts before this one have trees, and its first construct that is refused stands at this place
 abbrev pub HasNoTokens : Page → ℕ → ℕ → LexKind → Type 0

@@ -1,4 +1,5 @@
 pub mod App
+pub mod Laws
 pub mod Page
 pub mod Refusal
 pub mod Script

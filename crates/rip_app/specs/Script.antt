@@ -10,6 +10,7 @@ use Rattle.rip_lexer.specs.Tokens.{IsFirstRefusal}
 use Rattle.rip_tree.specs.Branches.{Plant}
 use Rattle.rip_parser.specs.declared.refusal.ParseRefusal.{ParseRefusal}
 use Rattle.rip_parser.specs.declared.refusal.ParseRefusal.TheVariants as parse
+use Rattle.rip_parser.specs.Parsed.{IsNoTree}
 use Rattle.rip_early.specs.Mistakes.{IsRefusalOf}
 use Rattle.rip_early.specs.declared.refusal.EarlyRefusal.{EarlyRefusal}
 use Rattle.rip_early.specs.declared.refusal.EarlyRefusal.TheVariants as early
@@ -17,7 +18,7 @@ use Rattle.rip_html.specs.Pages.{IsRefusedAt}
 use Rattle.rip_manifest.specs.Manifest.{IsRefused}
 use Rattle.rip_manifest.specs.declared.refusal.ManifestRefusal.{ManifestRefusal}
 use Rattle.rip_manifest.specs.declared.refusal.ManifestRefusal.TheVariants as manifest
-use Rattle.rip_app.specs.App.{HasNoTokens, HasNoTree, IsMistaken, IsNoTree}
+use Rattle.rip_app.specs.App.{HasNoTokens, HasNoTree, IsMistaken}
 use Rattle.rip_app.specs.declared.refusal.AppRefusal.{AppRefusal}
 use Rattle.rip_app.specs.declared.refusal.AppRefusal.TheVariants as app
 

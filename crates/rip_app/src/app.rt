@@ -1,9 +1,11 @@
-ghost use Rattle.std.specs.Prelude.{◌≡◌, IfErr, IfOk, length};
+ghost use Rattle.std.specs.Prelude.{◌≡◌, ◌≢◌, IfErr, IfOk, MatchResult, length};
 ghost use Rattle.rip_values.specs.Limits.{AreInRange};
 ghost use Rattle.rip_html.specs.Pages.{PageOf};
 ghost use Rattle.rip_manifest.specs.Manifest.{ManifestOf};
-ghost use Rattle.rip_app.specs.App.{AppOf, IsAppRefusal};
+ghost use Rattle.rip_app.specs.App.{AppOf, IsAppRefusal, Loaded};
+ghost use Rattle.rip_app.specs.Laws.{HasOneApp, HasOneRefusal, IsNeverBoth, IsOrMemory};
 ghost use Rattle.rip_app.specs.Script.{RefusesManifest, RefusesPage};
+ghost use Rattle.rip_app.specs.declared.refusal.AppRefusal.{AppRefusal as AppRefusal'};
 
 use crate::refusal::AppRefusal;
 use crate::scripts::program_of;
@@ -81,6 +83,28 @@ impl App {
 /// tokens and the tree of each script, the early errors of all scripts, the manifest. A page of 2^32 bytes or more is want
 /// of memory, and so is a script of as many units.
 pub fn load(alloc: Global, page: &[u8], manifest: &[u8]) -> Result<App, AppRefusal>
+    // What is answered is so.
+    ensures loaded { IfOk result (AppOf page.now manifest.now) }
+    ensures refused { IfErr result (IsAppRefusal page.now manifest.now) }
+
+    // What is so is answered, unless memory runs out.
+    ensures only { (loaded : Loaded) → AppOf page.now manifest.now loaded
+        → MatchResult result (λ made. made ≡ loaded) (λ e. e ≡ AppRefusal.Memory) }
+    ensures first { (refusal : AppRefusal') → IsAppRefusal page.now manifest.now refusal → refusal ≢ AppRefusal.Memory
+        → MatchResult result (λ _. ⊥) (IsOrMemory refusal) }
+{
+    application_of(alloc, page, manifest)
+}
+
+/// A page and a manifest have one application, or they are refused for one first cause, and never both.
+pub fn applications_are_one()
+    ensures application { HasOneApp }
+    ensures refusal { HasOneRefusal }
+    ensures apart { IsNeverBoth }
+{}
+
+/// The application, or the first cause why there is none.
+fn application_of(alloc: Global, page: &[u8], manifest: &[u8]) -> Result<App, AppRefusal>
     ensures loaded { IfOk result (AppOf page.now manifest.now) }
     ensures refused { IfErr result (IsAppRefusal page.now manifest.now) }
 {

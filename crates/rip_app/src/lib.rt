@@ -7,6 +7,7 @@
 //! |---|---|
 //! | the trees of a page's scripts | `App.HaveTrees` |
 //! | [`load`] | `App.AppOf`, or `App.IsAppRefusal`: the first cause in the order of its lines |
+//! | [`applications_are_one`]: a page and a manifest have one answer at most | `Laws.HasOneApp`, `HasOneRefusal`, `IsNeverBoth` |
 //! | [`load_calls`] | `Page.MakesCalls` |
 //!
 //! The file `Script` of `specs/` says what the functions below [`load`] do, and no public clause cites it.
@@ -25,7 +26,7 @@ mod scripts;
 #[cfg(test)]
 mod tests;
 
-pub use app::{App, load};
+pub use app::{App, applications_are_one, load};
 pub use calls::{Calls, CallsRefusal, load_calls};
 pub use page::{MAX_CALLS, pages_tell_apart};
 pub use refusal::AppRefusal;

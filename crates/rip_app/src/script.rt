@@ -1,5 +1,5 @@
 ghost use Rattle.std.specs.Prelude.{◌<◌, ◌^◌, length, IfErr, IfOk};
-ghost use Rattle.rip_app.specs.App.{IsTreeOf};
+ghost use Rattle.rip_parser.specs.Parsed.{IsTreeOf};
 ghost use Rattle.rip_app.specs.Script.{RefusesScript};
 
 use crate::refusal::AppRefusal;

@@ -1,12 +1,15 @@
 -- What is kept while a tree is made, and what is made in the end.
-use Rattle.std.proofs.Common.{◌≡◌, ℕ, ◌+◌, ◌-◌, ◌<◌, ◌≤◌, List, [], ◌∷◌, ◌++◌, length, take, drop, reverse, Some, None, get_or, refl, sym, ap, ◌∙◌, subst, arith}
+use Rattle.std.proofs.Common.{◌≡◌, ℕ, ◌+◌, ◌-◌, ◌<◌, ◌≤◌, List, [], ◌∷◌, ◌++◌, length, take, drop, reverse, Option, Some, None, get_or, refl, sym, ap, ◌∙◌, subst, arith}
 use Rattle.std.proofs.lemmas.List.{take_more, take-append-drop, reverse-append}
 use Rattle.rip_lexer.specs.declared.token.Token.{Token}
 use Rattle.rip_tree.specs.Branches.{AreBetween}
-use Rattle.rip_tree.specs.Making.{Growth}
+use Rattle.rip_tree.specs.Making.{Growth, with_branch, with_units}
+use Rattle.rip_tree.specs.declared.node.Node.{Node}
+use Rattle.rip_tree.specs.declared.form.TextLiteral.{TextLiteral}
+use Rattle.rip_parser.specs.Shows.{text_of, text_count, texts_end, LiesAt, AreLaid}
 use Rattle.rip_grammar.specs.declared.event.Event.{Event}
 use Rattle.rip_grammar.specs.declared.event.Event.TheVariants as E
-use Rattle.rip_parser.specs.Building.{State, numbers, beginning, absent, wrapped, last_parts, other_parts, part_of, Takes, Builds, Fits, HasRoom, node_count}
+use Rattle.rip_parser.specs.Building.{State, numbers, beginning, absent, wrapped, last_parts, other_parts, part_of, place_over, IsPut, Takes, Builds, Fits, HasRoom, node_count}
 use Rattle.rip_parser.proofs.Parts.{AreBetween-range, AreBetween-behind, AreBetween-lower, numbers-append}
 
 -- ---- what is told, up to an event
@@ -100,3 +103,37 @@ has-room (E.Node place head count) s told total kept room =
     let told-of = kept.count-is in
     let all-of = kept.total-is in
     omega arith
+
+-- ---- where texts lie
+
+-- the texts of the nodes lie one behind the other, behind the units of the script, to the end of the units
+abbrev pub IsLaid : List ℕ → Growth → Type 0
+IsLaid script growth = AreLaid (length script) growth.branches × (length growth.units ≡ texts_end (length script) growth.branches)
+
+laid-one : (script : List ℕ) (growth : Growth) (node : Node) (children : List (Option ℕ)) (units : List ℕ) (text : Option TextLiteral) → text_of node.form ≡ text
+    → IsPut text growth.units (growth.units ++ units) → IsLaid script growth → IsLaid script (with_branch (with_units growth units) node children)
+laid-one script growth node children units None is put laid = (
+  (subst (λ t. LiesAt (texts_end (length script) growth.branches) t) (sym is) tt, laid.0),
+  put ∙ laid.1 ∙ sum (texts_end (length script) growth.branches) (text_count (text_of node.form)) (ap text_count is),
+)
+  where
+    sum : (a b : ℕ) → b ≡ 0 → a ≡ a + b
+    sum a b none = omega arith
+laid-one script growth node children units (Some literal) is put laid = (
+  (subst (λ t. LiesAt (texts_end (length script) growth.branches) t) (sym is) (put.0 ∙ laid.1), laid.0),
+  put.1 ∙ ap (λ k. k + literal.value.count) laid.1 ∙ ap (λ t. texts_end (length script) growth.branches + text_count t) (sym is),
+)
+
+takes-laid : (script : List ℕ) (event : Event) (s t : State) → IsLaid script s.growth → Takes script event s t → IsLaid script t.growth
+takes-laid script E.Absent s t laid is = subst (λ (g : Growth). IsLaid script g) (sym (ap (λ (x : State). x.growth) is)) laid
+takes-laid script (E.Parenthesized place) s t laid is = subst (λ (g : Growth). IsLaid script g) (sym (ap (λ (x : State). x.growth) is.3)) laid
+takes-laid script (E.Node place head count) s t laid m =
+    subst (λ (g : Growth). IsLaid script g) (sym m.growth)
+    (laid-one script s.growth (record { place = place_over place (last_parts count s.parts); form = m.form }) (numbers (last_parts count s.parts)) m.units (text_of m.form) refl m.put laid)
+
+pub builds-laid : (script : List ℕ) (tokens : List Token) (total : ℕ) (told : List Event) (s : State) → Builds script tokens total told (Some s) → IsLaid script s.growth
+builds-laid script tokens total [] s builds =
+    let is : s ≡ beginning script total = cc in
+    subst (λ (x : State). IsLaid script x.growth) (sym is) (tt, refl)
+builds-laid script tokens total (event ∷ told) s (None, below, none) = cc
+builds-laid script tokens total (event ∷ told) s (Some b, below, takes) = takes-laid script event b s (builds-laid script tokens total told b below) takes

@@ -13,3 +13,9 @@ pub mod Parts
 pub mod Shown
 pub mod Spellings
 pub mod Told
+pub mod Fitting
+pub mod Trees
+pub mod Refusing
+pub mod Holding
+pub mod Textless
+pub mod Existing

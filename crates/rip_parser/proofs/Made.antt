@@ -1,5 +1,5 @@
 -- What is made of parts that were told one behind the other, and of a node over them.
-use Rattle.std.proofs.Common.{◌≡◌, ℕ, ◌+◌, ◌-◌, Bool, true, false, List, [], ◌∷◌, ◌++◌, length, take, drop, Option, Some, None, refl, sym, ap, ◌∙◌, subst, arith, append_assoc, append-nil, length-append}
+use Rattle.std.proofs.Common.{◌≡◌, ℕ, suc, ◌+◌, ◌-◌, Bool, true, false, List, [], ◌∷◌, ◌++◌, length, take, drop, Option, Some, None, refl, sym, ap, ◌∙◌, subst, arith, append_assoc, append-nil, length-append}
 use Rattle.std.specs.Prelude.{max}
 use Rattle.std.proofs.Math.Seq.{drop-append_seam, take-append_seam}
 use Rattle.rip_tree.specs.declared.node.Node.{Node}
@@ -8,7 +8,7 @@ use Rattle.rip_tree.specs.Branches.{Branch, Plant, branch_of}
 use Rattle.rip_tree.specs.Making.{Growth, with_branch, with_units}
 use Rattle.rip_grammar.specs.declared.event.Head.{Head}
 use Rattle.rip_parser.specs.declared.part.Part.{Part}
-use Rattle.rip_parser.specs.Shows.{Row, IsNode, IsLeaf, Then}
+use Rattle.rip_parser.specs.Shows.{Row, Shown, IsNode, IsLeaf, IsAbsent, Then}
 use Rattle.rip_parser.specs.Building.{State, numbers, greatest, capped, deeper, is_part, levels_over, place_over, last_parts, other_parts, part_of, wrapped, absent, Makes, Wraps, IsFormOf}
 use Rattle.rip_parser.proofs.Parts.{numbers-append}
 
@@ -20,22 +20,26 @@ pub record Extends (growth : Growth) (tree : Plant) : Type 0 where
   pub more : List ℕ
   pub units-is : tree.units ≡ growth.units ++ more
 
+-- the number behind which the next nodes are made
+abbrev pub left : State → ℕ
+left s = s.growth.total - length s.growth.branches
+
 -- parts were put behind those of a state: so many, of this depth, which begin at such a place and show such a row
-pub record After (P : Plant → Row → Type 0) (count depth : ℕ) (At : ℕ → Type 0) (s t : State) : Type 0 where
+pub record After (P : Plant → Shown) (count depth : ℕ) (At : ℕ → Type 0) (s t : State) : Type 0 where
   pub parts : List Part
   pub parts-is : t.parts ≡ s.parts ++ parts
   pub count-is : length parts ≡ count
   pub depth-is : greatest parts ≡ capped depth
   pub at : At (place_over None parts)
   pub back : (tree : Plant) → Extends t.growth tree → Extends s.growth tree
-  pub shows : (tree : Plant) → Extends t.growth tree → P tree (numbers parts)
+  pub shows : (tree : Plant) → Extends t.growth tree → P tree (numbers parts) (left s) (left t)
 
 -- anywhere
 abbrev pub Anywhere : ℕ → Type 0
 Anywhere place = Unit {0}
 
 pub after-none : (s : State) → After (λ tree. IsLeaf) 0 0 Anywhere s s
-after-none s = record { parts = []; parts-is = sym (append-nil s.parts); count-is = refl; depth-is = refl; at = tt; back = λ tree extends. extends; shows = λ tree extends. refl }
+after-none s = record { parts = []; parts-is = sym (append-nil s.parts); count-is = refl; depth-is = refl; at = tt; back = λ tree extends. extends; shows = λ tree extends. (refl, refl) }
 
 greatest-append : (ps qs : List Part) → greatest (ps ++ qs) ≡ max (greatest ps) (greatest qs)
 greatest-append [] qs = omega arith
@@ -45,7 +49,7 @@ capped-max : (a b : ℕ) → max (capped a) (capped b) ≡ capped (max a b)
 capped-max a b = omega arith
 
 -- parts, and then parts
-pub after-both : (P Q : Plant → Row → Type 0) (m n a b : ℕ) (At Bt Ct : ℕ → Type 0) (s t u : State) → After P m a At s t → After Q n b Bt t u
+pub after-both : (P Q : Plant → Shown) (m n a b : ℕ) (At Bt Ct : ℕ → Type 0) (s t u : State) → After P m a At s t → After Q n b Bt t u
     → ((ps qs : List Part) → length ps ≡ m → At (place_over None ps) → Ct (place_over None (ps ++ qs)))
     → After (λ tree. Then (P tree) (Q tree)) (m + n) (max a b) Ct s u
 after-both P Q m n a b At Bt Ct s t u p q at = record {
@@ -55,16 +59,16 @@ after-both P Q m n a b At Bt Ct s t u p q at = record {
   depth-is = greatest-append p.parts q.parts ∙ ap (λ k. max k (greatest q.parts)) p.depth-is ∙ ap (λ k. max (capped a) k) q.depth-is ∙ capped-max a b;
   at = at p.parts q.parts p.count-is p.at;
   back = λ tree extends. p.back tree (q.back tree extends);
-  shows = λ tree extends. (numbers p.parts, numbers q.parts, numbers-append p.parts q.parts, p.shows tree (q.back tree extends), q.shows tree extends);
+  shows = λ tree extends. (numbers p.parts, numbers q.parts, left t, numbers-append p.parts q.parts, p.shows tree (q.back tree extends), q.shows tree extends);
 }
 
 -- the last of parts, and the others
-last_parts-append : (ps qs : List Part) (n : ℕ) → length qs ≡ n → last_parts n (ps ++ qs) ≡ qs
+pub last_parts-append : (ps qs : List Part) (n : ℕ) → length qs ≡ n → last_parts n (ps ++ qs) ≡ qs
 last_parts-append ps qs n long =
     let rest : length (ps ++ qs) - n ≡ length ps = omega (arith, length-append ps qs) in
     ap (λ k. drop k (ps ++ qs)) rest ∙ drop-append_seam ps qs
 
-other_parts-append : (ps qs : List Part) (n : ℕ) → length qs ≡ n → other_parts n (ps ++ qs) ≡ ps
+pub other_parts-append : (ps qs : List Part) (n : ℕ) → length qs ≡ n → other_parts n (ps ++ qs) ≡ ps
 other_parts-append ps qs n long =
     let rest : length (ps ++ qs) - n ≡ length ps = omega (arith, length-append ps qs) in
     ap (λ k. take k (ps ++ qs)) rest ∙ take-append_seam ps qs
@@ -89,9 +93,9 @@ levels_over-capped true parts depth is = is
 levels_over-capped false parts depth is = ap deeper is ∙ omega arith
 
 -- a node over parts
-pub after-node : (script : List ℕ) (P Q : Plant → Row → Type 0) (place : Option ℕ) (here : ℕ) (head : Head) (n d : ℕ) (At : ℕ → Type 0) (s t u : State) → After P n d At s t → Makes script place head n t u
+pub after-node : (script : List ℕ) (P Q : Plant → Shown) (place : Option ℕ) (here : ℕ) (head : Head) (n d : ℕ) (At : ℕ → Type 0) (s t u : State) → After P n d At s t → Makes script place head n t u
     → ((parts : List Part) → At (place_over None parts) → place_over place parts ≡ here)
-    → ((tree : Plant) (form : Form) (row : Row) → IsFormOf script tree.units head form → IsNode tree here form (P tree) row → Q tree row)
+    → ((tree : Plant) (form : Form) (row : Row) (high low : ℕ) → IsFormOf script tree.units head form → IsNode tree here form (P tree) row high low → Q tree row high low)
     → After Q 1 (over (is_part head) d) (λ p. p ≡ here) s u
 after-node script P Q place here head n d At s t u p m at shown =
     let last : last_parts n t.parts ≡ p.parts = ap (last_parts n) p.parts-is ∙ last_parts-append s.parts p.parts n p.count-is in
@@ -125,16 +129,21 @@ after-node script P Q place here head n d At s t u p m at shown =
           let id = t.growth.total - (length t.growth.branches + 1) in
           let found : branch_of tree.branches id ≡ Some branch =
           ap (λ bs. branch_of bs id) all ∙ branch_of-behind extends.front t.growth.branches branch t.growth.total (sym (ap length all) ∙ extends.long ∙ total) in
-          shown tree m.form (Some id ∷ [])
+          let many : length extends.front + suc (length t.growth.branches) ≡ t.growth.total =
+          sym (length-append extends.front (branch ∷ t.growth.branches)) ∙ sym (ap length all) ∙ extends.long ∙ total in
+          let above : left t ≡ id + 1 = omega arith in
+          let lowest : left u ≡ id = omega (arith, ap length branches, total) in
+          subst (λ k. Q tree (Some id ∷ []) (left s) k) (sym lowest)
+          (shown tree m.form (Some id ∷ []) (left s) id
           (subst (λ us. IsFormOf script us head m.form) (sym (extends.units-is ∙ ap (λ us. us ++ extends.more) units)) (m.is_form extends.more))
-          (id, numbers p.parts, refl, found, p.shows tree (below tree extends));
+          (numbers p.parts, refl, found, subst (λ k. P tree (numbers p.parts) (left s) k) above (p.shows tree (below tree extends))));
     }
   where
     max-zero : (k : ℕ) → max k 0 ≡ k
     max-zero k = omega arith
 
 -- a part that is not there
-pub after-absent : (s t : State) → t ≡ record s { parts = s.parts ++ absent ∷ [] } → After (λ tree row. row ≡ None ∷ []) 1 0 Anywhere s t
+pub after-absent : (s t : State) → t ≡ record s { parts = s.parts ++ absent ∷ [] } → After (λ tree. IsAbsent) 1 0 Anywhere s t
 after-absent s t is = record {
   parts = absent ∷ [];
   parts-is = ap (λ (x : State). x.parts) is;
@@ -142,17 +151,17 @@ after-absent s t is = record {
   depth-is = refl;
   at = tt;
   back = λ tree extends. subst (λ (g : Growth). Extends g tree) (ap (λ (x : State). x.growth) is) extends;
-  shows = λ tree extends. refl;
+  shows = λ tree extends. (refl, ap (λ (g : Growth). g.total - length g.branches) (sym (ap (λ (x : State). x.growth) is)));
 }
 
 -- one part alone
-only : (ps : List Part) → length ps ≡ 1 → (p : Part) × (ps ≡ p ∷ [])
+pub only : (ps : List Part) → length ps ≡ 1 → (p : Part) × (ps ≡ p ∷ [])
 only [] one = absurd (omega arith)
 only (p ∷ []) one = (p, refl)
 only (p ∷ q ∷ ps) one = absurd (omega arith)
 
 -- parentheses around a part
-pub after-wrapped : (P : Plant → Row → Type 0) (d place : ℕ) (At : ℕ → Type 0) (s t u : State) → After P 1 d At s t → Wraps place t u → After P 1 (1 + d) (λ p. p ≡ place) s u
+pub after-wrapped : (P : Plant → Shown) (d place : ℕ) (At : ℕ → Type 0) (s t u : State) → After P 1 d At s t → Wraps place t u → After P 1 (1 + d) (λ p. p ≡ place) s u
 after-wrapped P d place At s t u p w =
     let one = only p.parts p.count-is in
     let before : t.parts ≡ s.parts ++ one.0 ∷ [] = p.parts-is ∙ ap (λ x. s.parts ++ x) one.1 in
@@ -170,7 +179,8 @@ after-wrapped P d place At s t u p w =
       at = refl;
       back = λ tree extends. p.back tree (subst (λ (g : Growth). Extends g tree) growth extends);
       shows = λ tree extends.
-          subst (λ ns. P tree ns) (ap numbers one.1 ∙ ap (λ (x : Part). x.number ∷ []) (sym part)) (p.shows tree (subst (λ (g : Growth). Extends g tree) growth extends));
+          subst (λ k. P tree (w.1.number ∷ []) (left s) k) (ap (λ (g : Growth). g.total - length g.branches) (sym growth))
+          (subst (λ ns. P tree ns (left s) (left t)) (ap numbers one.1 ∙ ap (λ (x : Part). x.number ∷ []) (sym part)) (p.shows tree (subst (λ (g : Growth). Extends g tree) growth extends)));
     }
   where
     deeper-capped : (k e : ℕ) → max k 0 ≡ capped e → max (deeper k) 0 ≡ capped (1 + e)

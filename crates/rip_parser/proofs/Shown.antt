@@ -1,5 +1,5 @@
 -- What is told of the body of a script makes its tree.
-use Rattle.std.proofs.Common.{◌≡◌, ℕ, ◌+◌, ◌<◌, ◌≤◌, List, [], ◌∷◌, ◌++◌, length, take, reverse, drop, Option, Some, None, get_or, refl, sym, ap, ◌∙◌, subst, arith, append-nil}
+use Rattle.std.proofs.Common.{◌≡◌, ℕ, ◌+◌, ◌-◌, ◌<◌, ◌≤◌, List, [], ◌∷◌, ◌++◌, length, take, reverse, drop, Option, Some, None, get_or, refl, sym, ap, ◌∙◌, subst, arith, append-nil}
 use Rattle.std.specs.Prelude.{min, Result, Ok, Err, IfOk}
 use Rattle.rip_parser.specs.declared.error.BuildError.{BuildError}
 use Rattle.rip_parser.specs.declared.error.BuildError.TheVariants as B
@@ -14,13 +14,13 @@ use Rattle.rip_grammar.specs.Grammar.{is_element}
 use Rattle.rip_parser.specs.Parsed.{IsBody}
 use Rattle.rip_parser.specs.Shows.{Shows, ShowsScript}
 use Rattle.rip_parser.specs.Building.{State, Fits, HasRoom, numbers as numbers_of, greatest, capped, deeper, beginning, Builds, IsTakeable, node_count, rooted}
-use Rattle.rip_parser.proofs.Made.{After, Extends}
+use Rattle.rip_parser.proofs.Made.{After, Extends, left}
 use Rattle.rip_parser.proofs.Told.{Comes-after}
 use Rattle.rip_parser.proofs.Following.{Each}
 use Rattle.rip_parser.proofs.Readings.{readable}
 use Rattle.rip_parser.proofs.Shapes.{list-flat, element-one}
 use Rattle.rip_parser.proofs.Numbers.{Begins, Numbered, Reads, numbers}
-use Rattle.rip_parser.proofs.Kept.{told-more, told-all, count-within, builds-kept, has-room}
+use Rattle.rip_parser.proofs.Kept.{told-more, told-all, count-within, builds-kept, builds-laid, has-room}
 
 module _ (script : List ℕ) (tokens : List Token) (total : ℕ) (body : Phrase) (are : IsTokens script tokens) (is : IsBody script tokens body) where
   told-of : (after : Option State) → Builds script tokens total (emit body []) after → Numbered script tokens total body (width body) [] after
@@ -51,9 +51,17 @@ module _ (script : List ℕ) (tokens : List Token) (total : ℕ) (body : Phrase)
         units-is = sym (append-nil s.growth.units);
       } in
       let below = a.back (rooted s) extends in
+      let high : total - 0 ≡ length (rooted s).branches = omega (arith, below.long) in
+      let low : left s ≡ 1 = omega (arith, full) in
+      let shows : Shows script (rooted s) body (numbers_of a.parts) (length (rooted s).branches) 1 =
+      subst (λ k. Shows script (rooted s) body (numbers_of a.parts) k 1) high
+      (subst (λ k. Shows script (rooted s) body (numbers_of a.parts) (total - 0) k) low (a.shows (rooted s) extends)) in
+      let laid = builds-laid script tokens total (emit body []) s builds in
       record {
-        root = (0, numbers_of s.parts, refl, refl, subst (λ ns. Shows script (rooted s) body ns) (sym (ap numbers_of a.parts-is)) (a.shows (rooted s) extends));
+        root = (numbers_of s.parts, refl, refl, subst (λ ns. Shows script (rooted s) body ns (length (rooted s).branches) 1) (sym (ap numbers_of a.parts-is)) shows);
         spelled = ap (λ us. take (length script) us) below.units-is ∙ take-append_seam script below.more;
+        laid = (tt, laid.0);
+        full = laid.1 ∙ omega arith;
       }
 
   pub is-deep : (s : State) → Builds script tokens total (emit body []) (Some s) → deeper (greatest s.parts) ≡ min (depth body) 201

@@ -5,6 +5,7 @@ use Rattle.rip_lexer.specs.Numeral.{numeral_value}
 use Rattle.rip_tree.specs.declared.form.Form.{Form}
 use Rattle.rip_tree.specs.declared.form.Form.TheVariants as F
 use Rattle.rip_tree.specs.declared.form.Key.{Key}
+use Rattle.rip_tree.specs.declared.form.TextLiteral.{TextLiteral}
 use Rattle.rip_tree.specs.Branches.{AreBetween, Plant}
 use Rattle.rip_tree.specs.Making.{Growth, with_branch, with_units}
 use Rattle.rip_grammar.specs.declared.word.Word.{Word}
@@ -17,7 +18,7 @@ use Rattle.rip_grammar.specs.declared.event.Event.TheVariants as E
 use Rattle.rip_grammar.specs.Words.{is_single}
 use Rattle.rip_parser.specs.declared.part.Part.{Part}
 use Rattle.rip_parser.specs.Listed.{IsListed}
-use Rattle.rip_parser.specs.Shows.{Row, piece_of, spelling_of, IsSingle, IsKey, infix_form, prefix_form, postfix_form, assignment_form}
+use Rattle.rip_parser.specs.Shows.{Row, piece_of, spelling_of, IsSingle, IsKey, text_of, infix_form, prefix_form, postfix_form, assignment_form}
 
 -- the nodes that are made, and the parts that no node has taken yet
 pub record State : Type 0 where
@@ -131,12 +132,18 @@ IsFormOf script units (H.Single t) form = IsSingle script units t t.word form
 IsFormOf script units (H.Entry k) form = (key : Key) × IsKey script units k k.word key × (form ≡ F.Entry key)
 IsFormOf script units head form = plain_form head ≡ Some form
 
+-- the text of a form, if it has one, is what was put behind the units; else nothing was put there
+abbrev pub IsPut : Option TextLiteral → List ℕ → List ℕ → Type 0
+IsPut None old new = length new ≡ length old
+IsPut (Some literal) old new = (literal.value.start ≡ length old) × (length new ≡ length old + literal.value.count)
+
 -- the node is made, with its form and the units that its texts put behind the others
 pub record Makes (script : List ℕ) (place : Option ℕ) (head : Head) (count : ℕ) (s t : State) : Type 0 where
   pub form : Form
   pub units : List ℕ
   pub enough : count ≤ length s.parts
   pub is_form : (more : List ℕ) → IsFormOf script ((s.growth.units ++ units) ++ more) head form
+  pub put : IsPut (text_of form) s.growth.units (s.growth.units ++ units)
   pub growth : t.growth ≡ with_branch (with_units s.growth units) (record { place = place_over place (last_parts count s.parts); form = form }) (numbers (last_parts count s.parts))
   pub parts : t.parts ≡ other_parts count s.parts ++ part_of s.growth place head (last_parts count s.parts) ∷ []
 

@@ -1,5 +1,7 @@
 pub mod Building
 pub mod Endings
+pub mod Held
+pub mod Laws
 pub mod Listed
 pub mod Parsed
 pub mod Printed

@@ -11,6 +11,7 @@ use Rattle.rip_grammar.specs.Grammar.{IsScript, IsViable}
 use Rattle.rip_grammar.specs.Depths.{depth, greatest_depth}
 use Rattle.rip_parser.specs.Shows.{ShowsScript}
 use Rattle.rip_parser.specs.TooDeep.{first_too_deep}
+use Rattle.rip_parser.specs.declared.refusal.ParseKind.{ParseKind}
 use Rattle.rip_parser.specs.declared.refusal.ParseKind.TheVariants as K
 use Rattle.rip_parser.specs.declared.refusal.ParseRefusal.{ParseRefusal}
 use Rattle.rip_parser.specs.declared.refusal.ParseRefusal.TheVariants as R
@@ -18,10 +19,6 @@ use Rattle.rip_parser.specs.declared.refusal.ParseRefusal.TheVariants as R
 -- the body derives the script, whose tokens these are
 abbrev pub IsBody : List ℕ → List Token → Phrase → Type 0
 IsBody text tokens body = IsScript (lexemes_of text tokens) body
-
--- the text has this tree
-abbrev pub Parsed : List ℕ → Plant → Type 0
-Parsed text tree = (tokens : List Token) × IsTokens text tokens × (body : Phrase) × IsBody text tokens body × ShowsScript text tree body
 
 -- the depth of a script's tree is at most the greatest
 abbrev pub IsShallow : Phrase → Type 0
@@ -56,6 +53,26 @@ abbrev pub IsTooDeep : Phrase → ParseRefusal → Type 0
 IsTooDeep body (R.At place K.Unexpected) = ⊥
 IsTooDeep body (R.At place K.TooNested) = IsTooDeepAt body place
 IsTooDeep body R.Memory = Unit {0}
+
+-- THE ONE ANSWER OF A SCRIPT
+
+-- the script has these tokens and is derived, each of its derivations shows this tree, and none is too deep
+pub record IsTreeOf (script : List ℕ) (tree : Plant) : Type 0 where
+  pub tokens : List Token
+  pub are : IsTokens script tokens
+  pub found : HasTree script tokens tree
+  pub shown : (body : Phrase) → IsBody script tokens body → ShowsScript script tree body
+  pub shallow : (body : Phrase) → IsBody script tokens body → IsShallow body
+
+-- the script has these tokens and, for this cause at this place, no tree: it is not derived, or each derivation is too
+-- deep
+pub record IsNoTree (script : List ℕ) (place : ℕ) (kind : ParseKind) : Type 0 where
+  pub tokens : List Token
+  pub are : IsTokens script tokens
+  pub refused : IsRefused script tokens (R.At place kind)
+  pub deep : (body : Phrase) → IsBody script tokens body → IsTooDeep body (R.At place kind)
+
+-- WITHIN THE CRATE
 
 -- the last of the lexemes is the end
 abbrev pub EndsInEnd : List Lexeme → Type 0

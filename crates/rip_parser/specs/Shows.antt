@@ -2,7 +2,7 @@
 use Rattle.std.specs.Prelude.{◌≡◌, ℕ, ◌+◌, pos, true, false, IsTrue, ◌↔◌, List, [], ◌∷◌, ◌++◌, length, Option, Some, None, take, drop}
 use Rattle.rip_lexer.specs.Numeral.{numeral_value}
 use Rattle.rip_lexer.specs.Text.{StandsFor}
-use Rattle.rip_tree.specs.Branches.{Plant, branch_of, units_at}
+use Rattle.rip_tree.specs.Branches.{Branch, Plant, branch_of, units_at}
 use Rattle.rip_tree.specs.declared.node.Piece.{Piece}
 use Rattle.rip_tree.specs.declared.form.Form.{Form}
 use Rattle.rip_tree.specs.declared.form.Form.TheVariants as F
@@ -98,35 +98,44 @@ label_of _ = None
 abbrev pub head_of : Option Piece → Phrase → FunctionHead
 head_of name parameters = record { name = name; parameters = item_count parameters }
 
--- the row is one node of the tree, with this place and form, and its children are such a row
-abbrev pub IsNode : Plant → ℕ → Form → (Row → Type 0) → Row → Type 0
-IsNode tree place form P row = (id : ℕ) × (children : Row) × (row ≡ Some id ∷ [])
-    × (branch_of tree.branches id ≡ Some record { node = record { place = place; form = form }; children = children }) × P children
+-- What is shown: a row of nodes, and the numbers that its nodes and all below them have, each number once. They are those
+-- below the first number here, down to the second.
+abbrev pub Shown : Type 1
+Shown = Row → ℕ → ℕ → Type 0
+
+-- one node of the tree, with this place and form, whose children are shown so: it has the lowest of the numbers
+abbrev pub IsNode : Plant → ℕ → Form → Shown → Shown
+IsNode tree place form P row high low = (children : Row) × (row ≡ Some low ∷ [])
+    × (branch_of tree.branches low ≡ Some record { node = record { place = place; form = form }; children = children }) × P children high (low + 1)
 
 -- the same, where the form is one that an operator makes
-abbrev pub IsNodeOf : Plant → ℕ → Option Form → (Row → Type 0) → Row → Type 0
-IsNodeOf tree place form P row = (made : Form) × (form ≡ Some made) × IsNode tree place made P row
+abbrev pub IsNodeOf : Plant → ℕ → Option Form → Shown → Shown
+IsNodeOf tree place form P row high low = (made : Form) × (form ≡ Some made) × IsNode tree place made P row high low
 
 -- no node
-abbrev pub IsLeaf : Row → Type 0
-IsLeaf row = row ≡ []
+abbrev pub IsLeaf : Shown
+IsLeaf row high low = (row ≡ []) × (high ≡ low)
 
--- such a row, and then such a row
-abbrev pub Then : (Row → Type 0) → (Row → Type 0) → Row → Type 0
-Then P Q row = (front : Row) × (back : Row) × (row ≡ front ++ back) × P front × Q back
+-- an empty place
+abbrev pub IsAbsent : Shown
+IsAbsent row high low = (row ≡ None ∷ []) × (high ≡ low)
+
+-- the one, and then the other: it has the lower numbers
+abbrev pub Then : Shown → Shown → Shown
+Then P Q row high low = (front : Row) × (back : Row) × (middle : ℕ) × (row ≡ front ++ back) × P front high middle × Q back middle low
 
 -- the row of nodes that a phrase of the script shows: an expression, statement or part shows one, a list each of its
 -- phrases, and a part that is absent leaves its place empty
-abbrev pub Shows : List ℕ → Plant → Phrase → Row → Type 0
-Shows script tree Absent = λ row. row ≡ None ∷ []
+abbrev pub Shows : List ℕ → Plant → Phrase → Shown
+Shows script tree Absent = IsAbsent
 Shows script tree Nothing = IsLeaf
 Shows script tree (More l d) = Then (Shows script tree l) (Shows script tree d)
 Shows script tree (CommaMore l c d) = Then (Shows script tree l) (Shows script tree d)
 Shows script tree (Trailing l c) = Shows script tree l
-Shows script tree (Single t) = λ row. (form : Form) × IsSingle script tree.units t t.word form × IsNode tree t.start form IsLeaf row
+Shows script tree (Single t) = λ row high low. (form : Form) × IsSingle script tree.units t t.word form × IsNode tree t.start form IsLeaf row high low
 Shows script tree (Array o l c) = IsNode tree o.start F.Array (Shows script tree l)
 Shows script tree (Object o l c) = IsNode tree o.start F.Object (Shows script tree l)
-Shows script tree (Entry k c e) = λ row. (key : Key) × IsKey script tree.units k k.word key × IsNode tree k.start (F.Entry key) (Shows script tree e) row
+Shows script tree (Entry k c e) = λ row high low. (key : Key) × IsKey script tree.units k k.word key × IsNode tree k.start (F.Entry key) (Shows script tree e) row high low
 Shows script tree (Parenthesized o e c) = Shows script tree e
 Shows script tree (Member b p n) = IsNode tree (place_of b) (F.Member (piece_of n)) (Shows script tree b)
 Shows script tree (Index b o e c) = IsNode tree (place_of b) F.Index (Then (Shows script tree b) (Shows script tree e))
@@ -164,7 +173,36 @@ Shows script tree (Function f n o l c b s d) = IsNode tree f.start (F.Function (
 Shows script tree (Declaration f n o l c b s d) = IsNode tree f.start (F.FunctionDeclaration (head_of (Some (piece_of n)) l)) (Then (Shows script tree l) (Shows script tree s))
 Shows script tree (Parameter n) = IsNode tree n.start (F.Parameter (piece_of n)) IsLeaf
 
--- the tree is that of a script with this body: its root is the script, and its units begin with those of the script
+-- the text literal of a form, if it has one (7.8.4, 11.1.5)
+abbrev pub text_of : Form → Option TextLiteral
+text_of (F.Text literal) = Some literal
+text_of (F.Entry (Y.Text literal)) = Some literal
+text_of _ = None
+
+-- how many units the text of a form has
+abbrev pub text_count : Option TextLiteral → ℕ
+text_count None = 0
+text_count (Some literal) = literal.value.count
+
+-- where the texts of branches end that lie one behind the other from a place on, that of the last branch first
+abbrev pub texts_end : ℕ → List Branch → ℕ
+texts_end place [] = place
+texts_end place (b ∷ bs) = texts_end place bs + text_count (text_of b.node.form)
+
+-- the text begins at this place
+abbrev pub LiesAt : ℕ → Option TextLiteral → Type 0
+LiesAt place None = Unit {0}
+LiesAt place (Some literal) = literal.value.start ≡ place
+
+-- the texts of branches lie so: each where those of the branches behind its own end
+abbrev pub AreLaid : ℕ → List Branch → Type 0
+AreLaid place [] = Unit {0}
+AreLaid place (b ∷ bs) = LiesAt (texts_end place bs) (text_of b.node.form) × AreLaid place bs
+
+-- The tree is that of a script with this body. Its root is the script, with the number 0, and it has no node that the
+-- body does not show. Its units are those of the script and behind them those of its texts, and no others.
 pub record ShowsScript (script : List ℕ) (tree : Plant) (body : Phrase) : Type 0 where
-  pub root : IsNode tree 0 F.Script (Shows script tree body) (Some 0 ∷ [])
+  pub root : IsNode tree 0 F.Script (Shows script tree body) (Some 0 ∷ []) (length tree.branches) 0
   pub spelled : take (length script) tree.units ≡ script
+  pub laid : AreLaid (length script) tree.branches
+  pub full : length tree.units ≡ texts_end (length script) tree.branches

@@ -3,9 +3,9 @@ ghost use Rattle.rip_lexer.specs.Tokens.{IsTokenOf};
 ghost use Rattle.rip_tree.specs.Branches.{AreBetween};
 ghost use Rattle.rip_tree.specs.Making.{with_units};
 ghost use Rattle.rip_grammar.specs.Words.{is_single};
-ghost use Rattle.rip_parser.specs.Building.{Fits, State, HasForm, HasRoom, IsFormOf, IsReadable, IsTakeable, Makes, Takes, Wraps, absent, beginning, deeper, greatest, rooted};
+ghost use Rattle.rip_parser.specs.Building.{Fits, State, HasForm, HasRoom, IsFormOf, IsPut, IsReadable, IsTakeable, Makes, Takes, Wraps, absent, beginning, deeper, greatest, rooted};
 ghost use Rattle.rip_parser.specs.Listed.{AreInOrder, GrowsBy};
-ghost use Rattle.rip_parser.specs.Shows.{IsKey, IsSingle};
+ghost use Rattle.rip_parser.specs.Shows.{IsKey, IsSingle, text_of};
 
 use crate::error::BuildError;
 use crate::forms::{is_part, piece_of, plain_form};
@@ -179,6 +179,7 @@ fn form_of(
     requires { All (IsTokenOf script.now) tokens.now }
     ensures is_form { IfOk result (λ form. (more : List ℕ) → IsFormOf script.now (maker.new.units ++ more) head form) }
     ensures grown { GrowsBy maker.old maker.new }
+    ensures put { IfOk result (λ form. IsPut (text_of form) maker.old.units maker.new.units) }
     ensures refused { IfErr result (λ e. e ≡ BuildError.NoPhrase → AreInOrder tokens.now → HasForm script.now tokens.now head → ⊥) }
 {
     match head {
@@ -202,6 +203,7 @@ fn single_form(
     requires { All (IsTokenOf script.now) tokens.now }
     ensures is_form { IfOk result (λ form. (more : List ℕ) → IsSingle script.now (maker.new.units ++ more) lexeme lexeme.word form) }
     ensures grown { GrowsBy maker.old maker.new }
+    ensures put { IfOk result (λ form. IsPut (text_of form) maker.old.units maker.new.units) }
     ensures refused { IfErr result (λ e. e ≡ BuildError.NoPhrase → AreInOrder tokens.now → (is_single lexeme.word ≡ true) × IsReadable script.now tokens.now lexeme lexeme.word → ⊥) }
 {
     match lexeme.word {
@@ -227,6 +229,7 @@ fn key_of(
     requires { All (IsTokenOf script.now) tokens.now }
     ensures is_key { IfOk result (λ key. (more : List ℕ) → IsKey script.now (maker.new.units ++ more) lexeme lexeme.word key) }
     ensures grown { GrowsBy maker.old maker.new }
+    ensures put { IfOk result (λ key. IsPut (text_of (Form.Entry key)) maker.old.units maker.new.units) }
     ensures refused { IfErr result (λ e. e ≡ BuildError.NoPhrase → AreInOrder tokens.now → IsReadable script.now tokens.now lexeme lexeme.word → ⊥) }
 {
     match lexeme.word {

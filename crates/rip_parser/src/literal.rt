@@ -1,10 +1,11 @@
 //! The literals of a script: numerals and texts, with their values.
 
-ghost use Rattle.std.specs.Prelude.{◌≡◌, ◌++◌, ◌∷◌, [], ◌≤◌, ◌↔◌, ℕ, IsTrue, IsSome, IfOk, IfErr, IfSome, List, All, OnErr, take, drop, length, pos};
+ghost use Rattle.std.specs.Prelude.{◌≡◌, ◌++◌, ◌∷◌, [], ◌≤◌, ◌↔◌, ℕ, IsTrue, IsSome, IfOk, IfErr, IfSome, List, All, OnErr, take, drop, length, pos, Some};
 ghost use Rattle.std.specs.Str.{bytes_eq};
 ghost use Rattle.rip_lexer.specs.Numeral.{numeral_value};
 ghost use Rattle.rip_lexer.specs.Tokens.{IsTokenOf};
 ghost use Rattle.rip_tree.specs.Making.{with_units};
+ghost use Rattle.rip_parser.specs.Building.{IsPut};
 ghost use Rattle.rip_parser.specs.Listed.{AreInOrder, IsListed, IsTextToken, GrowsBy};
 ghost use Rattle.rip_parser.specs.Shows.{IsText, spelling_of};
 
@@ -89,6 +90,7 @@ pub(crate) fn literal_of(
     requires { All (IsTokenOf script.now) tokens.now }
     ensures text { IfOk result (λ literal. (more : List ℕ) → IsText (maker.new.units ++ more) (spelling_of script.now lexeme) literal) }
     ensures grown { GrowsBy maker.old maker.new }
+    ensures put { IfOk result (λ literal. IsPut (Some literal) maker.old.units maker.new.units) }
     ensures refused { IfErr result (λ e. e ≡ BuildError.NoPhrase → AreInOrder tokens.now → IsListed tokens.now lexeme → ⊥) }
 {
     if !is_text_token(tokens, lexeme) {
