@@ -62,9 +62,10 @@ fn json_of(alloc: Global, text: &[u8]) -> Result<Value, DataError>
     }
 }
 
-// The datum that a value of `serde_json` is.
+/// The datum that a value of `serde_json` is, for whoever read a text already: how deep it nests and how long its text
+/// is are the caller's to judge ([`datum_size`]). It is refused for a number that is not whole, or for want of memory.
 #[cycle(convert)]
-fn datum_of(alloc: Global, value: &Value) -> Result<Datum, DataError>
+pub fn datum_of(alloc: Global, value: &Value) -> Result<Datum, DataError>
     ensures data { IfOk result (λ d. data_of (tree_of d) ≡ view value.now) }
     ensures made { IfOk result (λ d. IsDatum (tree_of d)) }
     ensures refused { IfErr result (λ e. e ≢ DataError.Memory
