@@ -41,7 +41,7 @@ pub fn read_long(alloc: Global, text: &[u8]) -> Result<Datum, DataError>
     ensures made { IfOk result (λ d. IsDatum (tree_of d)) }
     ensures err { IfErr result (λ e. e ≢ DataError.Memory → answer_long text.now ≡ Err e) }
 {
-    let value = json_of(alloc, text)?;
+    let value = read_value(alloc, text)?;
     let datum = datum_of(alloc, &value)?;
     if datum_size(&datum).depth > MAX_DEPTH {
         return Err(DataError::TooDeep);
@@ -49,8 +49,9 @@ pub fn read_long(alloc: Global, text: &[u8]) -> Result<Datum, DataError>
     Ok(datum)
 }
 
-// The value that the bytes are.
-fn json_of(alloc: Global, text: &[u8]) -> Result<Value, DataError>
+/// The value that the bytes are, as `serde_json` reads UTF-8: refused for [`DataError::Syntax`] alone, or for want of
+/// memory.
+pub fn read_value(alloc: Global, text: &[u8]) -> Result<Value, DataError>
     ensures ok { IfOk result (λ v. value_of text.now ≡ Some (view v)) }
     ensures err { IfErr result (λ e. e ≢ DataError.Memory
         → (e ≡ DataError.Syntax) × (value_of text.now ≡ None)) }

@@ -1,6 +1,6 @@
 use Rattle.std.proofs.Common.{true≢false, refl, sym, ◌∙◌}
 use Rattle.rip_data.proofs.ReadLemmas.{value_of-some, value_of-none}
-use Rattle.rip_data.proofs.read.json_of.Goals as goal
+use Rattle.rip_data.proofs.read.read_value.Goals as goal
 
 pub returns-in-Ok-clause-ok : goal.returns-in-Ok-clause-ok
 returns-in-Ok-clause-ok c = value_of-some _ _ c.in-Ok.ensures.ok.0 c.in-Ok.ensures.ok.1
