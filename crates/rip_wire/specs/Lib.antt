@@ -1,0 +1,7 @@
+pub mod Answers
+pub mod Batches
+pub mod Items
+pub mod Laws
+pub mod Names
+pub mod Reasons
+pub mod Tokens
