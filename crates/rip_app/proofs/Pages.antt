@@ -1,10 +1,10 @@
 use Rattle.std.proofs.Common.{◌≡◌, ◌≢◌, ◌++◌, ◌∷◌, inl, inr, ℕ, List, [], codes, get_or, arith, refl, sym, ap, ◌∙◌}
 use Rattle.std.specs.List.{AllByRecursion}
 use Rattle.std.proofs.lemmas.List.{append_assoc, append-nil, append_cancel_left}
-use Rattle.rip_wire.specs.Call.{call_parts, IsCall}
-use Rattle.rip_wire.specs.Reader.{IsTextThen, IsOnlyText, AreUpTo}
-use Rattle.rip_wire.specs.Texts.{CallPartsTellApart}
-use Rattle.rip_wire.specs.declared.call.Call.{Call}
+use Rattle.rip_listed.specs.Call.{call_parts, IsCall}
+use Rattle.rip_listed.specs.Reader.{IsTextThen, IsOnlyText, AreUpTo}
+use Rattle.rip_listed.specs.Texts.{CallPartsTellApart}
+use Rattle.rip_listed.specs.declared.call.Call.{Call}
 use Rattle.rip_app.specs.Page.{statements_text, page_text, IsTextOf, IsPage, IsSomePage, IsEnd, NoStatementFirst, PagesTellApart}
 use Rattle.rip_app.proofs.Statements.{four_parts, after_part}
 

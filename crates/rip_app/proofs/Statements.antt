@@ -2,9 +2,9 @@ use Rattle.std.proofs.Common.{◌≡◌, ◌≢◌, ◌++◌, ◌∷◌, ◌<◌
 use Rattle.std.specs.List.{AllByRecursion}
 use Rattle.std.proofs.lemmas.List.{append_assoc, append-nil, append_cancel_left, length-append}
 use Rattle.std.proofs.lemmas.List.Concat.{flat_map-append}
-use Rattle.rip_wire.specs.Call.{call_parts, IsCall}
-use Rattle.rip_wire.specs.Reader.{IsTextThen, IsOnlyText, BeginsWithNone, Anything, AreUpTo}
-use Rattle.rip_wire.specs.declared.call.Call.{Call}
+use Rattle.rip_listed.specs.Call.{call_parts, IsCall}
+use Rattle.rip_listed.specs.Reader.{IsTextThen, IsOnlyText, BeginsWithNone, Anything, AreUpTo}
+use Rattle.rip_listed.specs.declared.call.Call.{Call}
 use Rattle.rip_app.specs.Page.{statement_text, statements_text, NoStatementFirst}
 
 -- what a list of calls holds beyond those that were found first, and the bytes behind those

@@ -1,7 +1,7 @@
 use Rattle.std.specs.Prelude.{◌≡◌, ◌≢◌, ◌++◌, ◌∷◌, ◌≤◌, ℕ, List, [], ◌⊎◌, length, codes, map}
 use Rattle.std.specs.List.{flat_map, AllByRecursion}
-use Rattle.rip_wire.specs.Call.{call_parts, call_text, IsCall}
-use Rattle.rip_wire.specs.declared.call.Call.{Call}
+use Rattle.rip_listed.specs.Call.{call_parts, call_text, IsCall}
+use Rattle.rip_listed.specs.declared.call.Call.{Call}
 
 -- a statement of the script that makes a call: `ripley.call("NAME",[ARGS],null);`
 abbrev pub statement_text : Call → List ℕ

@@ -1,5 +1,5 @@
-use Rattle.rip_wire.specs.declared.reader.ReadError.{ReadError}
-use Rattle.rip_wire.specs.declared.reader.ReadError.TheVariants as read
+use Rattle.rip_listed.specs.declared.reader.ReadError.{ReadError}
+use Rattle.rip_listed.specs.declared.reader.ReadError.TheVariants as read
 use Rattle.rip_app.specs.declared.calls.CallsRefusal.{CallsRefusal}
 use Rattle.rip_app.specs.declared.calls.CallsRefusal.TheVariants.{Page, Memory}
 

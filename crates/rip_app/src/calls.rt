@@ -2,8 +2,8 @@ ghost use Rattle.std.specs.Prelude.{◌≡◌, IfOk, IsErrOf};
 ghost use Rattle.rip_app.specs.Page.{IsSomePage, IsManifest, MakesCalls, made_by};
 
 use crate::page::{is_manifest, read_page};
+use rip_listed::{Call, ReadError};
 use rip_values::{Bytes, List, NoMemory};
-use rip_wire::{Call, ReadError};
 use std::alloc::Global;
 use std::error::Error;
 use std::fmt;

@@ -1,10 +1,10 @@
 ghost use Rattle.std.specs.Prelude.{◌↔◌, IfOk, IsErrOf, IsTrue};
-ghost use Rattle.rip_wire.specs.Call.{IsCall};
-ghost use Rattle.rip_wire.specs.Reader.{AreUpTo, IsTextThen, IsOnlyText, BeginsWithNone};
+ghost use Rattle.rip_listed.specs.Call.{IsCall};
+ghost use Rattle.rip_listed.specs.Reader.{AreUpTo, IsTextThen, IsOnlyText, BeginsWithNone};
 ghost use Rattle.rip_app.specs.Page.{statements_text, NoStatementFirst, IsPage, IsSomePage, IsManifest, IsEnd, PagesTellApart};
 
+use rip_listed::{Call, ReadError, Reader, texts_tell_apart};
 use rip_values::List;
-use rip_wire::{Call, ReadError, Reader, texts_tell_apart};
 use std::alloc::Global;
 
 /// The most calls that a page makes.

@@ -10,8 +10,8 @@ use Rattle.rip_log.specs.declared.entry.Entry.{Entry}
 use Rattle.rip_server.specs.Course.{Course}
 use Rattle.std.specs.List.{AllByRecursion}
 use Rattle.rip_trace.specs.Trace.{IsSaid}
-use Rattle.rip_wire.specs.Batch.{IsBatch}
-use Rattle.rip_wire.specs.declared.batch.Batch.{Batch}
+use Rattle.rip_listed.specs.Batch.{IsBatch}
+use Rattle.rip_listed.specs.declared.batch.Batch.{Batch}
 use Rattle.rip_cli.specs.Input.{HasPage, HasManifest, HasTrace, Refuses, IsCount, IsLog}
 use Rattle.rip_cli.specs.Steps.{AcceptsCalls, AcceptsTrace, FitsAll, IsRefusedBy, IsReplayRefusal, PutsLine, PutsLineOf, Settles, file_word, refusal_line}
 use Rattle.rip_cli.specs.declared.input.Content.{Content}

@@ -3,7 +3,7 @@ use Rattle.std.specs.Prelude.{◌≡◌, ◌≤◌, ◌∷◌, ◌⊎◌, ℕ, L
 use Rattle.rip_outer.specs.Reading.{IsContents, IsTooLong}
 use Rattle.rip_outer.specs.declared.reading.NamedFile.{NamedFile}
 use Rattle.rip_outer.specs.declared.reading.TheConstants.{MAX_FILE}
-use Rattle.rip_wire.specs.declared.batch.Batch.{Batch}
+use Rattle.rip_listed.specs.declared.batch.Batch.{Batch}
 use Rattle.rip_app.specs.Page.{IsSomePage, IsManifest, MakesCalls}
 use Rattle.rip_app.specs.App.{Loaded, AppOf, IsAppRefusal}
 use Rattle.rip_app.specs.declared.refusal.AppRefusal.{AppRefusal}

@@ -4,7 +4,7 @@ use Rattle.rip_outer.specs.Outside.{Rose, Front, also}
 use Rattle.rip_app.specs.App.{IsAppRefusal}
 use Rattle.rip_app.specs.Page.{MakesCalls}
 use Rattle.rip_trace.specs.Trace.{IsTrace}
-use Rattle.rip_wire.specs.declared.batch.Batch.{Batch}
+use Rattle.rip_listed.specs.declared.batch.Batch.{Batch}
 use Rattle.rip_cli.specs.Content.{content_bytes}
 use Rattle.rip_cli.specs.Lines.{too_long_line, app_line}
 use Rattle.rip_cli.specs.Input.{HasPage, HasManifest, HasTrace, files_of, first_too_long, Refuses, IsAnswer}

@@ -5,8 +5,7 @@ use rip_early::EarlyKind;
 use rip_lexer::LexKind;
 use rip_manifest::ManifestKind;
 use rip_parser::ParseKind;
-use rip_values::{Bytes, NoMemory, PageKind};
-use rip_wire::Writer;
+use rip_values::{Bytes, NoMemory, PageKind, Writer};
 use std::alloc::Global;
 
 /// What `check` says of an application whose page has so many nodes and scripts.

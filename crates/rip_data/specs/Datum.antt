@@ -1,5 +1,5 @@
 -- What a datum stands for, as JSON (RFC 8259), and its one text.
-use Rattle.std.specs.Prelude.{◌≡◌, ℕ, ℤ, pos, negsuc, Bool, List, [], ◌∷◌, ⊤}
+use Rattle.std.specs.Prelude.{◌≡◌, ℕ, ℤ, pos, negsuc, Bool, List, [], ◌∷◌, map, ⊤}
 use Rattle.std.specs.Ordering.{nat_cmp}
 use Rattle.std.specs.declared.cmp.Ordering.TheVariants.{Less}
 use Rattle.std.specs.Cmp.Lexicographic.{slice_cmp}
@@ -10,6 +10,7 @@ use Rattle.rip_values.specs.Text.{IsUtf16}
 use Rattle.serde_json.specs.Data as json
 use Rattle.serde_json.specs.Written.{compact_text}
 use Rattle.rip_data.specs.declared.datum.Datum.{Datum, fold-Datum}
+use Rattle.rip_data.specs.declared.datum.DatumList.{DatumList, out-DatumList}
 use Rattle.rip_data.specs.declared.datum.Datum.TheOpen.{Datum-F, DatumFields-F, DatumList-F}
 
 -- a datum with nothing but its parts: whole numbers, texts in UTF-16 units, elements and fields in order
@@ -58,6 +59,10 @@ elements_step l = elements_of l.items.items
 -- what a datum stands for
 abbrev pub tree_of : Datum → Tree
 tree_of = fold-Datum Tree Fields Elements tree_step fields_step elements_step
+
+-- the trees of a list of data
+abbrev pub trees_in : DatumList → List Tree
+trees_in l = map tree_of (out-DatumList l).items.items
 
 -- the UTF-8 of a text (RFC 3629); U+FFFD stands for a surrogate that has no partner
 abbrev pub utf8_of : List ℕ → List ℕ

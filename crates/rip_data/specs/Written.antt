@@ -1,4 +1,4 @@
--- The parts of a datum as the clauses of private functions see them.
+-- The parts of a datum as those who write them or count them see them.
 use Rattle.std.specs.Prelude.{ℕ, ◌+◌, ◌<◌, ◌≤◌, List, [], ◌∷◌, length, map}
 use Rattle.json.specs.Print.{escape, quoted}
 use Rattle.json.specs.Token.{Token}

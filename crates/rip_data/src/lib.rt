@@ -6,6 +6,8 @@
 //! | [`write_datum`] | `Datum.canonical_text`, the compact text of `serde_json` |
 //! | [`datum_size`] | the length of that text and `Datum.nesting`, with no memory |
 //! | [`read_datum`], [`read_long`] | `Reading.answer`, `Reading.answer_long`: the data or the refusal of any bytes |
+//! | [`read_value`], [`datum_of`] | the value that `serde_json` reads of bytes (`Reading.value_of`), and the datum of a value |
+//! | [`write_value`], [`write_list`] | a datum, and a list (`Datum.trees_in`), as a part of a larger text: `Written.tokens_of` |
 //! | [`text_is_injective`] | `Laws.TextIsInjective` |
 //!
 //! A layer above may rest on this: what is read is well made, no two well-made data have one text, and what is written
@@ -26,6 +28,6 @@ mod write;
 pub use datum::{Datum, DatumFields, DatumList};
 pub use error::DataError;
 pub use laws::{text_is_injective, written_is_read, written_is_read_long};
-pub use read::{MAX_DEPTH, MAX_LENGTH, read_datum, read_long};
+pub use read::{MAX_DEPTH, MAX_LENGTH, datum_of, read_datum, read_long, read_value};
 pub use size::{DatumSize, datum_size};
-pub use write::write_datum;
+pub use write::{write_datum, write_list, write_value};

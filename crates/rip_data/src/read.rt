@@ -41,7 +41,7 @@ pub fn read_long(alloc: Global, text: &[u8]) -> Result<Datum, DataError>
     ensures made { IfOk result (λ d. IsDatum (tree_of d)) }
     ensures err { IfErr result (λ e. e ≢ DataError.Memory → answer_long text.now ≡ Err e) }
 {
-    let value = json_of(alloc, text)?;
+    let value = read_value(alloc, text)?;
     let datum = datum_of(alloc, &value)?;
     if datum_size(&datum).depth > MAX_DEPTH {
         return Err(DataError::TooDeep);
@@ -49,8 +49,9 @@ pub fn read_long(alloc: Global, text: &[u8]) -> Result<Datum, DataError>
     Ok(datum)
 }
 
-// The value that the bytes are.
-fn json_of(alloc: Global, text: &[u8]) -> Result<Value, DataError>
+/// The value that the bytes are, as `serde_json` reads UTF-8: refused for [`DataError::Syntax`] alone, or for want of
+/// memory.
+pub fn read_value(alloc: Global, text: &[u8]) -> Result<Value, DataError>
     ensures ok { IfOk result (λ v. value_of text.now ≡ Some (view v)) }
     ensures err { IfErr result (λ e. e ≢ DataError.Memory
         → (e ≡ DataError.Syntax) × (value_of text.now ≡ None)) }
@@ -62,9 +63,10 @@ fn json_of(alloc: Global, text: &[u8]) -> Result<Value, DataError>
     }
 }
 
-// The datum that a value of `serde_json` is.
+/// The datum that a value of `serde_json` is, for whoever read a text already: how deep it nests and how long its text
+/// is are the caller's to judge ([`datum_size`]). It is refused for a number that is not whole, or for want of memory.
 #[cycle(convert)]
-fn datum_of(alloc: Global, value: &Value) -> Result<Datum, DataError>
+pub fn datum_of(alloc: Global, value: &Value) -> Result<Datum, DataError>
     ensures data { IfOk result (λ d. data_of (tree_of d) ≡ view value.now) }
     ensures made { IfOk result (λ d. IsDatum (tree_of d)) }
     ensures refused { IfErr result (λ e. e ≢ DataError.Memory

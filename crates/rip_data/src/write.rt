@@ -1,8 +1,8 @@
 ghost use Rattle.std.specs.Prelude.{◌≡◌, ◌++◌, IfOk, OnOk, IsUtf8};
-ghost use Rattle.rip_data.specs.Datum.{tree_of, canonical_text};
+ghost use Rattle.rip_data.specs.Datum.{tree_of, trees_in, elements_of, array, canonical_text};
 ghost use Rattle.rip_data.specs.Written.{tokens_of, element_tokens, field_tokens};
 
-use crate::datum::Datum;
+use crate::datum::{Datum, DatumList};
 use json::Writer;
 use rip_values::{Bytes, NoMemory, Units};
 use std::alloc::{AllocError, Global};
@@ -19,8 +19,9 @@ pub fn write_datum(d: &Datum, alloc: Global) -> Result<Bytes, NoMemory>
     Ok(Bytes::from_vec(out.into_inner()))
 }
 
+/// Writes the datum as a part of a larger text.
 #[cycle(write)]
-fn write_value(d: &Datum, out: &mut Writer, alloc: Global) -> Result<(), AllocError>
+pub fn write_value(d: &Datum, out: &mut Writer, alloc: Global) -> Result<(), AllocError>
     ensures tokens { OnOk result (out.new.tokens ≡ out.old.tokens ++ tokens_of (tree_of d.now)) }
     ensures before { out.new.before ≡ out.old.before }
 {
@@ -41,6 +42,16 @@ fn write_value(d: &Datum, out: &mut Writer, alloc: Global) -> Result<(), AllocEr
             write_fields(&object.fields, out, alloc)
         }
     }
+}
+
+/// Writes the list as a part of a larger text.
+pub fn write_list(list: &DatumList, out: &mut Writer, alloc: Global) -> Result<(), AllocError>
+    ensures tokens { OnOk result
+        (out.new.tokens ≡ out.old.tokens ++ tokens_of (array (elements_of (trees_in list.now)))) }
+    ensures before { out.new.before ≡ out.old.before }
+{
+    out.begin_array()?;
+    write_elements(&list.items, out, alloc)
 }
 
 // The elements and the closing bracket.

@@ -3,14 +3,14 @@ use Rattle.std.proofs.Common.{◌≡◌, ◌++◌, ◌∷◌, ℕ, ℤ, List, []
 use Rattle.std.specs.Fmt.{signed_decimal}
 use Rattle.std.proofs.lemmas.List.{append_assoc}
 use Rattle.rip_values.specs.Whole.{IsWhole}
-use Rattle.rip_wire.specs.Name.{IsName}
-use Rattle.rip_wire.specs.Call.{quoted, arguments_text, call_parts, call_text, IsCall}
-use Rattle.rip_wire.specs.Reader.{NoDigitFirst}
-use Rattle.rip_wire.specs.declared.call.Call.{Call}
-use Rattle.rip_wire.proofs.Calls.{parts_same}
-use Rattle.rip_wire.proofs.ListLaws.{list_same}
-use Rattle.rip_wire.proofs.Names.{name_same}
-use Rattle.rip_wire.proofs.Numerals.{whole_listed}
+use Rattle.rip_listed.specs.Name.{IsName}
+use Rattle.rip_listed.specs.Call.{quoted, arguments_text, call_parts, call_text, IsCall}
+use Rattle.rip_listed.specs.Reader.{NoDigitFirst}
+use Rattle.rip_listed.specs.declared.call.Call.{Call}
+use Rattle.rip_listed.proofs.Calls.{parts_same}
+use Rattle.rip_listed.proofs.ListLaws.{list_same}
+use Rattle.rip_listed.proofs.Names.{name_same}
+use Rattle.rip_listed.proofs.Numerals.{whole_listed}
 use Rattle.rip_log.specs.Range.{IsCallText}
 use Rattle.rip_log.proofs.Lines.{tails, apart}
 

@@ -2,14 +2,14 @@
 use Rattle.std.proofs.Common.{◌≡◌, ◌++◌, ◌∷◌, ℕ, List, [], codes, decimal, Option, refl, sym, ap, ◌∙◌, arith}
 use Rattle.std.proofs.lemmas.List.{append_cancel_left}
 use Rattle.uuid.specs.Text.{hyphenated_text, lower}
-use Rattle.rip_wire.specs.Call.{quoted, arguments_text}
-use Rattle.rip_wire.specs.Batch.{item_text, items_text, IsItem}
-use Rattle.rip_wire.specs.Reader.{Anything}
-use Rattle.rip_wire.specs.declared.call.Call.{Call}
-use Rattle.rip_wire.specs.declared.batch.Item.{Item}
-use Rattle.rip_wire.specs.declared.batch.Batch.{Batch}
-use Rattle.rip_wire.proofs.Items.{item_listed}
-use Rattle.rip_wire.proofs.ListLaws.{list_same}
+use Rattle.rip_listed.specs.Call.{quoted, arguments_text}
+use Rattle.rip_listed.specs.Batch.{item_text, items_text, IsItem}
+use Rattle.rip_listed.specs.Reader.{Anything}
+use Rattle.rip_listed.specs.declared.call.Call.{Call}
+use Rattle.rip_listed.specs.declared.batch.Item.{Item}
+use Rattle.rip_listed.specs.declared.batch.Batch.{Batch}
+use Rattle.rip_listed.proofs.Items.{item_listed}
+use Rattle.rip_listed.proofs.ListLaws.{list_same}
 use Rattle.rip_log.specs.Ending.{ending_words}
 use Rattle.rip_log.specs.Entry.{reply_text, entry_words, entry_text}
 use Rattle.rip_log.specs.Range.{IsReport, IsEntry}

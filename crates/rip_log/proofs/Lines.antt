@@ -7,7 +7,7 @@ use Rattle.uuid.specs.Text.{hyphenated_text, lower, parsed_hyphenated}
 use Rattle.uuid.proofs.RoundTrips.{parses_hyphenated_text}
 use Rattle.uuid.proofs.TextLemmas.{by_index_length}
 use Rattle.rip_log.specs.Range.{IsIdentifier}
-use Rattle.rip_wire.proofs.Numerals.{decimal_same}
+use Rattle.rip_listed.proofs.Numerals.{decimal_same}
 
 -- words with a space between two, a line feed, and what is behind it
 abbrev pub line_then : List (List ℕ) → List ℕ → List ℕ

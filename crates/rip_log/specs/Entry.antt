@@ -1,8 +1,8 @@
 use Rattle.std.specs.Prelude.{◌∷◌, ◌++◌, ℕ, List, [], codes, decimal}
 use Rattle.std.specs.List.{join_with_byte}
 use Rattle.uuid.specs.Text.{hyphenated_text, lower}
-use Rattle.rip_wire.specs.Call.{arguments_text, quoted}
-use Rattle.rip_wire.specs.Batch.{items_text}
+use Rattle.rip_listed.specs.Call.{arguments_text, quoted}
+use Rattle.rip_listed.specs.Batch.{items_text}
 use Rattle.rip_log.specs.Ending.{ending_words}
 use Rattle.rip_log.specs.declared.entry.Reply.{Reply}
 use Rattle.rip_log.specs.declared.entry.Reply.TheVariants.{Unknown}

@@ -1,9 +1,9 @@
 use Rattle.std.specs.Prelude.{◌≡◌, ℕ, ◌<◌, ◌≤◌, ◌^◌, List, length, Option, Some, None, All, ⊤}
 use Rattle.std.specs.List.{AllByRecursion}
-use Rattle.rip_wire.specs.Call.{call_text, IsCall}
-use Rattle.rip_wire.specs.Batch.{IsItem}
-use Rattle.rip_wire.specs.declared.call.Call.{Call}
-use Rattle.rip_wire.specs.declared.batch.Batch.{Batch}
+use Rattle.rip_listed.specs.Call.{call_text, IsCall}
+use Rattle.rip_listed.specs.Batch.{IsItem}
+use Rattle.rip_listed.specs.declared.call.Call.{Call}
+use Rattle.rip_listed.specs.declared.batch.Batch.{Batch}
 use Rattle.rip_log.specs.declared.ending.Ending.{Ending}
 use Rattle.rip_log.specs.declared.ending.Ending.TheVariants.{Mismatch, Report}
 use Rattle.rip_log.specs.declared.entry.Entry.{Entry}

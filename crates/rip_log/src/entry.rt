@@ -1,5 +1,5 @@
 use crate::ending::Ending;
-use rip_wire::{Batch, Call};
+use rip_listed::{Batch, Call};
 use uuid::Uuid;
 
 /// What a served call is answered.

@@ -1,6 +1,6 @@
 use super::*;
+use rip_listed::{Call, Reader, read_batch};
 use rip_values::Bytes;
-use rip_wire::{Call, Reader, read_batch};
 use std::alloc::Global;
 use std::test::Fail;
 use uuid::Uuid;

@@ -3,12 +3,12 @@ ghost use Rattle.uuid.specs.Text.{hyphenated_text, lower};
 ghost use Rattle.rip_log.specs.Entry.{entry_text, reply_text};
 ghost use Rattle.rip_log.specs.Ending.{report_word, made_word, ending_words};
 ghost use Rattle.std.specs.List.{join_with_byte};
-ghost use Rattle.rip_wire.specs.Call.{quoted, arguments_text};
+ghost use Rattle.rip_listed.specs.Call.{quoted, arguments_text};
 
 use crate::ending::{BadReport, Ending};
 use crate::entry::{Entry, Reply};
-use rip_values::{Bytes, NoMemory};
-use rip_wire::{Batch, Call, Writer};
+use rip_listed::{Batch, Call};
+use rip_values::{Bytes, NoMemory, Writer};
 use std::alloc::Global;
 use uuid::Uuid;
 

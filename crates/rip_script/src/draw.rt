@@ -8,8 +8,7 @@ use crate::block::{put_block, put_full_block};
 use crate::lines::write_node;
 use rip_outer::{Sink, SinkError};
 use rip_tree::Tree;
-use rip_values::NoMemory;
-use rip_wire::Writer;
+use rip_values::{NoMemory, Writer};
 use std::alloc::Global;
 
 /// A branch whose lines are due: its number, and how many levels stand above it.

@@ -5,8 +5,7 @@ ghost use Rattle.rip_script.specs.Texts.{kind_word, line_word, node_line, token_
 
 use rip_lexer::{Token, TokenKind};
 use rip_tree::{Form, Node};
-use rip_values::NoMemory;
-use rip_wire::Writer;
+use rip_values::{NoMemory, Writer};
 
 /// Writes the line of a token.
 pub fn write_token(out: &mut Writer, token: &Token) -> Result<(), NoMemory>

@@ -6,7 +6,7 @@ use crate::block::{put_block, put_full_block};
 use crate::lines::write_token;
 use rip_lexer::Token;
 use rip_outer::{Sink, SinkError};
-use rip_wire::Writer;
+use rip_values::Writer;
 use std::alloc::Global;
 
 /// Puts a line for each token, as it is made.

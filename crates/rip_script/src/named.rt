@@ -4,8 +4,7 @@ ghost use Rattle.rip_script.specs.Values.{builtin_text, class_word, function_tex
 
 use rip_heap::Class;
 use rip_tree::{Form, Piece, Program};
-use rip_values::{Builtin, NoMemory};
-use rip_wire::Writer;
+use rip_values::{Builtin, NoMemory, Writer};
 use std::alloc::Global;
 
 /// Writes a text between quotes.

@@ -10,8 +10,7 @@ use crate::named::{
 };
 use rip_heap::{Class, Heap};
 use rip_tree::Program;
-use rip_values::{Bytes, NoMemory, Value};
-use rip_wire::Writer;
+use rip_values::{Bytes, NoMemory, Value, Writer};
 use std::alloc::Global;
 
 /// The levels of objects that are shown of a value.

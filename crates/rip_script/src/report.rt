@@ -12,8 +12,7 @@ use rip_heap::Heap;
 use rip_machine::Outcome;
 use rip_outer::{Sink, SinkError};
 use rip_tree::Program;
-use rip_values::{Fault, Limit, NoMemory, Value};
-use rip_wire::Writer;
+use rip_values::{Fault, Limit, NoMemory, Value, Writer};
 use std::alloc::Global;
 
 /// Puts what a run came to: how it ended, what it took, and a line for each binding of the top scope.

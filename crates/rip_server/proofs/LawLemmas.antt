@@ -1,8 +1,8 @@
 -- A trace has one legal course, whose turns never fall.
 use Rattle.std.proofs.Common.{◌≡◌, ℕ, ◌+◌, ◌-◌, ◌<◌, ◌≤◌, List, [], ◌∷◌, ◌++◌, All, length, get_or, take, map, refl, sym, ap, ◌∙◌, subst, arith, suc, zero, inl, inr, append-nil, append_assoc}
-use Rattle.rip_wire.specs.declared.batch.Batch.{Batch}
-use Rattle.rip_wire.specs.declared.batch.Item.{Item}
-use Rattle.rip_wire.specs.declared.batch.Item.TheVariants.{ReportedCall}
+use Rattle.rip_listed.specs.declared.batch.Batch.{Batch}
+use Rattle.rip_listed.specs.declared.batch.Item.{Item}
+use Rattle.rip_listed.specs.declared.batch.Item.TheVariants.{ReportedCall}
 use Rattle.rip_log.specs.declared.entry.Entry.{Entry}
 use Rattle.rip_log.specs.declared.entry.Entry.TheVariants.{Done, Ended}
 use Rattle.rip_log.specs.Turns.{turn_of, IsInOrder}

@@ -6,9 +6,9 @@ use Rattle.std.specs.Cmp.Lexicographic.{pointwise}
 use Rattle.std.proofs.lemmas.Bool.{eqb-true, false≢true}
 use Rattle.std.proofs.lemmas.Bool.Decides.{Decides-eqb}
 use Rattle.std.proofs.lemmas.Slice.Eq.{bytes_eq-Decides}
-use Rattle.rip_wire.specs.Call.{call_text}
-use Rattle.rip_wire.specs.declared.batch.Item.{Item}
-use Rattle.rip_wire.specs.declared.batch.Item.TheVariants.{ReportedCall}
+use Rattle.rip_listed.specs.Call.{call_text}
+use Rattle.rip_listed.specs.declared.batch.Item.{Item}
+use Rattle.rip_listed.specs.declared.batch.Item.TheVariants.{ReportedCall}
 use Rattle.rip_log.specs.declared.entry.Entry.{Entry}
 use Rattle.rip_log.specs.declared.entry.Entry.TheVariants.{Done}
 use Rattle.rip_server.specs.Served.{numbered, reported_call, served_entry, ending_of}

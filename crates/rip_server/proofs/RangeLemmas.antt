@@ -2,11 +2,11 @@
 use Rattle.std.proofs.Common.{ℕ, ◌+◌, ◌-◌, ◌<◌, ◌^◌, ◌==◌, Bool, true, false, cond, List, [], ◌∷◌, ◌++◌, All, length, take, map, refl, sym, subst, arith, suc, zero, inl, inr}
 use Rattle.std.specs.Prelude.{slice_get, option_map}
 use Rattle.std.specs.List.{AllByRecursion}
-use Rattle.rip_wire.specs.Call.{call_text}
-use Rattle.rip_wire.specs.Batch.{IsItem, IsBatch}
-use Rattle.rip_wire.specs.declared.batch.Batch.{Batch}
-use Rattle.rip_wire.specs.declared.batch.Item.{Item}
-use Rattle.rip_wire.specs.declared.batch.Item.TheVariants.{ReportedCall}
+use Rattle.rip_listed.specs.Call.{call_text}
+use Rattle.rip_listed.specs.Batch.{IsItem, IsBatch}
+use Rattle.rip_listed.specs.declared.batch.Batch.{Batch}
+use Rattle.rip_listed.specs.declared.batch.Item.{Item}
+use Rattle.rip_listed.specs.declared.batch.Item.TheVariants.{ReportedCall}
 use Rattle.rip_log.specs.Range.{IsEntry, IsCallText, IsNoneOrCallText, IsEnding, IsNoneOrEnding, IsIdentifier, IsReport}
 use Rattle.rip_log.specs.History.{IsHistory}
 use Rattle.rip_log.specs.declared.ending.Ending.TheVariants.{Mismatch, Report}

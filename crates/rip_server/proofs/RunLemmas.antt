@@ -1,7 +1,7 @@
 -- Runs over several batches.
 use Rattle.std.proofs.Common.{◌≡◌, ℕ, ◌+◌, List, [], ◌∷◌, ◌++◌, ◌<◌, length, get_or, take, drop, refl, sym, ap, ◌∙◌, append_assoc, append-nil, arith}
 use Rattle.std.proofs.lemmas.List.{take-append-drop, length-take-le}
-use Rattle.rip_wire.specs.declared.batch.Batch.{Batch}
+use Rattle.rip_listed.specs.declared.batch.Batch.{Batch}
 use Rattle.rip_server.specs.Steps.{step_entries, after_batch, run_entries}
 use Rattle.rip_server.specs.declared.session.Session.{Session}
 use Rattle.rip_server.proofs.ItemLemmas.{drop_step, take_step}

@@ -3,8 +3,8 @@ use Rattle.std.proofs.Common.{◌≡◌, ℕ, ◌+◌, ◌-◌, ◌<◌, Bool, t
 use Rattle.std.specs.Prelude.{slice_get}
 use Rattle.std.proofs.lemmas.Bool.{false≢true, cases_lt}
 use Rattle.std.proofs.lemmas.List.{length-map}
-use Rattle.rip_wire.specs.declared.batch.Batch.{Batch}
-use Rattle.rip_wire.specs.declared.batch.Item.{Item}
+use Rattle.rip_listed.specs.declared.batch.Batch.{Batch}
+use Rattle.rip_listed.specs.declared.batch.Item.{Item}
 use Rattle.rip_server.specs.Served.{numbered, reported, reported_call, IsServed, Lives}
 use Rattle.rip_server.specs.Course.{Admissions, batches_of}
 use Rattle.rip_server.specs.Steps.{serves, after_items}

@@ -1,7 +1,7 @@
 use Rattle.std.specs.Prelude.{◌≡◌, ℕ, ◌+◌, ◌<◌, ◌≤◌, ◌^◌, List, length, All}
 use Rattle.std.specs.List.{AllByRecursion}
-use Rattle.rip_wire.specs.Batch.{IsBatch}
-use Rattle.rip_wire.specs.declared.batch.Batch.{Batch}
+use Rattle.rip_listed.specs.Batch.{IsBatch}
+use Rattle.rip_listed.specs.declared.batch.Batch.{Batch}
 use Rattle.rip_log.specs.declared.entry.Entry.{Entry}
 use Rattle.rip_log.specs.Range.{IsCallText}
 use Rattle.rip_log.specs.History.{IsHistory}

@@ -1,9 +1,9 @@
 use Rattle.std.specs.Prelude.{◌≡◌, ◌≢◌, ◌∷◌, ◌++◌, ◌==◌, ℕ, ◌+◌, ◌-◌, ◌<◌, ◌≤◌, if◌then◌else◌, List, [], length, map, take, slice_get, Option, option_map}
 use Rattle.std.specs.List.{flat_map, enumerate_from}
-use Rattle.rip_wire.specs.Call.{call_text}
-use Rattle.rip_wire.specs.declared.batch.Item.{Item}
-use Rattle.rip_wire.specs.declared.batch.Item.TheVariants.{ReportedCall}
-use Rattle.rip_wire.specs.declared.batch.Batch.{Batch}
+use Rattle.rip_listed.specs.Call.{call_text}
+use Rattle.rip_listed.specs.declared.batch.Item.{Item}
+use Rattle.rip_listed.specs.declared.batch.Item.TheVariants.{ReportedCall}
+use Rattle.rip_listed.specs.declared.batch.Batch.{Batch}
 use Rattle.rip_log.specs.declared.ending.Ending.{Ending}
 use Rattle.rip_log.specs.declared.ending.Ending.TheVariants.{Mismatch, Report}
 use Rattle.rip_log.specs.declared.ending.BadReport.TheVariants.{Number}

@@ -1,10 +1,10 @@
 -- The session as a server keeps it, and what it does with one batch. That whole runs of it are legal courses is proved.
 use Rattle.std.specs.Prelude.{◌∷◌, ◌++◌, ◌==◌, ◌&&◌, ℕ, ◌+◌, Bool, true, false, if◌then◌else◌, List, [], length, slice_get, Some, None, nat_eq, option_map, unwrap_or}
 use Rattle.std.specs.Cmp.Lexicographic.{pointwise}
-use Rattle.rip_wire.specs.Call.{call_text}
-use Rattle.rip_wire.specs.declared.batch.Item.{Item}
-use Rattle.rip_wire.specs.declared.batch.Item.TheVariants.{ReportedCall}
-use Rattle.rip_wire.specs.declared.batch.Batch.{Batch}
+use Rattle.rip_listed.specs.Call.{call_text}
+use Rattle.rip_listed.specs.declared.batch.Item.{Item}
+use Rattle.rip_listed.specs.declared.batch.Item.TheVariants.{ReportedCall}
+use Rattle.rip_listed.specs.declared.batch.Batch.{Batch}
 use Rattle.rip_log.specs.declared.entry.Entry.{Entry}
 use Rattle.rip_log.specs.declared.entry.Entry.TheVariants.{Admitted, Done, Ended}
 use Rattle.rip_server.specs.Opening.{opening_entries}

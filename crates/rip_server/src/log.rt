@@ -2,11 +2,12 @@ ghost use Rattle.rip_outer.specs.Writing.{Takes, CountsPut};
 ghost use Rattle.rip_log.specs.Entry.{entry_text};
 ghost use Rattle.rip_server.specs.Served.{served_entry};
 
+use rip_listed::{Batch, Item};
 use rip_log::{
     Ending, Entry, Reply, write_admitted, write_done, write_ended, write_opened, write_served,
 };
 use rip_outer::{Sink, SinkError};
-use rip_wire::{Batch, Item, Writer};
+use rip_values::Writer;
 use uuid::Uuid;
 
 /// The turn in which a batch is handled, and its number.

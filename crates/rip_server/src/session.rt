@@ -5,10 +5,10 @@ ghost use Rattle.rip_server.specs.Steps.{is_made, serves, item_entries};
 ghost use Rattle.rip_server.specs.Logged.{Logged};
 
 use crate::log::{Admission, put_admitted, put_done, put_served};
+use rip_listed::{Batch, Item};
 use rip_log::{BadReport, Ending};
 use rip_outer::{Sink, SinkError};
-use rip_values::{Bytes, NoMemory};
-use rip_wire::{Batch, Item, Writer};
+use rip_values::{Bytes, NoMemory, Writer};
 use std::alloc::Global;
 
 /// A session as the server keeps it: how many of its calls are served, the number of its last admitted batch, and

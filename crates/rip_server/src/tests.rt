@@ -1,11 +1,11 @@
 ghost use Rattle.std.specs.Prelude.{IfOk};
 ghost use Rattle.std.specs.List.{AllByRecursion};
-ghost use Rattle.rip_wire.specs.Batch.{IsBatch};
+ghost use Rattle.rip_listed.specs.Batch.{IsBatch};
 
 use super::*;
+use rip_listed::{Batch, read_batch};
 use rip_outer::{MemorySink, Sink};
 use rip_values::{Bytes, NumberList};
-use rip_wire::{Batch, read_batch};
 use std::alloc::Global;
 use std::test::Fail;
 

@@ -1,7 +1,7 @@
 ghost use Rattle.std.specs.Prelude.{List};
 ghost use Rattle.std.specs.List.{AllByRecursion};
 ghost use Rattle.rip_outer.specs.Writing.{CountsPut};
-ghost use Rattle.rip_wire.specs.Batch.{IsBatch};
+ghost use Rattle.rip_listed.specs.Batch.{IsBatch};
 ghost use Rattle.rip_server.specs.Steps.{run_history, run_entries, opened};
 ghost use Rattle.rip_server.specs.Opening.{opening_entries};
 ghost use Rattle.rip_server.specs.Logged.{Logged};
@@ -12,9 +12,9 @@ ghost use Rattle.rip_log.specs.declared.entry.Entry.{Entry};
 use crate::log::{Admission, put_done, put_end, put_opened};
 use crate::opening::identifier;
 use crate::session::Session;
+use rip_listed::Batch;
 use rip_outer::{Sink, SinkError};
-use rip_values::Bytes;
-use rip_wire::{Batch, Writer};
+use rip_values::{Bytes, Writer};
 use std::alloc::Global;
 
 /// The turn in which a trace asks for the page.

@@ -2,9 +2,9 @@ use Rattle.std.proofs.Common.{◌≡◌, ◌++◌, ◌∷◌, ℕ, List, [], cod
 use Rattle.std.specs.List.{AllByRecursion}
 use Rattle.std.proofs.lemmas.List.{append_cancel_left}
 use Rattle.rip_outer.specs.Pieces.{pieces}
-use Rattle.rip_wire.specs.Batch.{batch_text}
-use Rattle.rip_wire.specs.Texts.{BatchTextsTellApart}
-use Rattle.rip_wire.specs.declared.batch.Batch.{Batch}
+use Rattle.rip_listed.specs.Batch.{batch_text}
+use Rattle.rip_listed.specs.Texts.{BatchTextsTellApart}
+use Rattle.rip_listed.specs.declared.batch.Batch.{Batch}
 use Rattle.rip_trace.specs.Trace.{say_text, IsSaid, IsLineOf, IsNoTrace, TracesTellApart}
 
 -- the lines of a trace: those of the batches so far, and those that are left

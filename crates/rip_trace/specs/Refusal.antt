@@ -1,5 +1,5 @@
-use Rattle.rip_wire.specs.declared.batch.WireError.{WireError}
-use Rattle.rip_wire.specs.declared.batch.WireError.TheVariants as wire
+use Rattle.rip_listed.specs.declared.batch.WireError.{WireError}
+use Rattle.rip_listed.specs.declared.batch.WireError.TheVariants as wire
 use Rattle.rip_trace.specs.declared.trace.TraceRefusal.{TraceRefusal}
 use Rattle.rip_trace.specs.declared.trace.TraceRefusal.TheVariants.{Form, Memory}
 

@@ -1,8 +1,8 @@
 use Rattle.std.specs.Prelude.{◌≡◌, ◌++◌, ◌∷◌, ◌≤◌, ℕ, List, length, codes, map}
 use Rattle.std.specs.List.{AllByRecursion}
 use Rattle.rip_outer.specs.Pieces.{pieces}
-use Rattle.rip_wire.specs.Batch.{batch_text, IsBatch}
-use Rattle.rip_wire.specs.declared.batch.Batch.{Batch}
+use Rattle.rip_listed.specs.Batch.{batch_text, IsBatch}
+use Rattle.rip_listed.specs.declared.batch.Batch.{Batch}
 
 -- `say 0 e 1 BODY`: the first connection sends a batch of session 1
 abbrev pub say_text : Batch → List ℕ

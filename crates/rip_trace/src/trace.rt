@@ -1,11 +1,11 @@
 ghost use Rattle.std.specs.Prelude.{◌≡◌, ◌≢◌, ◌∷◌, ℕ, List, IfOk, IsErrOf};
 ghost use Rattle.std.specs.Bool.{OnTrue, OnFalse};
-ghost use Rattle.rip_wire.specs.declared.batch.Batch.{Batch};
+ghost use Rattle.rip_listed.specs.declared.batch.Batch.{Batch};
 ghost use Rattle.rip_trace.specs.Trace.{IsLineOf, IsTrace, IsNoTrace, TracesTellApart};
 
+use rip_listed::{Batch, WireError, read_batch, texts_tell_apart};
 use rip_outer::{Lines, lines};
 use rip_values::List;
-use rip_wire::{Batch, WireError, read_batch, texts_tell_apart};
 use std::alloc::{AllocFailed, Global};
 use std::error::Error;
 use std::fmt;

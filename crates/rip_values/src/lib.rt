@@ -16,6 +16,7 @@
 //! | [`Builtin`] | `Builtins.number_of`, `Builtins.name_of`, `Builtins.home_of` |
 //! | [`Pool`] | contracts see `Pool.Texts`; a span stands for `Pool.text_at` |
 //! | [`Limits`] | `Limits.AreInRange` |
+//! | [`Writer`] | contracts see the bytes so far; numerals are std's `decimal` and `signed_decimal` |
 //! | [`Page`] | contracts see `Page.Contents`: the nodes, and which hold the scripts |
 //!
 //! A layer above may rest on this: a span stands for the same text for ever (`Pool.KeepsTexts`), charged texts take no
@@ -33,11 +34,13 @@ mod number;
 mod operator;
 mod page;
 mod pool;
+mod report;
 #[cfg(test)]
 mod tests;
 mod text;
 mod value;
 mod whole;
+mod writer;
 
 pub use blank::{is_line_end, is_white_space};
 pub use builtin::{BUILTINS, Builtin, BuiltinHome, FIRST_HEAP_OBJECT, FIRST_NODE};
@@ -49,5 +52,7 @@ pub use number::{number_of_text, text_of_whole};
 pub use operator::{BinaryOperator, LogicalOperator, StepOperator, UnaryOperator};
 pub use page::{Attribute, NodeKind, Page, PageKind, PageNode, PairList};
 pub use pool::Pool;
+pub use report::{BadReport, EventKind, Report};
 pub use value::{Fault, Limit, Numeral, Refused, Span, TextError, Value};
 pub use whole::{MAX_WHOLE, Whole};
+pub use writer::Writer;

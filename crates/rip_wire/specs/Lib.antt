@@ -1,6 +1,7 @@
-pub mod Name
-pub mod Call
-pub mod Batch
-pub mod Reader
-pub mod WireError
-pub mod Texts
+pub mod Answers
+pub mod Batches
+pub mod Items
+pub mod Laws
+pub mod Names
+pub mod Reasons
+pub mod Tokens

@@ -1,21 +1,44 @@
-//! What goes over the wire: remote calls, the batches in which a browser reports them, and their texts.
+//! What goes over the wire: the batches in which a browser reports what happened, and the answers to them.
 //!
-//! A call has one canonical text, by which reported and made calls are compared. A batch is read from a request's
-//! body exactly where the body is the text of one.
+//! A batch is `{"batch":N,"items":[..]}` and an answer `{"batch":N,"ended":REASON,"served":[[K,TIME,REPLY],..]}`, as JSON
+//! (RFC 8259).
+//!
+//! | what | its definition in `specs/` |
+//! |---|---|
+//! | [`Batch`], [`Item`] | `Batches.contents_of` and `Items.reported_of`, what they say; `Batches.IsBatch`, when they are in range |
+//! | [`read_batch`] | `Batches.Spells`: which bodies spell which batch, by `Batches.batch_value` and `Items.item_value` |
+//! | [`write_batch`] | `Batches.batch_text`, that JSON with no white space |
+//! | [`Answer`] | `Answers.said_of`, what it says; `Answers.IsAnswer`, when it is in range |
+//! | [`write_answer`] | `Answers.answer_text`, its JSON with no white space |
+//! | [`Ending::reason`], [`Reason::word`] | the tables `Reasons.reason_of` and `Reasons.reason_word` |
+//! | [`is_name`] | `Names.IsName` |
+//!
+//! A layer above may rest on this: a body is read exactly where it spells a batch in range, and as that batch alone
+//! ([`bodies_tell_batches`]); a batch that is written is read again ([`written_is_read`]); no two batches have one text,
+//! and no two answers one body ([`texts_tell_batches`], [`bodies_tell_answers`]). Each call takes time in proportion to
+//! the text.
 #![tactic(auto)]
 
-mod batch;
-mod call;
-mod list;
+mod answer;
+mod body;
+mod ending;
+mod error;
+mod gesture;
+mod item;
+mod items;
+mod laws;
 mod name;
-mod reader;
-mod writer;
+mod read;
+mod values;
+mod write;
 
-pub use batch::{
-    Batch, Item, MAX_BATCH_NUMBER, MAX_CALL_NUMBER, MAX_ITEMS, WireError, read_batch,
-    texts_tell_apart,
-};
-pub use call::{Call, MAX_ARGUMENTS};
-pub use name::{MAX_NAME, Name, is_name, is_name_byte};
-pub use reader::{ReadError, Reader};
-pub use writer::Writer;
+pub use answer::{Answer, ServedCall, ServedList};
+pub use body::write_answer;
+pub use ending::{Ending, Reason};
+pub use error::WireError;
+pub use gesture::Gesture;
+pub use item::{Batch, Item, ItemList, LONGEST_NAME, MOST_BATCHES, MOST_ITEMS};
+pub use laws::{bodies_tell_answers, bodies_tell_batches, texts_tell_batches, written_is_read};
+pub use name::is_name;
+pub use read::read_batch;
+pub use write::write_batch;

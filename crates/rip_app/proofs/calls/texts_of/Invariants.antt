@@ -1,5 +1,5 @@
 use Rattle.std.proofs.Common.{◌≡◌, map, take}
-use Rattle.rip_wire.specs.Call.{call_text}
+use Rattle.rip_listed.specs.Call.{call_text}
 use Rattle.rip_app.proofs.calls.texts_of.Given as goal
 
 -- the texts of the calls so far

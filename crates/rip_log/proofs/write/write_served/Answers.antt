@@ -1,7 +1,7 @@
 use Rattle.std.proofs.Common.{◌≡◌, ℕ, List, [], ◌∷◌, ◌++◌, append_assoc, subst}
 use Rattle.std.specs.Prelude.{OnOk, codes, decimal}
 use Rattle.std.specs.List.{join_with_byte}
-use Rattle.rip_wire.specs.Call.{quoted, arguments_text}
+use Rattle.rip_listed.specs.Call.{quoted, arguments_text}
 use Rattle.rip_log.specs.Entry.{reply_text}
 use Rattle.rip_log.proofs.write.write_served.Goals as goal
 

@@ -1,6 +1,6 @@
 use Rattle.std.proofs.Common.{◌++◌, ◌∷◌, List, [], sym, subst}
 use Rattle.std.specs.List.{AllByRecursion}
-use Rattle.rip_wire.specs.Batch.{IsBatch}
+use Rattle.rip_listed.specs.Batch.{IsBatch}
 use Rattle.rip_server.proofs.tests.batches.Goals as goal
 
 -- what holds of each element and of one more

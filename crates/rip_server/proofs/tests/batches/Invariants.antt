@@ -1,5 +1,5 @@
 use Rattle.std.specs.List.{AllByRecursion}
-use Rattle.rip_wire.specs.Batch.{IsBatch}
+use Rattle.rip_listed.specs.Batch.{IsBatch}
 use Rattle.rip_server.proofs.tests.batches.Given as goal
 
 abbrev pub invariant-loop-body : goal.invariant-loop-body

@@ -1,0 +1,11 @@
+pub mod Spans
+pub mod Numerals
+pub mod Names
+pub mod Results
+pub mod Lists
+pub mod Calls
+pub mod Items
+pub mod ListLaws
+pub mod Sequences
+pub mod Batches
+pub mod TextLaws

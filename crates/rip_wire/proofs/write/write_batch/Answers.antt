@@ -1,0 +1,20 @@
+use Rattle.std.proofs.Common.{◌≡◌, [], ◌++◌, sym, ap, ap₂, ◌∙◌, subst, IsUtf8}
+use Rattle.json.specs.Print.{print}
+use Rattle.serde_json.proofs.Texts.{print-outline}
+use Rattle.rip_wire.specs.Batches.{contents_of, batch_value}
+use Rattle.rip_wire.specs.Tokens.{tokens_of}
+use Rattle.rip_wire.proofs.write.write_batch.Goals as goal
+
+pub returns-clause-text : goal.returns-clause-text
+returns-clause-text c =
+    let d = batch_value (contents_of c.args.b.now) in
+    let before : c.write_value.new.out.before ≡ [] = c.write_value.ensures.before ∙ c.new-out.ensures.before ∙ c.in_ok-with_capacity.ensures.items in
+    let written : c.write_value.new.out.tokens ≡ tokens_of d = c.in_ok-write_value.ensures.tokens ∙ ap (λ ts. ts ++ tokens_of d) c.new-out.ensures.tokens in
+    c.from_vec.ensures ∙ c.into_inner.ensures.items ∙ ap₂ (λ b ts. b ++ print ts) before written ∙ print-outline d
+
+pub returns-clause-utf8 : goal.returns-clause-utf8
+returns-clause-utf8 c =
+    let before : c.write_value.new.out.before ≡ [] = c.write_value.ensures.before ∙ c.new-out.ensures.before ∙ c.in_ok-with_capacity.ensures.items in
+    let bytes : c.from_vec.result ≡ print c.write_value.new.out.tokens =
+    c.from_vec.ensures ∙ c.into_inner.ensures.items ∙ ap (λ b. b ++ print c.write_value.new.out.tokens) before in
+    subst IsUtf8 (sym bytes) c.into_inner.ensures.utf8
