@@ -1,0 +1,79 @@
+use super::*;
+use rip_values::{Limit, Refused};
+use std::alloc::Global;
+use std::test::Fail;
+
+// What a row does with a queue, and what is answered.
+#[derive(Clone, Copy)]
+enum Step {
+    Makes(&'static str, Result<u64, Refused>),
+    Compares(&'static str, Match),
+    Takes,
+    FrontIs(Option<&'static str>),
+    Holds(u64, u32),
+}
+
+const FULL: Result<u64, Refused> = Err(Refused::Limit(Limit::Queue));
+
+// A queue of 12 bytes, and then one that is full to the last byte, and goes round its end.
+const STEPS: [Step; 26] = [
+    Step::Holds(0, 0),
+    Step::FrontIs(None),
+    Step::Compares("[\"a\",[]]", Match::None),
+    Step::Makes("[1234567890]", FULL),
+    Step::Makes("[\"a\",[1]]", Ok(1)),
+    Step::Holds(1, 10),
+    Step::Makes("ab", FULL),
+    Step::Makes("a", Ok(2)),
+    Step::Holds(2, 12),
+    Step::Makes("", FULL),
+    Step::FrontIs(Some("[\"a\",[1]]")),
+    Step::Compares("[\"a\",[1]]", Match::Same),
+    Step::Compares("[\"a\",[1]", Match::Other),
+    Step::Compares("[\"a\",[1]]]", Match::Other),
+    Step::Compares("[\"a\",[2]]", Match::Other),
+    Step::Compares("a", Match::Other),
+    Step::Takes,
+    Step::Holds(2, 2),
+    Step::Makes("abcdefghi", Ok(3)),
+    Step::Holds(3, 12),
+    Step::Compares("a", Match::Same),
+    Step::Takes,
+    Step::Compares("abcdefghi", Match::Same),
+    Step::FrontIs(Some("abcdefghi")),
+    Step::Takes,
+    Step::Holds(3, 0),
+];
+
+fn is_one_line(text: &str) -> bool {
+    text.bytes().all(|byte| byte != 10)
+}
+
+#[test]
+fn calls_wait_in_their_order(rt: HostRuntime) -> Result<(), Fail> {
+    let alloc: Global = rt.alloc();
+    let mut queue = Queue::make(alloc, 12)?;
+    for (at, step) in STEPS.iter().enumerate() {
+        match *step {
+            Step::Makes(text, answer) => {
+                assert_eq!(rt; queue.push_made(alloc, text.as_bytes()), answer, "row {at}")
+            }
+            Step::Compares(text, answer) => {
+                assert_eq!(rt; queue.compare(text.as_bytes()), answer, "row {at}")
+            }
+            Step::Takes => queue.take(),
+            Step::FrontIs(text) => {
+                let front = queue.front(alloc)?;
+                assert_eq!(rt;
+                    front.as_ref().map(|bytes| bytes.as_slice()),
+                    text.map(str::as_bytes),
+                    "row {at}"
+                )
+            }
+            Step::Holds(made, used) => {
+                assert_eq!(rt; (queue.made(), queue.used()), (made, used), "row {at}")
+            }
+        }
+    }
+    Ok(())
+}
