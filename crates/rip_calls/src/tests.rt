@@ -1,3 +1,6 @@
+ghost use Rattle.std.specs.Prelude.{◌↔◌, IsTrue};
+ghost use Rattle.rip_calls.specs.Calls.{IsOneLine};
+
 use super::*;
 use rip_values::{Limit, Refused};
 use std::alloc::Global;
@@ -45,35 +48,45 @@ const STEPS: [Step; 26] = [
     Step::Holds(3, 0),
 ];
 
-fn is_one_line(text: &str) -> bool {
-    text.bytes().all(|byte| byte != 10)
+fn is_one_line(text: &[u8]) -> bool
+    ensures { IsTrue result ↔ IsOneLine text.now }
+{
+    text.iter().all(|byte| *byte != 10)
+}
+
+// Does a step, and says whether it was answered as its row says.
+fn does(alloc: Global, queue: &mut Queue, step: Step) -> Result<bool, Fail> {
+    match step {
+        Step::Makes(text, answer) => {
+            let text = text.as_bytes();
+            Ok(is_one_line(text) && queue.push_made(alloc, text) == answer)
+        }
+        Step::Compares(text, answer) => {
+            let text = text.as_bytes();
+            Ok(is_one_line(text) && queue.compare(text) == answer)
+        }
+        Step::Takes => {
+            let text = "".as_bytes();
+            if !is_one_line(text) || queue.compare(text) == Match::None {
+                return Ok(false);
+            }
+            queue.take();
+            Ok(true)
+        }
+        Step::FrontIs(text) => match (queue.front(alloc)?, text) {
+            (Some(front), Some(text)) => Ok(front.as_slice() == text.as_bytes()),
+            (front, text) => Ok(front.is_none() && text.is_none()),
+        },
+        Step::Holds(made, used) => Ok(queue.made() == made && queue.used() == used),
+    }
 }
 
 #[test]
 fn calls_wait_in_their_order(rt: HostRuntime) -> Result<(), Fail> {
     let alloc: Global = rt.alloc();
     let mut queue = Queue::make(alloc, 12)?;
-    for (at, step) in STEPS.iter().enumerate() {
-        match *step {
-            Step::Makes(text, answer) => {
-                assert_eq!(rt; queue.push_made(alloc, text.as_bytes()), answer, "row {at}")
-            }
-            Step::Compares(text, answer) => {
-                assert_eq!(rt; queue.compare(text.as_bytes()), answer, "row {at}")
-            }
-            Step::Takes => queue.take(),
-            Step::FrontIs(text) => {
-                let front = queue.front(alloc)?;
-                assert_eq!(rt;
-                    front.as_ref().map(|bytes| bytes.as_slice()),
-                    text.map(str::as_bytes),
-                    "row {at}"
-                )
-            }
-            Step::Holds(made, used) => {
-                assert_eq!(rt; (queue.made(), queue.used()), (made, used), "row {at}")
-            }
-        }
+    for (row, step) in STEPS.iter().enumerate() {
+        assert!(rt; does(alloc, &mut queue, *step)?, "row {row}");
     }
     Ok(())
 }
