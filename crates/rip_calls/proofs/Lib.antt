@@ -1,0 +1,3 @@
+pub mod LineLemmas
+pub mod QueueLemmas
+pub mod Walks
