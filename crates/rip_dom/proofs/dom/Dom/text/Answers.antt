@@ -1,0 +1,5 @@
+use Rattle.rip_dom.proofs.TreeLemmas.{fits, text-is}
+use Rattle.rip_dom.proofs.dom.Dom.text.Goals as goal
+
+pub returns : goal.returns
+returns c = rw (← c.self.view_is) (text-is c.self.inside.limit c.self.inside.nodes.items c.self.inside.children c.self.inside.attributes c.self.inside.pairs.items (fits c.self.invariant) c.args.n c.record_at.result c.record_at.ensures)
