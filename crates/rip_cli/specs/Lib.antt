@@ -1,4 +1,5 @@
 pub mod Words
+pub mod Laws
 pub mod Lines
 pub mod Input
 pub mod Run

@@ -1,4 +1,5 @@
 ghost use Rattle.std.specs.Prelude.{length, map, string_bytes, ◌≡◌};
+ghost use Rattle.rip_cli.specs.Laws.{AcceptedIsRead};
 ghost use Rattle.rip_cli.specs.Lines.{count_line};
 ghost use Rattle.rip_cli.specs.Steps.{Settles, CountsStatus, FitsAll, PutsLine, PutsLineOf, IsLineStatus, refusal_line};
 ghost use Rattle.rip_cli.specs.Run.{Ran};
@@ -128,3 +129,8 @@ pub fn ripley<F: Files, D: Door, C: Clock, W: Words, S: Sink>(
         Err(ReadStop::Memory) => Status::NoMemory,
     }
 }
+
+/// `check` of a page and a manifest that are an application ends with status 0, unless a call fails or memory runs out.
+pub fn accepted_files_are_read()
+    ensures { AcceptedIsRead }
+{}
