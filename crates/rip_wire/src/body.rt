@@ -21,7 +21,8 @@ pub fn write_answer(a: &Answer, alloc: Global) -> Result<Bytes, NoMemory>
 }
 
 fn write_members(a: &Answer, out: &mut Writer, alloc: Global) -> Result<(), AllocError>
-    ensures tokens { OnOk result (out.new.tokens ≡ out.old.tokens ++ tokens_of (answer_value (said_of a.now))) }
+    ensures tokens { OnOk result
+        (out.new.tokens ≡ out.old.tokens ++ tokens_of (answer_value (said_of a.now))) }
     ensures before { out.new.before ≡ out.old.before }
 {
     out.begin_object()?;
@@ -36,7 +37,9 @@ fn write_members(a: &Answer, out: &mut Writer, alloc: Global) -> Result<(), Allo
 }
 
 fn write_ended(ended: &Option<Ending>, out: &mut Writer) -> Result<(), AllocError>
-    ensures tokens { OnOk result (out.new.tokens ≡ out.old.tokens ++ tokens_of (ended_value (option_map reason_of ended.now))) }
+    ensures tokens { OnOk result
+        (out.new.tokens
+        ≡ out.old.tokens ++ tokens_of (ended_value (option_map reason_of ended.now))) }
     ensures before { out.new.before ≡ out.old.before }
 {
     match ended {
@@ -47,7 +50,9 @@ fn write_ended(ended: &Option<Ending>, out: &mut Writer) -> Result<(), AllocErro
 
 // The served calls and the closing bracket.
 fn write_served(served: &[ServedCall], out: &mut Writer, alloc: Global) -> Result<(), AllocError>
-    ensures tokens { OnOk result (out.new.tokens ≡ out.old.tokens ++ closed (map served_value (map served_of served.now))) }
+    ensures tokens { OnOk result
+        (out.new.tokens
+        ≡ out.old.tokens ++ closed (map served_value (map served_of served.now))) }
     ensures before { out.new.before ≡ out.old.before }
 {
     for call in served {
@@ -57,7 +62,8 @@ fn write_served(served: &[ServedCall], out: &mut Writer, alloc: Global) -> Resul
 }
 
 fn write_call(call: &ServedCall, out: &mut Writer, alloc: Global) -> Result<(), AllocError>
-    ensures tokens { OnOk result (out.new.tokens ≡ out.old.tokens ++ tokens_of (served_value (served_of call.now))) }
+    ensures tokens { OnOk result
+        (out.new.tokens ≡ out.old.tokens ++ tokens_of (served_value (served_of call.now))) }
     ensures before { out.new.before ≡ out.old.before }
 {
     out.begin_array()?;

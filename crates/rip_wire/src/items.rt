@@ -46,11 +46,13 @@ fn detail_of(alloc: Global, kind: EventKind, values: &[Value]) -> Result<Detail,
 
 // The event that the values behind its word are.
 fn event_of(alloc: Global, values: &[Value]) -> Result<Item, WireError>
-    ensures found { IfOk result (λ i. list_of (string (codes "event") ∷ map view values.now) ≡ item_value (reported_of i)) }
+    ensures found { IfOk result
+        (λ i. list_of (string (codes "event") ∷ map view values.now) ≡ item_value (reported_of i)) }
     ensures in_range { IfOk result (λ i. IsItem (reported_of i)) }
     ensures body { IsErrOf result WireError.Body
         → (kind : Kind) (node : ℕ) (text : Maybe (Items ℕ)) (place : Maybe ℕ)
-        → IsItem (Reported.event kind node text place) → map view values.now ≢ event_values kind node text place }
+        → IsItem (Reported.event kind node text place)
+        → map view values.now ≢ event_values kind node text place }
 {
     let [kind, node, detail @ ..] = values else {
         return Err(WireError::Body);
@@ -69,11 +71,13 @@ fn event_of(alloc: Global, values: &[Value]) -> Result<Item, WireError>
 
 // The call that the values behind its word are.
 fn call_of(alloc: Global, values: &[Value]) -> Result<Item, WireError>
-    ensures found { IfOk result (λ i. list_of (string (codes "call") ∷ map view values.now) ≡ item_value (reported_of i)) }
+    ensures found { IfOk result
+        (λ i. list_of (string (codes "call") ∷ map view values.now) ≡ item_value (reported_of i)) }
     ensures in_range { IfOk result (λ i. IsItem (reported_of i)) }
     ensures body { IsErrOf result WireError.Body
         → (number : ℕ) (name : Items ℕ) (args : Items Tree)
-        → IsItem (Reported.call number name args) → map view values.now ≢ call_values number name args }
+        → IsItem (Reported.call number name args)
+        → map view values.now ≢ call_values number name args }
 {
     let [number, name, args] = values else {
         return Err(WireError::Body);
@@ -90,10 +94,12 @@ fn call_of(alloc: Global, values: &[Value]) -> Result<Item, WireError>
 
 // The reply that the values behind its word are.
 fn reply_of(values: &[Value]) -> Result<Item, WireError>
-    ensures found { IfOk result (λ i. list_of (string (codes "reply") ∷ map view values.now) ≡ item_value (reported_of i)) }
+    ensures found { IfOk result
+        (λ i. list_of (string (codes "reply") ∷ map view values.now) ≡ item_value (reported_of i)) }
     ensures in_range { IfOk result (λ i. IsItem (reported_of i)) }
     ensures body { IsErrOf result WireError.Body
-        → (number : ℕ) → IsItem (Reported.reply number) → map view values.now ≢ reply_values number }
+        → (number : ℕ) → IsItem (Reported.reply number)
+        → map view values.now ≢ reply_values number }
 {
     match values {
         [number] => match number_of(number) {
@@ -127,8 +133,10 @@ pub(crate) fn item_of(alloc: Global, value: &Value) -> Result<Item, WireError>
 
 // The first value of the list, and the values behind it.
 fn parts_of(value: &Value) -> Option<(&Value, &[Value])>
-    ensures found { IfSome result (λ p. view value.now ≡ list_of (view p.0.now ∷ map view p.1.now)) }
-    ensures none { IfNone result ((first : Data) (others : Items Data) → view value.now ≢ list_of (first ∷ others)) }
+    ensures found { IfSome result
+        (λ p. view value.now ≡ list_of (view p.0.now ∷ map view p.1.now)) }
+    ensures none { IfNone result
+        ((first : Data) (others : Items Data) → view value.now ≢ list_of (first ∷ others)) }
 {
     value.as_array()?.split_first()
 }

@@ -29,6 +29,8 @@ mod items;
 mod laws;
 mod name;
 mod read;
+#[cfg(test)]
+mod tests;
 mod values;
 mod write;
 

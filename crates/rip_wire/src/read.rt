@@ -62,7 +62,8 @@ struct Members<'a> {
 // The members of the object, if they are exactly those of a batch.
 fn members_of(value: &Value) -> Option<Members<'_>>
     ensures found { IfSome result (λ m. view value.now
-        ≡ object (member (codes "batch") (view m.number.now) (member (codes "items") (view m.items.now) no_members))) }
+        ≡ object (member (codes "batch") (view m.number.now)
+        (member (codes "items") (view m.items.now) no_members))) }
     ensures none { IfNone result ((number items : Data) → view value.now
         ≢ object (member (codes "batch") number (member (codes "items") items no_members))) }
 {
@@ -92,7 +93,8 @@ fn batch_number(value: &Value) -> Option<u64>
 // The items that the values are.
 #[tactic(auto, using(crate::proofs::BatchLemmas::no_item_at))]
 fn items_of(alloc: Global, values: &[Value]) -> Result<ItemList, WireError>
-    ensures found { IfOk result (λ items. map view values.now ≡ map item_value (map reported_of items)) }
+    ensures found { IfOk result
+        (λ items. map view values.now ≡ map item_value (map reported_of items)) }
     ensures in_range { IfOk result (λ items. AllByRecursion IsItem (map reported_of items)) }
     ensures body { IsErrOf result WireError.Body
         → (items : Items Reported) → AllByRecursion IsItem items

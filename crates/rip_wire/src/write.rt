@@ -21,7 +21,8 @@ pub fn write_batch(b: &Batch, alloc: Global) -> Result<Bytes, NoMemory>
 }
 
 fn write_value(b: &Batch, out: &mut Writer, alloc: Global) -> Result<(), AllocError>
-    ensures tokens { OnOk result (out.new.tokens ≡ out.old.tokens ++ tokens_of (batch_value (contents_of b.now))) }
+    ensures tokens { OnOk result
+        (out.new.tokens ≡ out.old.tokens ++ tokens_of (batch_value (contents_of b.now))) }
     ensures before { out.new.before ≡ out.old.before }
 {
     out.begin_object()?;
@@ -35,7 +36,8 @@ fn write_value(b: &Batch, out: &mut Writer, alloc: Global) -> Result<(), AllocEr
 
 // The items and the closing bracket.
 fn write_items(items: &[Item], out: &mut Writer, alloc: Global) -> Result<(), AllocError>
-    ensures tokens { OnOk result (out.new.tokens ≡ out.old.tokens ++ closed (map item_value (map reported_of items.now))) }
+    ensures tokens { OnOk result
+        (out.new.tokens ≡ out.old.tokens ++ closed (map item_value (map reported_of items.now))) }
     ensures before { out.new.before ≡ out.old.before }
 {
     for item in items {
@@ -45,7 +47,8 @@ fn write_items(items: &[Item], out: &mut Writer, alloc: Global) -> Result<(), Al
 }
 
 fn write_item(item: &Item, out: &mut Writer, alloc: Global) -> Result<(), AllocError>
-    ensures tokens { OnOk result (out.new.tokens ≡ out.old.tokens ++ tokens_of (item_value (reported_of item.now))) }
+    ensures tokens { OnOk result
+        (out.new.tokens ≡ out.old.tokens ++ tokens_of (item_value (reported_of item.now))) }
     ensures before { out.new.before ≡ out.old.before }
 {
     out.begin_array()?;
@@ -82,7 +85,8 @@ fn write_detail(
     out: &mut Writer,
     alloc: Global,
 ) -> Result<(), AllocError>
-    ensures tokens { OnOk result (out.new.tokens ≡ out.old.tokens ++ tokens_of_all (detail_values text.now place)) }
+    ensures tokens { OnOk result
+        (out.new.tokens ≡ out.old.tokens ++ tokens_of_all (detail_values text.now place)) }
     ensures before { out.new.before ≡ out.old.before }
 {
     if let Some(text) = text {
@@ -95,7 +99,8 @@ fn write_detail(
 }
 
 fn write_text(text: &Units, out: &mut Writer, alloc: Global) -> Result<(), AllocError>
-    ensures tokens { OnOk result (out.new.tokens ≡ out.old.tokens ++ tokens_of (text_value text.now)) }
+    ensures tokens { OnOk result
+        (out.new.tokens ≡ out.old.tokens ++ tokens_of (text_value text.now)) }
     ensures before { out.new.before ≡ out.old.before }
 {
     let text = String::from_utf16_lossy(alloc, text.as_slice())?;
