@@ -1,10 +1,11 @@
 -- Where an identifier stands, and what a table keeps when a session ends.
-use Rattle.std.proofs.Common.{◌≡◌, ◌+◌, ◌-◌, ◌<◌, ◌≤◌, ℕ, zero, suc, Bool, true, false, not, cond, nat_lt, nat_eq, List, [], ◌∷◌, length, position, slice_get, slice_set, count_by, Option, Some, None, IsSome, option_and_then, unwrap_or, refl, sym, ap, ◌∙◌, subst, arith}
+use Rattle.std.proofs.Common.{◌≡◌, ◌+◌, ◌-◌, ◌≤◌, ℕ, zero, suc, Bool, true, false, not, cond, nat_lt, List, [], ◌∷◌, length, position, slice_get, slice_set, count_by, Option, Some, None, IsSome, option_and_then, unwrap_or, refl, sym, ◌∙◌, subst, arith}
 use Rattle.std.specs.List.{position_or_len}
 use Rattle.std.specs.Vec.{with_item}
+use Rattle.std.proofs.lemmas.List.Sums.{sum_by-cons}
 use Rattle.std.proofs.Math.ListN.{length-set}
 use Rattle.rip_table.specs.declared.table.Table.{Table}
-use Rattle.rip_table.specs.Table.{IsTable, is_live_at, live_value, ended, live_count, place_of}
+use Rattle.rip_table.specs.Table.{IsTable, is_live_at, live_value, ended, place_of, with_value}
 
 -- the place that was found is that of the first
 pub position_is : {X : Type 0} (p : X → Bool) (xs : List X) (place : ℕ) → Some place ≡ position p xs → position_or_len p xs ≡ place
@@ -19,14 +20,18 @@ pub live_here : {X : Type 0} (b : Bool) (o : Option X) → IsSome (cond b o None
 live_here true o some = refl
 live_here false o some = absurd (cc)
 
+-- what a session counts among the live ones
+abbrev counted : Bool → ℕ
+counted has_ended = cond (not has_ended) 1 0
+
 -- one that ends counts no more
 pub count-ended : (xs : List Bool) (place : ℕ) → not (unwrap_or (slice_get xs place) true) ≡ true → count_by not (slice_set xs place true) + 1 ≡ count_by not xs
 count-ended [] place live = absurd (cc)
 count-ended (true ∷ xs) zero live = absurd (cc)
-count-ended (false ∷ xs) zero live = grind (arith, count_by-cons)
+count-ended (false ∷ xs) zero live = omega (arith, sum_by-cons counted true xs, sum_by-cons counted false xs)
 count-ended (x ∷ xs) (suc place) live =
     let rest = count-ended xs place live in
-    omega (arith, count_by-cons not x xs, count_by-cons not x (slice_set xs place true), rest)
+    omega (arith, sum_by-cons counted x xs, sum_by-cons counted x (slice_set xs place true), rest)
 
 module _ {T : Type 0} where
   -- the session with an identifier is live where its value is told
@@ -50,3 +55,13 @@ module _ {T : Type 0} where
         few_live = omega arith;
         few = table.few;
       }
+
+  pub lent_table : (t : Table T) (place : ℕ) (v : T) → IsTable t → IsTable (with_value t place v)
+  lent_table t place v table = record {
+    values_each = length-set t.values.items place v ∙ table.values_each;
+    ended_each = table.ended_each;
+    distinct = table.distinct;
+    live = table.live;
+    few_live = table.few_live;
+    few = table.few;
+  }

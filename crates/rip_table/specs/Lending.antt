@@ -1,5 +1,5 @@
 -- A value that is lent: what is left behind the reference stands in the table.
-use Rattle.std.specs.Prelude.{ℕ, ◌-◌, Option}
+use Rattle.std.specs.Prelude.{ℕ, Option}
 use Rattle.std.specs.Borrow.{MutBor, LendsIf}
 use Rattle.std.specs.List.{position_or_len}
 use Rattle.std.specs.Prelude.{nat_eq}

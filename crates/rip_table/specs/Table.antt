@@ -1,5 +1,5 @@
 -- Sessions in the order of their opening: identifiers, values, and which have ended, in three lists of one length.
-use Rattle.std.specs.Prelude.{◌≡◌, ℕ, ◌+◌, ◌-◌, ◌<◌, ◌≤◌, Bool, true, false, not, nat_eq, if◌then◌else◌, List, [], ◌∷◌, ◌++◌, length, position, slice_get, slice_set, count_by, Option, Some, None, option_and_then, option_map, unwrap_or}
+use Rattle.std.specs.Prelude.{◌≡◌, ℕ, ◌-◌, ◌≤◌, Bool, true, false, not, nat_eq, if◌then◌else◌, List, [], ◌∷◌, ◌++◌, length, position, slice_get, slice_set, count_by, Option, None, unwrap_or}
 use Rattle.std.specs.HashSet.{IsUnique}
 use Rattle.std.specs.Vec.{with_item}
 use Rattle.rip_table.specs.declared.table.Table.{Table}

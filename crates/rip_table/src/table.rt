@@ -104,6 +104,18 @@ impl<T: Drop> Table<T> {
         self.live_mut(place)
     }
 
+    /// The value of a live session.
+    pub fn get(&self, id: u128) -> Option<&T>
+        ensures { option_copied result ≡ option_and_then (live_value self.now) (place_of self.now id) }
+    {
+        let place = self.ids.get_index_of(&id)?;
+        if self.is_live_at(place) {
+            self.values.get(place)
+        } else {
+            None
+        }
+    }
+
     /// The value of a live session, to be changed.
     pub fn get_mut(&mut self, id: u128) -> Option<&mut T>
         ensures* writes_back { sem 𝓛 (LendsSession T.row self.entry id result) }
