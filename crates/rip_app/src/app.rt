@@ -9,9 +9,8 @@ ghost use Rattle.rip_app.specs.declared.refusal.AppRefusal.{AppRefusal as AppRef
 
 use crate::refusal::AppRefusal;
 use crate::scripts::program_of;
-use rip_functions::Functions;
 use rip_html::read_page;
-use rip_manifest::{Manifest, read_manifest};
+use rip_manifest::{Functions, Manifest, read_manifest};
 use rip_tree::Program;
 use rip_values::{Bytes, Limits, Page};
 use std::alloc::Global;

@@ -1,16 +1,20 @@
 -- What a refusal, and the line of an application, say of the input.
-use Rattle.std.proofs.Common.{◌≡◌, ◌⊎◌, ◌∷◌, ℕ, List, [], Option, Some, None, inl, inr, length, refl, sym, subst}
+use Rattle.std.proofs.Common.{◌≡◌, ◌⊎◌, ◌∷◌, ◌+◌, ◌<◌, ◌^◌, ℕ, List, [], Option, Some, None, inl, inr, length, refl, sym, subst}
 use Rattle.rip_app.specs.App.{Loaded, AppOf, IsAppRefusal}
-use Rattle.rip_app.specs.Page.{IsSomePage, IsManifest}
+use Rattle.rip_app.specs.Page.{IsSomePage, IsManifest, made_by}
 use Rattle.rip_app.specs.declared.refusal.AppRefusal.{AppRefusal}
 use Rattle.rip_cli.specs.Content.{content_bytes}
 use Rattle.rip_cli.specs.Lines.{count_line, app_line}
-use Rattle.rip_log.specs.History.{history_text}
+use Rattle.rip_log.specs.History.{history_text, IsHistory}
 use Rattle.rip_log.specs.declared.entry.Entry.{Entry}
 use Rattle.rip_server.specs.Course.{Course}
+use Rattle.rip_server.specs.Laws.{CoursesAreInRange}
 use Rattle.std.specs.List.{AllByRecursion}
 use Rattle.rip_trace.specs.Trace.{IsSaid}
 use Rattle.rip_listed.specs.Batch.{IsBatch}
+use Rattle.rip_listed.specs.Call.{IsCall}
+use Rattle.rip_listed.specs.declared.call.Call.{Call}
+use Rattle.rip_log.specs.Range.{IsCallText}
 use Rattle.rip_listed.specs.declared.batch.Batch.{Batch}
 use Rattle.rip_cli.specs.Input.{HasPage, HasManifest, HasTrace, Refuses, IsCount, IsLog}
 use Rattle.rip_cli.specs.Steps.{AcceptsCalls, AcceptsTrace, FitsAll, IsRefusedBy, IsReplayRefusal, PutsLine, PutsLineOf, Settles, file_word, refusal_line}
@@ -156,8 +160,8 @@ trace_refused i made r accepted cause (inr e) =
 
 -- the log of a legal course is the answer to input that is accepted
 pub log_of : (i : ReplayInput) (made : List (List ℕ)) (batches : List Batch) (history : List Entry) → AcceptsCalls i made
-    → AcceptsTrace i batches → Course made batches history → IsLog i (history_text history)
-log_of i made batches history calls trace course = record {
+    → AcceptsTrace i batches → Course made batches history → IsHistory history → IsLog i (history_text history)
+log_of i made batches history calls trace course in_range = record {
   page = calls.page;
   manifest = calls.manifest;
   trace = trace.trace;
@@ -170,10 +174,28 @@ log_of i made batches history calls trace course = record {
   application = calls.application;
   reported = trace.reported;
   course = course;
+  in_range = in_range;
   text = refl;
 }
+
+-- the calls that a page makes are in range
+calls_in_range : (calls : List Call) → AllByRecursion IsCall calls → AllByRecursion IsCallText (made_by calls)
+calls_in_range [] all = tt
+calls_in_range (call ∷ calls) all = (record { call = call; in_range = all.0; is = refl }, calls_in_range calls all.1)
+
+-- and so are their texts
+pub all_calls : (i : ReplayInput) (made : List (List ℕ)) → AcceptsCalls i made → AllByRecursion IsCallText made
+all_calls i made accepted =
+    let made_calls = accepted.application in
+    subst (AllByRecursion IsCallText) (sym made_calls.made_is) (calls_in_range made_calls.calls made_calls.page_is.in_range)
 
 -- the batches of a trace are in range
 pub all_batches : (batches : List Batch) → AllByRecursion IsSaid batches → AllByRecursion IsBatch batches
 all_batches [] said = tt
 all_batches (b ∷ batches) said = (said.0.0, all_batches batches said.1)
+
+-- the log of the run of a trace is the answer, by the law that the entries of a legal course are in range
+pub log_in_range : CoursesAreInRange → (i : ReplayInput) (made : List (List ℕ)) (batches : List Batch) (history : List Entry) → AcceptsCalls i made
+    → AcceptsTrace i batches → length batches + 3 < 2 ^ 64 → Course made batches history → IsLog i (history_text history)
+log_in_range law i made batches history calls trace turns course =
+    log_of i made batches history calls trace course (law made batches history (all_calls i made calls) (all_batches batches trace.reported.in_range) turns course)

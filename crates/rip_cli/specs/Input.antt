@@ -8,7 +8,7 @@ use Rattle.rip_app.specs.Page.{IsSomePage, IsManifest, MakesCalls}
 use Rattle.rip_app.specs.App.{Loaded, AppOf, IsAppRefusal}
 use Rattle.rip_app.specs.declared.refusal.AppRefusal.{AppRefusal}
 use Rattle.rip_trace.specs.Trace.{IsTrace}
-use Rattle.rip_log.specs.History.{history_text}
+use Rattle.rip_log.specs.History.{history_text, IsHistory}
 use Rattle.rip_log.specs.declared.entry.Entry.{Entry}
 use Rattle.rip_server.specs.Course.{Course}
 use Rattle.rip_cli.specs.Lines.{count_line, too_long_line, app_line}
@@ -69,7 +69,8 @@ HasManifest = Has IsManifest
 abbrev pub HasTrace : Content → Type 0
 HasTrace = Has (λ content. (batches : List Batch) × IsTrace content batches)
 
--- the log for input that is accepted: that of a legal course of the page's calls and the trace's batches
+-- the log for input that is accepted: that of a legal course of the page's calls and the trace's batches, whose entries
+-- are in range, so that it is the log of no other history in range
 pub record IsLog (i : ReplayInput) (log : List ℕ) : Type 0 where
   pub page : List ℕ
   pub manifest : List ℕ
@@ -83,6 +84,7 @@ pub record IsLog (i : ReplayInput) (log : List ℕ) : Type 0 where
   pub application : MakesCalls page manifest made
   pub reported : IsTrace trace batches
   pub course : Course made batches history
+  pub in_range : IsHistory history
   pub text : log ≡ history_text history
 
 -- CHECK

@@ -163,7 +163,7 @@ impl ReplayInput {
         ensures asked { Asked result (page.now ∷ app.now ∷ trace.now ∷ []) (F.asked files.old) (F.asked files.new) }
         ensures counted { CountsReading result (F.count files.old) (F.count files.new) }
     {
-        let page = read_content(alloc, files, page)?;
+        let page: Content = read_content(alloc, files, page)?;
         let app = read_content(alloc, files, app)?;
         let trace = read_content(alloc, files, trace)?;
         Ok(ReplayInput { page, app, trace })

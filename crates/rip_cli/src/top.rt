@@ -11,7 +11,7 @@ use crate::status::Status;
 use crate::words::command_of;
 use rip_app::App;
 use rip_outer::{Clock, Door, Files, Sink, SinkError, Words};
-use rip_server::{Stop, serve_trace};
+use rip_server::{Stop, courses_are_in_range, serve_trace};
 use std::alloc::Global;
 
 /// What other words are answered.
@@ -78,6 +78,7 @@ fn settle_replay<S: Sink>(alloc: Global, input: &ReplayInput, out: &mut S) -> St
         Ok(trace) => trace,
         Err(refusal) => return refuse(alloc, refusal, out),
     };
+    courses_are_in_range();
     match serve_trace(alloc, calls.made(), trace.batches.as_slice(), out) {
         Stop::Idle => Status::Read,
         Stop::Outside => Status::Outside,

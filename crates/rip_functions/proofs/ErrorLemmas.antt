@@ -5,9 +5,9 @@ use Rattle.std.specs.Option.{ok_or}
 use Rattle.std.specs.Cmp.Lexicographic.{pointwise, bytes_decides}
 use Rattle.std.proofs.lemmas.Bool.Decides.{nat_tests}
 use Rattle.rip_data.specs.Datum.{Tree, Elements, elements_of, null, boolean, number, text, array, object, utf8_of}
-use Rattle.rip_functions.specs.declared.function.Function.{Function}
-use Rattle.rip_functions.specs.declared.function.Operation.{Operation}
-use Rattle.rip_functions.specs.declared.function.Operation.TheVariants.{Get, Put, Add, Take, Push, List as ListKeys}
+use Rattle.rip_manifest.specs.declared.function.Function.{Function}
+use Rattle.rip_manifest.specs.declared.function.Operation.{Operation}
+use Rattle.rip_manifest.specs.declared.function.Operation.TheVariants.{Get, Put, Add, Take, Push, List as ListKeys}
 use Rattle.rip_functions.specs.declared.refusal.Refusal.{Refusal}
 use Rattle.rip_functions.specs.declared.refusal.Refusal.TheVariants.{Unknown, Arguments, Range, Full}
 use Rattle.rip_functions.specs.Places.{Place, Stored, value_at, Change, nothing, keep, remove}

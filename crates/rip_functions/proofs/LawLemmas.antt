@@ -16,9 +16,9 @@ use Rattle.std.specs.Option.{ok_or}
 use Rattle.rip_data.specs.Datum.{Tree, boolean, utf8_of}
 use Rattle.rip_functions.specs.declared.refusal.Refusal.{Refusal}
 use Rattle.rip_functions.specs.declared.refusal.Refusal.TheVariants.{Unknown, Arguments, Full}
-use Rattle.rip_functions.specs.declared.function.Function.{Function}
-use Rattle.rip_functions.specs.declared.function.Operation.{Operation}
-use Rattle.rip_functions.specs.declared.function.Operation.TheVariants.{Get, Put, Take}
+use Rattle.rip_manifest.specs.declared.function.Function.{Function}
+use Rattle.rip_manifest.specs.declared.function.Operation.{Operation}
+use Rattle.rip_manifest.specs.declared.function.Operation.TheVariants.{Get, Put, Take}
 use Rattle.rip_functions.specs.Places.{Place, Stored, compare, IsStore, value_at, nothing, keep, remove, changed}
 use Rattle.rip_functions.specs.Laws.{KeptIsFound, RemovedIsAbsent, OthersStay, OrderStays, RefusalLeaves, StoreStays, PutIsGot, TakenIsGone}
 use Rattle.rip_functions.specs.Args.{place_of}

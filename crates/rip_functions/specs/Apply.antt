@@ -3,7 +3,7 @@ use Rattle.std.specs.Prelude.{ℕ, nat_eq, List, [], ◌∷◌, codes, Option, S
 use Rattle.std.specs.Option.{ok_or}
 use Rattle.std.specs.Cmp.Lexicographic.{pointwise}
 use Rattle.rip_data.specs.Datum.{Tree, text, object, field, no_fields, utf8_of}
-use Rattle.rip_functions.specs.declared.function.Function.{Function}
+use Rattle.rip_manifest.specs.declared.function.Function.{Function}
 use Rattle.rip_functions.specs.declared.refusal.Refusal.{Refusal}
 use Rattle.rip_functions.specs.declared.refusal.Refusal.TheVariants.{Unknown, Arguments, Range, Full}
 use Rattle.rip_functions.specs.Places.{Stored, changed}

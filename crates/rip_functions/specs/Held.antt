@@ -1,7 +1,7 @@
 -- What a store holds, as contracts see it.
 use Rattle.std.specs.Prelude.{List, map}
 use Rattle.rip_data.specs.Datum.{tree_of}
-use Rattle.rip_functions.specs.declared.function.Function.{Function}
+use Rattle.rip_manifest.specs.declared.function.Function.{Function}
 use Rattle.rip_functions.specs.declared.places.Places.{Places}
 use Rattle.rip_functions.specs.declared.store.Store.{Store}
 use Rattle.rip_functions.specs.Places.{Stored}

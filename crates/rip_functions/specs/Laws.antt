@@ -2,9 +2,9 @@
 use Rattle.std.specs.Prelude.{◌≡◌, ◌≢◌, ◌≤◌, ◌↔◌, ℕ, ℤ, true, List, [], ◌∷◌, length, Some, None, Err, ⊤}
 use Rattle.std.specs.List.{AllByRecursion}
 use Rattle.rip_data.specs.Datum.{Tree, null, boolean, number, text, utf8_of}
-use Rattle.rip_functions.specs.declared.function.Function.{Function}
-use Rattle.rip_functions.specs.declared.function.Operation.{Operation}
-use Rattle.rip_functions.specs.declared.function.Operation.TheVariants.{Get, Put, Add, Take, Push, List as ListKeys}
+use Rattle.rip_manifest.specs.declared.function.Function.{Function}
+use Rattle.rip_manifest.specs.declared.function.Operation.{Operation}
+use Rattle.rip_manifest.specs.declared.function.Operation.TheVariants.{Get, Put, Add, Take, Push, List as ListKeys}
 use Rattle.rip_functions.specs.declared.refusal.Refusal.{Refusal}
 use Rattle.rip_functions.specs.declared.refusal.Refusal.TheVariants.{Unknown, Arguments}
 use Rattle.rip_functions.specs.Places.{Place, Stored, IsStore, value_at, Change, nothing, keep, remove, changed}

@@ -6,8 +6,8 @@ use Rattle.std.specs.Map.{keys_of}
 use Rattle.std.specs.Str.{is_utf8, chars}
 use Rattle.rip_values.specs.Text.{encode_utf16_all}
 use Rattle.rip_data.specs.Datum.{Tree, null, boolean, number, text, array, Elements, no_elements, element, elements_of, canonical_text}
-use Rattle.rip_functions.specs.declared.function.Operation.{Operation}
-use Rattle.rip_functions.specs.declared.function.Operation.TheVariants.{Get, Put, Add, Take, Push, List as ListKeys}
+use Rattle.rip_manifest.specs.declared.function.Operation.{Operation}
+use Rattle.rip_manifest.specs.declared.function.Operation.TheVariants.{Get, Put, Add, Take, Push, List as ListKeys}
 use Rattle.rip_functions.specs.declared.refusal.Refusal.{Refusal}
 use Rattle.rip_functions.specs.declared.refusal.Refusal.TheVariants.{Arguments, Range, Full}
 use Rattle.rip_functions.specs.Places.{Place, Stored, value_at, Change, nothing, keep, remove}

@@ -6,7 +6,7 @@ ghost use Rattle.rip_functions.specs.Args.{place_of, one_key, key_and_value, num
 ghost use Rattle.rip_functions.specs.Outcomes.{IsCause, elements_in};
 
 use crate::failure::Failure;
-use crate::function::LONGEST_KEY;
+use crate::limits::LONGEST_KEY;
 use crate::refusal::Refusal;
 use rip_data::{Datum, DatumList};
 use rip_values::{Units, Whole};

@@ -1,8 +1,7 @@
-//! The functions of an application on its server, and the store in which they keep data.
+//! The store in which the functions of an application keep data, and what a call of one does.
 //!
 //! | what | its definition in `specs/` |
 //! |---|---|
-//! | [`Functions`] | each has a name, one of six operations, and a prefix of the places that it reaches |
 //! | [`Store`] | `Held.functions_of`, and `Held.stored_of`: places and data in the order of the places' bytes |
 //! | [`Store::apply`] | `Apply.apply`, by `Operations.operate`: one equation for each operation, its refusals in their order |
 //! | [`Refusal`] | `Apply.error`, the reply that tells it |
@@ -15,8 +14,8 @@
 mod args;
 mod copy;
 mod failure;
-mod function;
 mod laws;
+mod limits;
 mod operations;
 mod outcome;
 mod places;
@@ -25,12 +24,10 @@ mod store;
 #[cfg(test)]
 mod tests;
 
-pub use function::{
-    Function, Functions, LONGEST_KEY, LONGEST_PREFIX, MOST_FUNCTIONS, MOST_KEYS, Operation,
-};
 pub use laws::{
     arguments_are_not_of_the_form, kept_is_found, others_stay, put_is_got, refusal_leaves,
     removed_is_absent, store_stays, taken_is_gone, unknown_is_no_function,
 };
+pub use limits::{LONGEST_KEY, MOST_KEYS};
 pub use refusal::Refusal;
 pub use store::{Replies, Store};

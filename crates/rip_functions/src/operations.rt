@@ -9,11 +9,11 @@ ghost use Rattle.rip_functions.specs.Outcomes.{outcome_of, IsCause};
 use crate::args::{key_and_value, list_of, number_of, one_key};
 use crate::copy::{copy_datum, copy_elements};
 use crate::failure::Failure;
-use crate::function::Operation;
 use crate::outcome::{Done, Write};
 use crate::places::Places;
 use crate::refusal::Refusal;
 use rip_data::{Datum, DatumList, MAX_LENGTH, datum_size};
+use rip_manifest::Operation;
 use rip_values::{NoMemory, Whole};
 use std::alloc::Global;
 

@@ -5,7 +5,7 @@ ghost use Rattle.rip_functions.specs.Operations.{is_full, keys_under, text_of};
 ghost use Rattle.rip_functions.specs.Held.{stored_in};
 ghost use Rattle.rip_functions.specs.Outcomes.{change_of, key_text, with_any};
 
-use crate::function::{LONGEST_KEY, MOST_KEYS};
+use crate::limits::{LONGEST_KEY, MOST_KEYS};
 use crate::outcome::Write;
 use rip_data::Datum;
 use rip_values::{NoMemory, TextError, Units};

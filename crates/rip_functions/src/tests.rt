@@ -1,5 +1,6 @@
 use super::*;
 use rip_data::{Datum, DatumList, read_datum, write_datum};
+use rip_manifest::{Function, Functions, MOST_FUNCTIONS, Operation};
 use rip_values::{Bytes, Units};
 use std::alloc::Global;
 use std::test::Fail;

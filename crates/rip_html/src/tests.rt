@@ -182,7 +182,7 @@ static REFUSED: [(&str, PageKind); 49] = [
 ];
 
 /// What is refused in a body, with a `^` where.
-static REFUSED_IN_BODY: [(&str, PageKind); 45] = [
+static REFUSED_IN_BODY: [(&str, PageKind); 46] = [
     ("^<1>", PageKind::BadTag),
     ("^<!doctype html>", PageKind::BadTag),
     ("<b>^</b a>", PageKind::BadTag),
@@ -233,6 +233,7 @@ static REFUSED_IN_BODY: [(&str, PageKind); 45] = [
     ("^<input type=radio>", PageKind::NotInSubset),
     ("^<select multiple>", PageKind::NotInSubset),
     ("<script ^type=module></script>", PageKind::NotInSubset),
+    ("<script ^type=\"&bogus;\"></script>", PageKind::NotInSubset),
     ("<script>a^<!-- </script>", PageKind::NotInSubset),
 ];
 

@@ -4,7 +4,7 @@ use Rattle.std.proofs.lemmas.Bool.{cases_lt}
 use Rattle.std.specs.Prelude.{codes, ⊤}
 use Rattle.serde_json.specs.Data.{Data, object, Members}
 use Rattle.serde_json.specs.Find.{get_member}
-use Rattle.rip_functions.specs.declared.function.Function.{Function}
+use Rattle.rip_manifest.specs.declared.function.Function.{Function}
 use Rattle.rip_values.specs.declared.limits.Limits.{Limits}
 use Rattle.rip_manifest.specs.Functions.{AreFunctions}
 use Rattle.rip_manifest.specs.Limits.{memory_of}

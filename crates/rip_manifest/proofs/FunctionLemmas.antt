@@ -5,9 +5,9 @@ use Rattle.serde_json.specs.Data.{Data, Members, no_members, member, array, obje
 use Rattle.serde_json.specs.Events.{members_len}
 use Rattle.serde_json.specs.View.{view, members_view}
 use Rattle.serde_json.proofs.Views.{Entry}
-use Rattle.rip_functions.specs.declared.function.Function.{Function}
-use Rattle.rip_functions.specs.declared.function.Operation.{Operation}
-use Rattle.rip_functions.specs.declared.function.Operation.TheVariants as O
+use Rattle.rip_manifest.specs.declared.function.Function.{Function}
+use Rattle.rip_manifest.specs.declared.function.Operation.{Operation}
+use Rattle.rip_manifest.specs.declared.function.Operation.TheVariants as O
 use Rattle.rip_manifest.specs.Functions.{word_of, Declares, DeclareAll, AreFunctions}
 
 -- as many functions as members

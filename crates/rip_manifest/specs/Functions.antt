@@ -1,9 +1,9 @@
 -- The functions that a manifest declares: members `NAME:[OP,PREFIX]` of an object.
 use Rattle.std.specs.Prelude.{◌≡◌, ℕ, ◌≤◌, List, [], ◌∷◌, length, codes, ⊤}
 use Rattle.serde_json.specs.Data.{Data, string, array, object, no_items, item, Members, no_members, member}
-use Rattle.rip_functions.specs.declared.function.Function.{Function}
-use Rattle.rip_functions.specs.declared.function.Operation.{Operation}
-use Rattle.rip_functions.specs.declared.function.Operation.TheVariants as O
+use Rattle.rip_manifest.specs.declared.function.Function.{Function}
+use Rattle.rip_manifest.specs.declared.function.Operation.{Operation}
+use Rattle.rip_manifest.specs.declared.function.Operation.TheVariants as O
 use Rattle.rip_manifest.specs.Names.{IsName, IsPrefix}
 
 -- the word of an operation

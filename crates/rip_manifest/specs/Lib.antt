@@ -2,3 +2,4 @@ pub mod Functions
 pub mod Limits
 pub mod Manifest
 pub mod Names
+pub mod Laws

@@ -4,7 +4,7 @@ use Rattle.serde_json.specs.Data.{Data, number, unsigned, object, Members}
 use Rattle.serde_json.specs.Events.{members_len}
 use Rattle.serde_json.specs.Find.{get_member}
 use Rattle.rip_data.specs.Reading.{answer_long}
-use Rattle.rip_functions.specs.declared.function.Function.{Function}
+use Rattle.rip_manifest.specs.declared.function.Function.{Function}
 use Rattle.rip_values.specs.declared.limits.Limits.{Limits}
 use Rattle.rip_manifest.specs.Functions.{AreFunctions}
 use Rattle.rip_manifest.specs.Limits.{AreLimits, memory_of}

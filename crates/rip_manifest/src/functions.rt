@@ -1,13 +1,13 @@
 ghost use Rattle.std.specs.Prelude.{◌≡◌, ◌≢◌, IfSome, IfNone, IfOk, IfErr, List as Items};
 ghost use Rattle.serde_json.specs.View.{view, members_view};
-ghost use Rattle.rip_functions.specs.declared.function.Function.{Function as Declared};
-ghost use Rattle.rip_functions.specs.declared.function.Operation.{Operation as Word};
+ghost use Rattle.rip_manifest.specs.declared.function.Function.{Function as Declared};
+ghost use Rattle.rip_manifest.specs.declared.function.Operation.{Operation as Word};
 ghost use Rattle.rip_manifest.specs.Functions.{word_of, Declares, DeclareAll, AreFunctions};
 ghost use Rattle.rip_manifest.specs.Manifest.{IsKindFrom};
 
+use crate::function::{Function, Functions, Operation};
 use crate::name::{is_name, is_prefix};
 use crate::refusal::{ManifestKind, ManifestRefusal};
-use rip_functions::{Function, Functions, Operation};
 use rip_values::Units;
 use serde_json::{Map, Value};
 use std::alloc::{AllocError, Global};

@@ -8,8 +8,9 @@
 //! | [`Manifest`] | contracts see `Manifest.Contents`: the functions and the limits |
 //! | [`read_manifest`] | `Manifest.ManifestOf`: which bytes are a manifest, and what it says |
 //! | why they are none ([`ManifestKind`], [`ManifestRefusal`]) | `Manifest.IsRefused`, a line for each, in order |
-//! | the functions | `Functions.AreFunctions`, by `Functions.Declares` and the table `Functions.word_of` |
+//! | the functions ([`Functions`]): each has a name, one of six operations, and a prefix | `Functions.AreFunctions`, by `Functions.Declares` and the table `Functions.word_of` |
 //! | the limits | `Limits.AreLimits`, by the tables `Limits.default` and `Limits.greatest`; `Limits.memory_of` |
+//! | [`at_most_one`] | `Laws.HasOneAnswer`: no two answers stand for the same bytes |
 //! | names and prefixes | `Names.IsName`, `Names.IsPrefix` |
 //!
 //! A layer above may rest on this: for any bytes one answer alone stands, a manifest or the first cause of refusal; want
@@ -17,7 +18,9 @@
 //! the name of its kind.
 #![tactic(auto)]
 
+mod function;
 mod functions;
+mod law;
 mod limits;
 mod manifest;
 mod name;
@@ -25,7 +28,9 @@ mod refusal;
 #[cfg(test)]
 mod tests;
 
+pub use function::{Function, Functions, Operation};
 pub use functions::MOST_FUNCTIONS;
+pub use law::at_most_one;
 pub use limits::MOST_MEMORY;
 pub use manifest::{Manifest, read_manifest};
 pub use name::MOST_LETTERS;

@@ -6,11 +6,11 @@ ghost use Rattle.rip_values.specs.Limits.{AreInRange};
 ghost use Rattle.rip_manifest.specs.declared.refusal.ManifestRefusal.{ManifestRefusal as Refusal};
 ghost use Rattle.rip_manifest.specs.Manifest.{Contents, Parts as Three, HasParts, IsJson, IsVersion, ManifestOf, IsRefused, IsAnswer, IsKindFrom};
 
+use crate::function::Functions;
 use crate::functions::functions_of;
 use crate::limits::{MOST_MEMORY, limits_of, memory_of};
 use crate::refusal::{ManifestKind, ManifestRefusal};
 use rip_data::{DataError, read_long};
-use rip_functions::Functions;
 use rip_values::Limits;
 use serde_json::Value;
 use std::alloc::Global;

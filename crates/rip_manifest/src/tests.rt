@@ -1,5 +1,5 @@
 use super::*;
-use rip_functions::Operation;
+use crate::function::Operation;
 use rip_values::{Limits, Units};
 use std::alloc::{AllocError, Global};
 use std::test::Fail;

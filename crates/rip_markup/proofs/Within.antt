@@ -87,9 +87,9 @@ own_within tag a =
     let bad : IfSome (bad_reference 0 0 value) (λ p. p ≤ length value) = place_more (bad_reference 0 0 value) (0 + length value) (length value) (omega arith) (bad_within value 0 0) in
     fault_cond (bytes_eq tag (codes "script") && bytes_eq r.name (codes "src")) (fault 0 ExternalScript) _ n (omega arith)
     (fault_cond (begins_with (codes "on") r.name) (fault 0 NotInSubset) _ n (omega arith)
-    (fault_or (option_map (λ place. fault place BadReference) r.bad) (type_fault tag r) n
-    (fault_at r.bad BadReference n (place_shifted (bad_reference 0 0 value) (length a.name + value_offset a.value) (length value) bad))
-    (fault_cond (bytes_eq tag (codes "script") && bytes_eq r.name (codes "type") && not (is_value script_types r)) (fault 0 NotInSubset) None n (omega arith) tt)))
+    (fault_or (type_fault tag r) (option_map (λ place. fault place BadReference) r.bad) n
+    (fault_cond (bytes_eq tag (codes "script") && bytes_eq r.name (codes "type") && not (is_value script_types r)) (fault 0 NotInSubset) None n (omega arith) tt)
+    (fault_at r.bad BadReference n (place_shifted (bad_reference 0 0 value) (length a.name + value_offset a.value) (length value) bad))))
 
 attribute_within : (tag : List ℕ) (double : Bool) (a : Written) → FaultWithin (attribute_fault tag double (read_of a)) (length a.name + value_offset a.value + length (value_units a.value))
 attribute_within tag double a = fault_cond double (fault 0 DoubleAttribute) (own_fault tag (read_of a)) _ (omega arith) (own_within tag a)

@@ -48,7 +48,7 @@ pair_of a = record { name = lowered a.name; value = decoded 0 (value_units a.val
 abbrev pub is_value : List (List ℕ) → ReadAttribute → Bool
 is_value words r = is_none r.bad && is_among words (lowered r.value)
 
--- a `type` that no script may have
+-- a `type` that no script may have: a value with a reference that is none is none of those that it may
 abbrev pub type_fault : List ℕ → ReadAttribute → Option Fault
 type_fault tag r =
     if bytes_eq tag (codes "script") && bytes_eq r.name (codes "type") && not (is_value script_types r) then Some (fault 0 NotInSubset) else None
@@ -58,7 +58,7 @@ abbrev pub own_fault : List ℕ → ReadAttribute → Option Fault
 own_fault tag r =
     if bytes_eq tag (codes "script") && bytes_eq r.name (codes "src") then Some (fault 0 ExternalScript)
     else (if begins_with (codes "on") r.name then Some (fault 0 NotInSubset)
-    else option_or (option_map (λ place. fault place BadReference) r.bad) (type_fault tag r))
+    else option_or (type_fault tag r) (option_map (λ place. fault place BadReference) r.bad))
 
 -- where an attribute is refused, counted from its first unit, where an earlier one has its name or none has
 abbrev pub attribute_fault : List ℕ → Bool → ReadAttribute → Option Fault

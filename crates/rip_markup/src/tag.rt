@@ -248,24 +248,26 @@ fn own_fault(tag: &[u16], read: &ReadAttribute) -> Option<Fault>
     if begins_with_on(read.name.as_slice()) {
         return refused(PageKind::NotInSubset);
     }
+    if let Some(fault) = type_fault(tag, read) {
+        return Some(fault);
+    }
     match read.bad {
         Some(offset) => Some(Fault {
             offset,
             kind: PageKind::BadReference,
         }),
-        None => type_fault(tag, read),
+        None => None,
     }
 }
 
 /// What is wrong with the `type` of a script.
 fn type_fault(tag: &[u16], read: &ReadAttribute) -> Option<Fault>
-    requires { read.now.bad ≡ None }
     ensures value { result ≡ type_fault tag.now read.now }
     ensures bound { IfSome result (λ f. f.offset ≡ 0) }
 {
     if same(tag, b"script")
         && same(read.name.as_slice(), b"type")
-        && !is_script_type(read.value.as_slice())
+        && (read.bad.is_some() || !is_script_type(read.value.as_slice()))
     {
         refused(PageKind::NotInSubset)
     } else {

@@ -1,7 +1,9 @@
 -- How what is told in one call and in the next makes what both told.
-use Rattle.std.proofs.Common.{◌≡◌, ℕ, List, [], ◌++◌, Option, Some, None, refl, sym, ◌∙◌, ap, append_assoc, append-nil}
+use Rattle.std.proofs.Common.{◌≡◌, ℕ, List, [], ◌++◌, Option, Some, None, refl, sym, ◌∙◌, ap, append_assoc, append-nil, map}
+use Rattle.std.proofs.lemmas.List.{map-append}
 use Rattle.rip_outer.specs.Outside.{also, before, Front}
-use Rattle.rip_outer.specs.Connections.{Telling, Told, Goes}
+use Rattle.rip_outer.specs.Connections.{Telling, knocked, Goes}
+use Rattle.rip_outer.specs.declared.connections.TraceKnock.{TraceKnock}
 
 -- nothing more is told
 pub also-nil : {A : Type 0} (o : Option (List A)) → o ≡ also [] o
@@ -28,9 +30,9 @@ pub Goes-nil : (k : Telling) → Goes k k []
 Goes-nil k = record { told = also-nil k.told; left = before-nil k.left }
 
 -- a door tells xs and then ys
-pub Goes-then : {a b c : Telling} (xs ys : List Told) → Goes a b xs → Goes b c ys → Goes a c (xs ++ ys)
+pub Goes-then : {a b c : Telling} (xs ys : List TraceKnock) → Goes a b xs → Goes b c ys → Goes a c (xs ++ ys)
 Goes-then {a} {b} {c} xs ys first second = record {
-  told = second.told ∙ ap (also ys) first.told ∙ also-also xs ys a.told;
+  told = second.told ∙ ap (also (map knocked ys)) first.told ∙ also-also (map knocked xs) (map knocked ys) a.told ∙ ap (λ ks. also ks a.told) (sym (map-append knocked xs ys));
   left = first.left ∙ ap (before xs) second.left ∙ before-before xs ys c.left;
 }
 

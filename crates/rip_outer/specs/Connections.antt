@@ -1,5 +1,5 @@
 -- What a door tells of its connections.
-use Rattle.std.specs.Prelude.{◌≡◌, ◌==◌, ℕ, ◌≤◌, Bool, true, false, if◌then◌else◌, List, [], ◌∷◌, map, take, count_by, Contains, Option, Some, None}
+use Rattle.std.specs.Prelude.{◌≡◌, ◌==◌, ℕ, ◌≤◌, Bool, true, false, if◌then◌else◌, List, [], ◌∷◌, ◌++◌, length, map, take, count_by, All, Contains, Option, Some, None, option_map}
 use Rattle.rip_outer.specs.Outside.{Rose, Front, also, before}
 use Rattle.rip_outer.specs.declared.connections.TraceKnock.{TraceKnock}
 use Rattle.rip_outer.specs.declared.connections.TraceKnock.TheVariants as trace
@@ -13,22 +13,22 @@ pub data Told : Type 0 where
   knocked : TraceKnock → Told
   lost : ℕ → Told
 
--- what a door has told, and what it will tell if nothing more is shut
+-- what a door has told, and the knocks that it will tell if nothing more is shut and no send finds its connection gone
 pub record Telling : Type 0 where
   pub told : Option (List Told)
-  pub left : Option (List Told)
+  pub left : Option (List TraceKnock)
 
--- the door told ks from the old to the new
-pub record Goes (old new : Telling) (ks : List Told) : Type 0 where
-  pub told : new.told ≡ also ks old.told
+-- the door told these knocks from the old to the new
+pub record Goes (old new : Telling) (ks : List TraceKnock) : Type 0 where
+  pub told : new.told ≡ also (map knocked ks) old.told
   pub left : old.left ≡ before ks new.left
 
 -- what a knock tells, with the first bytes of the room; that it is over is told by what is left
-abbrev pub telling : Knock → List ℕ → List Told
-telling (Opened c) room = knocked (trace.Opened c) ∷ []
-telling (Bytes c n) room = knocked (trace.Bytes c (take n room)) ∷ []
-telling (Gone c) room = knocked (trace.Gone c) ∷ []
-telling Quiet room = knocked trace.Quiet ∷ []
+abbrev pub telling : Knock → List ℕ → List TraceKnock
+telling (Opened c) room = trace.Opened c ∷ []
+telling (Bytes c n) room = trace.Bytes c (take n room) ∷ []
+telling (Gone c) room = trace.Gone c ∷ []
+telling Quiet room = trace.Quiet ∷ []
 telling Closed room = []
 telling Failed room = []
 
@@ -54,27 +54,29 @@ abbrev pub is_knock : Told → Bool
 is_knock (knocked k) = true
 is_knock (lost c) = false
 
+-- c is among the connections that were shut
+abbrev pub IsShut : List (ℕ × ℕ) → ℕ → Type 0
+IsShut shuts c = Contains (map (λ s. s.0) shuts) c
+
 -- c was opened and is neither gone nor shut
 pub record IsLive (told : List Told) (shuts : List (ℕ × ℕ)) (c : ℕ) : Type 0 where
   pub opened : Contains told (knocked (trace.Opened c))
   pub not_gone : ¬ Contains told (knocked (trace.Gone c))
   pub not_lost : ¬ Contains told (lost c)
-  pub not_shut : ¬ Contains (map (λ s. s.0) shuts) c
+  pub not_shut : ¬ IsShut shuts c
 
 -- connections are numbered 0, 1, 2 in the order of their opening, and a piece or a going comes of a live one alone
-abbrev pub IsAllowedAfter : List Told → List (ℕ × ℕ) → Knock → Type 0
-IsAllowedAfter told shuts (Opened c) = c ≡ count_by is_opening told
-IsAllowedAfter told shuts (Bytes c n) = IsLive told shuts c
-IsAllowedAfter told shuts (Gone c) = IsLive told shuts c
-IsAllowedAfter told shuts Quiet = Unit {0}
-IsAllowedAfter told shuts Closed = Unit {0}
-IsAllowedAfter told shuts Failed = Unit {0}
+abbrev pub IsAllowedAfter : List Told → List (ℕ × ℕ) → TraceKnock → Type 0
+IsAllowedAfter told shuts (trace.Opened c) = c ≡ count_by is_opening told
+IsAllowedAfter told shuts (trace.Bytes c bytes) = IsLive told shuts c
+IsAllowedAfter told shuts (trace.Gone c) = IsLive told shuts c
+IsAllowedAfter told shuts trace.Quiet = Unit {0}
 
--- the same, where the door tells its knocks and shuts
-abbrev pub IsAllowed : Option (List Told) → Option (List (ℕ × ℕ)) → Knock → Type 0
-IsAllowed None shuts k = Unit {0}
-IsAllowed (Some told) None k = Unit {0}
-IsAllowed (Some told) (Some shuts) k = IsAllowedAfter told shuts k
+-- the same of what a knock tells, where the door tells its knocks and shuts
+abbrev pub AreAllowed : Option (List Told) → Option (List (ℕ × ℕ)) → List TraceKnock → Type 0
+AreAllowed None shuts ks = Unit {0}
+AreAllowed (Some told) None ks = Unit {0}
+AreAllowed (Some told) (Some shuts) ks = All (IsAllowedAfter told shuts) ks
 
 -- the busy of a knock is told unless it is Closed
 abbrev pub busy_told : Knock → Bool → List Bool
@@ -115,17 +117,23 @@ CountsSent sent.Gone old new = new ≡ old
 CountsSent sent.Failed old new = Rose old new
 CountsSent sent.Memory old new = new ≡ old
 
--- what is told in place of a knock once c is shut: a piece or a going of c is Quiet
-abbrev pub silence : ℕ → Told → Told
-silence c (knocked (trace.Opened d)) = knocked (trace.Opened d)
-silence c (knocked (trace.Bytes d bytes)) = (if d == c then knocked trace.Quiet else knocked (trace.Bytes d bytes))
-silence c (knocked (trace.Gone d)) = (if d == c then knocked trace.Quiet else knocked (trace.Gone d))
-silence c (knocked trace.Quiet) = knocked trace.Quiet
-silence c (lost d) = lost d
+-- what comes in place of a knock once c is gone or shut: a piece or a going of c is Quiet
+abbrev pub hush : ℕ → TraceKnock → TraceKnock
+hush c (trace.Opened d) = trace.Opened d
+hush c (trace.Bytes d bytes) = (if d == c then trace.Quiet else trace.Bytes d bytes)
+hush c (trace.Gone d) = (if d == c then trace.Quiet else trace.Gone d)
+hush c trace.Quiet = trace.Quiet
 
--- what is left once c is shut
-abbrev pub silenced : ℕ → List Told → List Told
-silenced c left = map (silence c) left
+-- the knocks that are left once c is gone or shut
+abbrev pub hushed : ℕ → List TraceKnock → List TraceKnock
+hushed c ks = map (hush c) ks
+
+-- what is left after a send to c: it is hushed where the send found c gone, and else is as it was
+abbrev pub left_after : Sent → ℕ → Option (List TraceKnock) → Option (List TraceKnock)
+left_after sent.Done c left = left
+left_after sent.Gone c left = option_map (hushed c) left
+left_after sent.Failed c left = left
+left_after sent.Memory c left = left
 
 -- the shuts grow by c, with the number of knocks told before, where the door tells both
 abbrev pub also_shut : ℕ → Option (List Told) → Option (List (ℕ × ℕ)) → Option (List (ℕ × ℕ))

@@ -1,13 +1,13 @@
 -- What an object of the outside tells: lists that grow, where anything is told, and a count of faults.
-use Rattle.std.specs.Prelude.{◌≡◌, ℕ, ◌+◌, ◌-◌, ◌^◌, ◌≤◌, min, List, [], ◌++◌, Option, Some, None, option_map}
+use Rattle.std.specs.Prelude.{◌≡◌, ℕ, ◌+◌, ◌-◌, ◌^◌, min, List, [], ◌++◌, Option, Some, None, option_map}
 
 -- one more, or the end of 64 bits
 abbrev pub one_more : ℕ → ℕ
 one_more n = min (n + 1) (2 ^ 64 - 1)
 
--- the count rose, or stands at its end: a count of 64 bits can't rise for ever
+-- the count rose by one, or stands at its end: a count of 64 bits can't rise for ever
 abbrev pub Rose : ℕ → ℕ → Type 0
-Rose old new = one_more old ≤ new
+Rose old new = new ≡ one_more old
 
 -- what was told grows by xs, where it is told
 abbrev pub also : {A : Type 0} → List A → Option (List A) → Option (List A)

@@ -1,4 +1,4 @@
-use rip_values::{Bytes, List};
+use rip_values::Bytes;
 
 /// What a door answers when it is asked what came from outside. Connections are numbered 0, 1, 2 in the order of
 /// `Opened`.
@@ -39,9 +39,6 @@ pub enum TraceKnock {
     Quiet,
 }
 
-/// Knocks in the order in which they come.
-pub type KnockList = List<TraceKnock>;
-
 /// A door to connections from outside.
 ///
 /// A door that tells its knocks tells a piece or a going only of a connection that was opened and is neither gone nor
@@ -49,11 +46,11 @@ pub type KnockList = List<TraceKnock>;
 pub trait Door {
     ghost use Rattle.std.specs.Prelude.{◌≡◌, ◌≢◌, ◌≤◌, ℕ, Bool, List, Option, option_map};
     ghost use Rattle.rip_outer.specs.Outside.{also, IsOver};
-    ghost use Rattle.rip_outer.specs.Connections.{Telling, Goes, telling, FitsRoom, IsAllowed, busy_told, CountsKnock};
-    ghost use Rattle.rip_outer.specs.Connections.{loses, Sends, CountsSent, silenced, also_shut};
+    ghost use Rattle.rip_outer.specs.Connections.{Telling, Goes, telling, FitsRoom, AreAllowed, busy_told, CountsKnock};
+    ghost use Rattle.rip_outer.specs.Connections.{loses, left_after, Sends, CountsSent, hushed, also_shut};
 
-    // Each where the object tells it: what the door has told, and what it will tell if nothing more is shut; the
-    // `busy` of each knock other than Closed; the bytes sent to a connection; the connections that were shut, each
+    // Each where the object tells it: what the door has told, and the knocks that it will tell if nothing more is shut
+    // and no send finds its connection gone; the `busy` of each knock other than Closed; the bytes sent to a connection; the connections that were shut, each
     // with the number of knocks told before.
     ghost knocks: { Self → Telling };
 
@@ -75,7 +72,7 @@ pub trait Door {
     /// What came from outside. It waits for the outside only where `busy` is false.
     fn next(&mut self, room: &mut [u8; 4096], busy: bool) -> Knock
         ensures fits { FitsRoom result }
-        ensures allowed { IsAllowed (knocks self.old).told (shuts self.old) result }
+        ensures allowed { AreAllowed (knocks self.old).told (shuts self.old) (telling result room.new) }
         ensures told { Goes (knocks self.old) (knocks self.new) (telling result room.new) }
         ensures over { result ≡ Knock.Closed → IsOver (knocks self.new).left }
         ensures asked { asked self.new ≡ also (busy_told result busy) (asked self.old) }
@@ -91,7 +88,8 @@ pub trait Door {
         requires { is_open self.old c }
         ensures sent { Sends result bytes.now (sent self.old c) (sent self.new c) }
         ensures others { (d : ℕ) → d ≢ c → sent self.new d ≡ sent self.old d }
-        ensures told { Goes (knocks self.old) (knocks self.new) (loses result c) }
+        ensures told { (knocks self.new).told ≡ also (loses result c) (knocks self.old).told }
+        ensures left { (knocks self.new).left ≡ left_after result c (knocks self.old).left }
         ensures asked { asked self.new ≡ asked self.old }
         ensures shuts { shuts self.new ≡ shuts self.old }
         ensures stays { (d : ℕ) → is_open self.old d → is_open self.new d }
@@ -102,7 +100,7 @@ pub trait Door {
     fn shut(&mut self, c: u64)
         requires { is_open self.old c }
         ensures told { (knocks self.new).told ≡ (knocks self.old).told }
-        ensures left { (knocks self.new).left ≡ option_map (silenced c) (knocks self.old).left }
+        ensures left { (knocks self.new).left ≡ option_map (hushed c) (knocks self.old).left }
         ensures asked { asked self.new ≡ asked self.old }
         ensures sent { (d : ℕ) → sent self.new d ≡ sent self.old d }
         ensures shuts { shuts self.new ≡ also_shut c (knocks self.old).told (shuts self.old) }

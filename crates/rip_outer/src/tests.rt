@@ -164,6 +164,22 @@ fn named(alloc: Global, name: &[u8], contents: Vec<u8>) -> Result<NamedFile, Fai
 }
 
 #[test]
+fn a_clock_and_words_in_memory(rt: HostRuntime) -> Result<(), Fail> {
+    let alloc = rt.alloc();
+    let mut clock = MemoryClock::make(alloc, &NumberList::from_slice(alloc, &[5, 7])?)?;
+    let mut random = MemoryWords::make(alloc, &NumberList::from_slice(alloc, &[9, 4])?)?;
+    for pair in [(5, 9), (7, 4), (7, 3), (7, 4)] {
+        assert_eq!(rt; draw(&mut clock, &mut random), pair);
+    }
+    let mut clock = MemoryClock::make(alloc, &NumberList::new(alloc))?;
+    let mut random = MemoryWords::make(alloc, &NumberList::new(alloc))?;
+    for pair in [(0, 1), (0, 2), (0, 3)] {
+        assert_eq!(rt; draw(&mut clock, &mut random), pair);
+    }
+    Ok(())
+}
+
+#[test]
 fn nothing_comes_from_an_outside_that_is_not_there(rt: HostRuntime) {
     let mut room = [0; 4096];
     let mut door = NoDoor;

@@ -1,4 +1,4 @@
-ghost use Rattle.std.specs.Prelude.{List};
+ghost use Rattle.std.specs.Prelude.{◌+◌, ◌<◌, ◌^◌, List, length};
 ghost use Rattle.std.specs.List.{AllByRecursion};
 ghost use Rattle.rip_outer.specs.Writing.{CountsPut};
 ghost use Rattle.rip_listed.specs.Batch.{IsBatch};
@@ -69,11 +69,13 @@ fn log_trace<S: Sink>(
     requires { AllByRecursion IsBatch batches.now }
     ensures logged { Logged result (run_history made.now batches.now) (S.held out.old) (S.held out.new) }
     ensures counted { CountsPut result (S.count out.old) (S.count out.new) }
+    ensures turns { length batches.now + 3 < 2 ^ 64 }
 {
+    let last_turn = batches.len() as u64 + FIRST_BATCH;
     let mut line = Writer::new(alloc);
     log_opening(&mut line, out)?;
     log_batches(alloc, made, batches, &mut line, out)?;
-    put_end(&mut line, out, batches.len() as u64 + FIRST_BATCH)
+    put_end(&mut line, out, last_turn)
 }
 
 /// Why a run stopped.
@@ -94,6 +96,7 @@ pub fn serve_trace<S: Sink>(alloc: Global, made: &[Bytes], batches: &[Batch], ou
     ensures course { (history : List Entry) × Course made.now batches.now history
         × Puts result history (S.held out.old) (S.held out.new) }
     ensures counted { CountsStop result (S.count out.old) (S.count out.new) }
+    ensures turns { length batches.now + 3 < 2 ^ 64 }
 {
     match log_trace(alloc, made, batches, out) {
         Ok(()) => Stop::Idle,

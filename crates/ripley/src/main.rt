@@ -1,13 +1,9 @@
 //! The program `ripley`: the words of the command line, real files and standard output, handed to the top call.
 #![tactic(auto)]
 
-mod files;
-mod sink;
-
-use files::HostFiles;
 use rip_cli::{Status, ripley};
 use rip_outer::{NoClock, NoDoor, NoWords};
-use sink::HostSink;
+use rip_real::{HostFiles, HostSink};
 use std::alloc::Global;
 use std::process::ExitCode;
 use std::rt::Env;

@@ -1,12 +1,8 @@
 //! The program `script`: the words of the command line, real files and standard output, handed to the top call.
 #![tactic(auto)]
 
-mod files;
-mod sink;
-
-use files::HostFiles;
+use rip_real::{HostFiles, HostSink};
 use rip_script::{Status, script};
-use sink::HostSink;
 use std::alloc::Global;
 use std::process::ExitCode;
 use std::rt::Env;

@@ -1,6 +1,7 @@
 use Rattle.std.proofs.Common.{Err, ap, inr}
 use Rattle.rip_log.specs.History.{history_text}
-use Rattle.rip_cli.proofs.SettleLemmas.{all_batches, log_of, replay_settles, trace_refused}
+use Rattle.rip_cli.specs.Steps.{AcceptsCalls, AcceptsTrace}
+use Rattle.rip_cli.proofs.SettleLemmas.{all_batches, log_in_range, replay_settles, trace_refused}
 use Rattle.rip_cli.proofs.top.settle_replay.Goals as goal
 
 pub returns-in-Err-clause-settles : goal.returns-in-Err-clause-settles
@@ -16,7 +17,26 @@ pub serve_trace-requires : goal.serve_trace-requires
 serve_trace-requires g c =
     rw c.as_slice.ensures (all_batches c.in-Ok-load_trace.trace.batches c.in-Ok-load_trace.ensures.ok.reported.in_range)
 
+pub returns-in-Idle-clause-settles : goal.returns-in-Idle-clause-settles
+returns-in-Idle-clause-settles g c =
+    let run = c.in-Idle.ensures.course in
+    let calls : AcceptsCalls c.args.input.now c.made.result.now = rw c.made.ensures c.in-Ok.ensures.ok in
+    let trace : AcceptsTrace c.args.input.now c.as_slice.result.now = rw c.as_slice.ensures c.in-Ok-load_trace.ensures.ok in
+    let log = log_in_range c.courses_are_in_range.ensures c.args.input.now c.made.result.now c.as_slice.result.now run.0 calls trace c.in-Idle.ensures.turns run.1 in
+    (history_text run.0, log, run.2)
+
+pub returns-in-Outside-clause-settles : goal.returns-in-Outside-clause-settles
+returns-in-Outside-clause-settles g c =
+    let run = c.in-Outside.ensures.course in
+    let calls : AcceptsCalls c.args.input.now c.made.result.now = rw c.made.ensures c.in-Ok.ensures.ok in
+    let trace : AcceptsTrace c.args.input.now c.as_slice.result.now = rw c.as_slice.ensures c.in-Ok-load_trace.ensures.ok in
+    let log = log_in_range c.courses_are_in_range.ensures c.args.input.now c.made.result.now c.as_slice.result.now run.0 calls trace c.in-Outside.ensures.turns run.1 in
+    (history_text run.0, inr log, run.2)
+
 pub returns-clause-settles : goal.returns-clause-settles
 returns-clause-settles g c =
     let run = c.in-Memory.ensures.course in
-    inr (history_text run.0, inr (log_of c.args.input.now c.made.result.now c.as_slice.result.now run.0 (rw c.made.ensures c.in-Ok.ensures.ok) (rw c.as_slice.ensures c.in-Ok-load_trace.ensures.ok) run.1), run.2)
+    let calls : AcceptsCalls c.args.input.now c.made.result.now = rw c.made.ensures c.in-Ok.ensures.ok in
+    let trace : AcceptsTrace c.args.input.now c.as_slice.result.now = rw c.as_slice.ensures c.in-Ok-load_trace.ensures.ok in
+    let log = log_in_range c.courses_are_in_range.ensures c.args.input.now c.made.result.now c.as_slice.result.now run.0 calls trace c.in-Memory.ensures.turns run.1 in
+    inr (history_text run.0, inr log, run.2)

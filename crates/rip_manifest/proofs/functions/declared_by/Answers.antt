@@ -2,7 +2,7 @@ use Rattle.std.proofs.Common.{◌≡◌, List, [], ◌∷◌, ◌++◌, sym, ap,
 use Rattle.std.proofs.lemmas.Result.{err_from_is_err_and}
 use Rattle.serde_json.specs.View.{view, members_view}
 use Rattle.serde_json.proofs.Views.{Entry}
-use Rattle.rip_functions.specs.declared.function.Function.{Function}
+use Rattle.rip_manifest.specs.declared.function.Function.{Function}
 use Rattle.rip_manifest.specs.Functions.{Declares, DeclareAll}
 use Rattle.rip_manifest.proofs.AnswerLemmas.{IsKindFrom-cause}
 use Rattle.rip_manifest.proofs.FunctionLemmas.{DeclareAll-push, Declares-among}

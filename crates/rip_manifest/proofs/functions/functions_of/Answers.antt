@@ -2,7 +2,7 @@ use Rattle.std.proofs.Common.{◌≡◌, ◌≤◌, refl, arith, length, Ok, Err
 use Rattle.serde_json.specs.Events.{members_len}
 use Rattle.serde_json.specs.View.{view, members_view}
 use Rattle.serde_json.proofs.Views.{members_len-members_view}
-use Rattle.rip_functions.specs.declared.function.Function.{Function}
+use Rattle.rip_manifest.specs.declared.function.Function.{Function}
 use Rattle.rip_manifest.specs.Functions.{DeclareAll, AreFunctions}
 use Rattle.rip_manifest.specs.declared.refusal.ManifestRefusal.{ManifestRefusal}
 use Rattle.rip_manifest.proofs.JsonLemmas.{as_object-some, members_len-object}

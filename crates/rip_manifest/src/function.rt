@@ -1,17 +1,5 @@
 use rip_values::{List, Units};
 
-/// The most functions that an application may have.
-pub const MOST_FUNCTIONS: usize = 256;
-
-/// The most characters of a prefix.
-pub const LONGEST_PREFIX: usize = 64;
-
-/// The most bytes of a key in UTF-8.
-pub const LONGEST_KEY: usize = 64;
-
-/// The most places that a store holds.
-pub const MOST_KEYS: usize = 4_096;
-
 /// What a function does with the data under its prefix.
 #[derive(Clone, Copy, Debug, PartialEq, Eq)]
 pub enum Operation {

@@ -1,6 +1,6 @@
 use Rattle.std.proofs.Common.{◌≤◌, vec_len}
 use Rattle.rip_outer.specs.declared.reading.TheConstants.{MAX_FILE}
-use Rattle.script.proofs.files.read_file.Given as goal
+use Rattle.rip_real.proofs.files.read_file.Given as goal
 
 -- no more is read than a file may have
 abbrev pub invariant-reads : goal.invariant-reads
