@@ -38,7 +38,7 @@ pub enum TextFunction {
 }
 
 /// What a built-in function answers where it is called on `this` with these arguments (ECMA-262 15). An answer other
-/// than a value leaves the heap as it was; of the heap at want of memory nothing is said. What is no function of
+/// than a value leaves the heap as it was. What is no function of
 /// this table is outside the profile here: the objects among the built-ins, and the functions of `ripley`, the
 /// document, nodes and events, which others answer.
 pub fn builtin(

@@ -3,7 +3,7 @@
 //! [`builtin`] answers a call of one of them on a value with some arguments. Contracts see an outcome over worlds: a
 //! value with the world after it, a TypeError to be thrown, a fault of the profile, or a limit that would be passed.
 //! Each answer comes exactly where the outcome is that one (`Outcome.AnswersOrLacks` of the heap's crate); where it is
-//! no value the heap is as before, what was charged on the way included. Of the heap at want of memory nothing is said.
+//! no value the heap is as before, what was charged on the way included, and so it is at want of memory.
 //!
 //! Arguments that are absent are undefined. They are converted in the order of the standard, and the receiver of a
 //! function of arrays or texts is judged before them. Numbers are whole numbers of at most 2^53 - 1, or NaN. Texts are
@@ -26,8 +26,8 @@
 //! What is no function of this table is outside the profile here: the objects `Math` and `ripley`, `call` of script
 //! functions, and the functions of `ripley`, the document, nodes and events, which layers above answer.
 //!
-//! A layer above may rest on this: each call is total, a number that is no object of the heap included, and takes time
-//! linear in the arguments, the array and the texts that it reads.
+//! A layer above may rest on this: each call is total, a number that is no object of the heap included, and an
+//! answer other than a value changes nothing.
 #![tactic(auto)]
 
 mod arguments;

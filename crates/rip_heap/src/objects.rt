@@ -25,7 +25,8 @@ impl Heap {
         self.add_object(StoredObject::bare(alloc, Class::Plain, proto))
     }
 
-    /// A new object of that class, which has no prototype: an error, a thrown code or an event.
+    /// A new object of that class, which has no prototype: an error, a thrown code or an event. As a function it has
+    /// no code, and as an array no elements.
     pub fn new_of(&mut self, alloc: Global, class: Class) -> Result<u32, Refused>
         ensures made { Makes Limit.Cells (new_of self.old class) self.old result self.new }
         ensures stands { IfOk result (IsObject self.new) }

@@ -233,7 +233,7 @@ fn errors_are_made_in_one_step(rt: HostRuntime) -> Result<(), Fail> {
     let second = heap.new_error(alloc, Class::RangeError, number(-10));
     assert_eq!(rt; second, OpDone::Value(Value::Object(129)));
     let Some(Value::Text(message)) = heap.own(129, FixedText::Message.span()) else {
-        return Err(Fail);
+        return Err(Fail::new("no message"));
     };
     assert_eq!(rt; heap.pool().get(message), [0x2D, 0x31, 0x30].as_slice());
     assert_eq!(rt;

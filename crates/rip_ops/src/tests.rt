@@ -231,6 +231,7 @@ fn rows_of_whole_numbers(rt: HostRuntime) -> Result<(), Fail> {
 fn joining_judges_the_numeral_then_the_length_then_the_text(rt: HostRuntime) -> Result<(), Fail> {
     let alloc = rt.alloc();
     let rows = [
+        (3, 3, "long", 0),
         (3, 100, "limit", 0),
         (3, 7, "limit", 0),
         (4, 7, "long", 0),

@@ -258,6 +258,8 @@ fn texts_of_a_pool(rt: HostRuntime) -> Result<(), Fail> {
         count: 100,
     };
     assert_eq!(rt; pool.get(past), [7, 8].as_slice());
+    assert_eq!(rt; (pool.free(), pool.held(two)), (0, two));
+    assert_eq!(rt; pool.get(pool.held(past)), [7, 8].as_slice());
 
     let mut pool = Pool::make(rt.alloc(), 7, 65_535)?;
     let ab = pool.add(rt.alloc(), &[1, 2])?;

@@ -222,7 +222,7 @@ pub static ROWS: [(Builtin, Item, &'static [Item], &'static str); 84] = [
 
 /// Calls on `[12, 34]` within limits of cells, units and the length of a text: the argument, the limits, the answer, and
 /// the cells that are charged after it.
-pub static REFUSED: [(Builtin, &'static [Item], HeapLimits, &'static str, u32); 9] = [
+pub static REFUSED: [(Builtin, &'static [Item], HeapLimits, &'static str, u32); 16] = [
     (
         Builtin::ArrayJoin,
         &[],
@@ -317,9 +317,86 @@ pub static REFUSED: [(Builtin, &'static [Item], HeapLimits, &'static str, u32); 
         HeapLimits {
             cells: 5,
             units: 2,
-            text: 1,
+            text: 2,
         },
         "['56']",
         5,
+    ),
+    (
+        Builtin::Error,
+        &[Number(56)],
+        HeapLimits {
+            cells: 3,
+            units: 1,
+            text: 1,
+        },
+        "long",
+        3,
+    ),
+    (
+        Builtin::String,
+        &[Number(12)],
+        HeapLimits {
+            cells: 3,
+            units: 9,
+            text: 1,
+        },
+        "long",
+        3,
+    ),
+    (
+        Builtin::String,
+        &[Number(12)],
+        HeapLimits {
+            cells: 3,
+            units: 9,
+            text: 2,
+        },
+        "'12'",
+        3,
+    ),
+    (
+        Builtin::ParseInt,
+        &[Number(12)],
+        HeapLimits {
+            cells: 3,
+            units: 9,
+            text: 1,
+        },
+        "long",
+        3,
+    ),
+    (
+        Builtin::HasOwnProperty,
+        &[Number(-1)],
+        HeapLimits {
+            cells: 3,
+            units: 0,
+            text: 1,
+        },
+        "long",
+        3,
+    ),
+    (
+        Builtin::ArrayJoin,
+        &[],
+        HeapLimits {
+            cells: 3,
+            units: 0,
+            text: 1,
+        },
+        "long",
+        3,
+    ),
+    (
+        Builtin::ArrayPush,
+        &[Null, Null],
+        HeapLimits {
+            cells: 4,
+            units: 9,
+            text: 9,
+        },
+        "Cells",
+        3,
     ),
 ];
