@@ -6,3 +6,4 @@ pub mod Row
 pub mod Run
 pub mod Settle
 pub mod Stack
+pub mod Started

@@ -1,4 +1,4 @@
-ghost use Rattle.std.specs.Prelude.{◌≡◌, ◌↔◌, ◌<◌, ◌-◌, ◌∷◌, ◌++◌, [], length, take, max, IsOk, IfOk, IfErr, OnOk, OnErr, MatchOption};
+ghost use Rattle.std.specs.Prelude.{◌≡◌, ◌↔◌, ◌<◌, ◌≤◌, ◌-◌, ◌∷◌, ◌++◌, [], length, take, max, IsOk, IfOk, IfErr, OnOk, OnErr, MatchOption};
 ghost use Rattle.rip_frames.specs.Stack.{Frames, empty_frames, framed, without_last, last_values, count_of_values};
 
 use crate::frame::Frame;
@@ -61,9 +61,10 @@ impl Stack {
         Ok(())
     }
 
-    /// How many frames are open.
+    /// How many frames are open, at most as many as have room.
     pub fn depth(&self) -> u32
-        ensures { result ≡ length self.now.frames }
+        ensures count { result ≡ length self.now.frames }
+        ensures within { result ≤ self.now.most }
     {
         self.entries.len() as u32
     }
@@ -89,19 +90,16 @@ impl Stack {
     }
 
     /// Puts a frame with no values behind the others. A stack that is full stays as it is.
-    pub fn push(&mut self, frame: &Frame) -> Result<(), Limit>
+    pub fn push(&mut self, frame: Frame) -> Result<(), Limit>
         ensures room { IsOk result ↔ (length self.old.frames < self.old.most) }
         ensures depth { IfErr result (λ limit. limit ≡ Limit.Depth) }
-        ensures pushed { OnOk result (self.new ≡ record self.old { frames = self.old.frames ++ framed frame.now [] ∷ [] }) }
+        ensures pushed { OnOk result (self.new ≡ record self.old { frames = self.old.frames ++ framed frame [] ∷ [] }) }
         ensures kept { OnErr result (self.new ≡ self.old) }
     {
         if self.entries.len() >= self.most as usize {
             return Err(Limit::Depth);
         }
-        self.entries.push_reserved(Entry {
-            frame: *frame,
-            values: 0,
-        });
+        self.entries.push_reserved(Entry { frame, values: 0 });
         Ok(())
     }
 
@@ -128,7 +126,8 @@ impl Stack {
 
     /// Puts a frame with no values in place of the innermost one and its values. Where there is none, nothing is done.
     pub fn replace(&mut self, frame: &Frame)
-        ensures { 0 < length self.old.frames → self.new ≡ record self.old { frames = without_last self.old.frames ++ framed frame.now [] ∷ [] } }
+        ensures replaced { 0 < length self.old.frames → self.new ≡ record self.old { frames = without_last self.old.frames ++ framed frame.now [] ∷ [] } }
+        ensures none { self.old.frames ≡ [] → self.new ≡ self.old }
     {
         if let Some(last) = self.entries.last_mut() {
             let values = self.values.len() - last.values as usize;

@@ -24,9 +24,9 @@ fn inner() -> Frame {
 fn frames_are_taken_in_turn(rt: HostRuntime) -> Result<(), Fail> {
     let mut stack = Stack::make(rt.alloc(), 2)?;
     assert_eq!(rt; stack.top(), None);
-    assert_eq!(rt; stack.push(&outer()), Ok(()));
-    assert_eq!(rt; stack.push(&inner()), Ok(()));
-    assert_eq!(rt; stack.push(&outer()), Err(Limit::Depth));
+    assert_eq!(rt; stack.push(outer()), Ok(()));
+    assert_eq!(rt; stack.push(inner()), Ok(()));
+    assert_eq!(rt; stack.push(outer()), Err(Limit::Depth));
     assert_eq!(rt; (stack.depth(), stack.top()), (2, Some(&inner())));
     assert_eq!(rt; stack.pop(), Some(inner()));
     assert_eq!(rt; stack.pop(), Some(outer()));
@@ -39,9 +39,9 @@ fn values_go_with_their_frame(rt: HostRuntime) -> Result<(), Fail> {
     let alloc = rt.alloc();
     let mut stack = Stack::make(alloc, 4)?;
     stack.reserve(2)?;
-    assert_eq!(rt; stack.push(&outer()), Ok(()));
+    assert_eq!(rt; stack.push(outer()), Ok(()));
     assert!(rt; stack.keep(&outer(), &Value::Null).is_ok());
-    assert_eq!(rt; stack.push(&inner()), Ok(()));
+    assert_eq!(rt; stack.push(inner()), Ok(()));
     assert!(rt; stack.keep(&inner(), &Value::NaN).is_ok());
     assert!(rt; stack.keep(&inner(), &Value::NaN).is_err());
     assert_eq!(rt; stack.values(), [Value::NaN].as_slice());

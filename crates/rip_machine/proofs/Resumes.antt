@@ -17,7 +17,7 @@ use Rattle.rip_frames.specs.Row.{Row, Table}
 use Rattle.rip_frames.specs.Run.{Answer, Completes, Stops, Cuts, Calling, run}
 use Rattle.rip_frames.specs.Stack.{Open}
 use Rattle.rip_frames.proofs.Laws.{rest-next, rest-gives, unwind-stops, unwind-cuts}
-use Rattle.rip_machine.specs.Law.{Begins, Ends, Standing, Stands, StandsAt, Resumes, end_of, left, open_depth, turned_of}
+use Rattle.rip_machine.specs.Law.{Begins, Ends, Standing, Stands, StandsAt, Resumes, end_of, further, left, open_depth, turned_of}
 use Rattle.rip_machine.specs.declared.outcome.Outcome.{Outcome}
 use Rattle.rip_machine.specs.declared.outcome.Outcome.TheVariants.{Value as Gives, Thrown as ThrownValue, Fault, Limit}
 
@@ -57,25 +57,26 @@ unfolding rest
 rest_of_cut h t part frames w s = unwind-cuts h t frames part.room w s
 
 -- a run that is at its end
-ended : {S : Type 0} (h : Calling S) (t : Table) (m n : Standing) (w x : World) (s r : S) (k u : ℕ) (answer : Answer S) (outcome : Outcome) (there : ℕ)
-    → left h t m w s k ≡ answer → end_of m.depth answer ≡ Some (outcome, there, u, x, r) → open_depth n ≡ there → n.spent + u ≡ m.spent + min k m.fuel → Ends h t m w s k n x r outcome
-ended h t m n w x s r k u answer outcome there e f d p = (u, ap (end_of m.depth) e ∙ f ∙ ap (λ o. Some (outcome, o, u, x, r)) (sym d), p)
+ended : {S : Type 0} (h : Calling S) (t : Table) (m n : Standing) (w x : World) (s r : S) (k u : ℕ) (answer : ℕ → Answer S) (outcome : Outcome) (there : ℕ)
+    → ((j : ℕ) → left h t m w s (k + j) ≡ answer j) → ((j : ℕ) → end_of m.depth (answer j) ≡ Some (outcome, there, u + further m.fuel k j, x, r)) → open_depth n ≡ there → n.spent + u ≡ m.spent + min k m.fuel → Ends h t m w s k n x r outcome
+ended h t m n w x s r k u answer outcome there e f d p =
+    (u, λ j. ap (end_of m.depth) (e j) ∙ f j ∙ ap (λ o. Some (outcome, o, u + further m.fuel k j, x, r)) (sym d), p)
 
 -- a run that has completed
 ends_give : {S : Type 0} (h : Calling S) (t : Table) (m n : Standing) (w x : World) (s r : S) (k u : ℕ) (c : Completion)
-    → left h t m w s k ≡ Completes c u x r → open_depth n ≡ 0 → n.spent + u ≡ m.spent + min k m.fuel → Resumes h t m w s k n x r (turned_of (Give c) true)
-ends_give h t m n w x s r k u (Normal v) e d p = ended h t m n w x s r k u (Completes (Normal v) u x r) (Gives v) 0 e refl d p
-ends_give h t m n w x s r k u (Thrown v) e d p = ended h t m n w x s r k u (Completes (Thrown v) u x r) (ThrownValue v) 0 e refl d p
-ends_give h t m n w x s r k u (Returned v) e d p = ended h t m n w x s r k u (Completes (Returned v) u x r) (Gives v) 0 e refl d p
-ends_give h t m n w x s r k u Broken e d p = ended h t m n w x s r k u (Completes Broken u x r) (Gives Undefined) 0 e refl d p
-ends_give h t m n w x s r k u Continued e d p = ended h t m n w x s r k u (Completes Continued u x r) (Gives Undefined) 0 e refl d p
-ends_give h t m n w x s r k u (Referred target) e d p = ended h t m n w x s r k u (Completes (Referred target) u x r) (Gives Undefined) 0 e refl d p
-ends_give h t m n w x s r k u (Method f this) e d p = ended h t m n w x s r k u (Completes (Method f this) u x r) (Gives Undefined) 0 e refl d p
+    → ((j : ℕ) → left h t m w s (k + j) ≡ Completes c (u + further m.fuel k j) x r) → open_depth n ≡ 0 → n.spent + u ≡ m.spent + min k m.fuel → Resumes h t m w s k n x r (turned_of (Give c) true)
+ends_give h t m n w x s r k u (Normal v) e d p = ended h t m n w x s r k u (λ j. Completes (Normal v) (u + further m.fuel k j) x r) (Gives v) 0 e (λ j. refl) d p
+ends_give h t m n w x s r k u (Thrown v) e d p = ended h t m n w x s r k u (λ j. Completes (Thrown v) (u + further m.fuel k j) x r) (ThrownValue v) 0 e (λ j. refl) d p
+ends_give h t m n w x s r k u (Returned v) e d p = ended h t m n w x s r k u (λ j. Completes (Returned v) (u + further m.fuel k j) x r) (Gives v) 0 e (λ j. refl) d p
+ends_give h t m n w x s r k u Broken e d p = ended h t m n w x s r k u (λ j. Completes Broken (u + further m.fuel k j) x r) (Gives Undefined) 0 e (λ j. refl) d p
+ends_give h t m n w x s r k u Continued e d p = ended h t m n w x s r k u (λ j. Completes Continued (u + further m.fuel k j) x r) (Gives Undefined) 0 e (λ j. refl) d p
+ends_give h t m n w x s r k u (Referred target) e d p = ended h t m n w x s r k u (λ j. Completes (Referred target) (u + further m.fuel k j) x r) (Gives Undefined) 0 e (λ j. refl) d p
+ends_give h t m n w x s r k u (Method f this) e d p = ended h t m n w x s r k u (λ j. Completes (Method f this) (u + further m.fuel k j) x r) (Gives Undefined) 0 e (λ j. refl) d p
 
 ends_halt : {S : Type 0} (h : Calling S) (t : Table) (m n : Standing) (w x : World) (s r : S) (k u room : ℕ) (stop : Stop)
-    → left h t m w s k ≡ Stops stop room u x r → open_depth n ≡ m.depth - room → n.spent + u ≡ m.spent + min k m.fuel → Resumes h t m w s k n x r (turned_of (Halted stop room) true)
-ends_halt h t m n w x s r k u room (AtFault fault) e d p = ended h t m n w x s r k u (Stops (AtFault fault) room u x r) (Fault fault) (m.depth - room) e refl d p
-ends_halt h t m n w x s r k u room (AtLimit limit) e d p = ended h t m n w x s r k u (Stops (AtLimit limit) room u x r) (Limit limit) (m.depth - room) e refl d p
+    → ((j : ℕ) → left h t m w s (k + j) ≡ Stops stop room (u + further m.fuel k j) x r) → open_depth n ≡ m.depth - room → n.spent + u ≡ m.spent + min k m.fuel → Resumes h t m w s k n x r (turned_of (Halted stop room) true)
+ends_halt h t m n w x s r k u room (AtFault fault) e d p = ended h t m n w x s r k u (λ j. Stops (AtFault fault) room (u + further m.fuel k j) x r) (Fault fault) (m.depth - room) e (λ j. refl) d p
+ends_halt h t m n w x s r k u room (AtLimit limit) e d p = ended h t m n w x s r k u (λ j. Stops (AtLimit limit) room (u + further m.fuel k j) x r) (Limit limit) (m.depth - room) e (λ j. refl) d p
 
 -- what is left after a cut is what was left, later
 resumes_later : {S : Type 0} (h : Calling S) (t : Table) (m n : Standing) (w x : World) (s r : S) (k u j : ℕ) (c : Control)
@@ -105,19 +106,20 @@ pub resumes : {S : Type 0} (h : Calling S) (t : Table) (m n : Standing) (w x : W
     → Stands c n.frames u → u ≤ min k m.fuel → n.control ≡ c → n.fuel ≡ m.fuel - (min k m.fuel - u) → n.spent ≡ m.spent + (min k m.fuel - u) → n.depth ≡ m.depth → nat_lt k m.fuel ≡ more
     → Resumes h t m w s k n x r (turned_of c more)
 resumes h t m n w x s r k u (Give c) more e stands within control fuel spent depth lt =
-    let a : rest h t m.control m.frames (min m.fuel k) w s ≡ Completes c u x r =
-    ap (λ j. rest h t m.control m.frames j w s) (omega arith) ∙ sym (e 0) ∙ ap (λ j. rest h t (Give c) n.frames j x r) (omega arith) ∙ rest_of_give h t c n.frames u x r stands in
-    ends_give h t m n w x s r k u c (ap (conclude (nat_le m.fuel k)) a ∙ conclude_completes (nat_le m.fuel k) c u x r) (none_open n c control stands) (omega arith)
+    let a : (j : ℕ) → rest h t m.control m.frames (min m.fuel (k + j)) w s ≡ Completes c (u + further m.fuel k j) x r =
+    λ j. ap (λ i. rest h t m.control m.frames i w s) (omega arith) ∙ sym (e (further m.fuel k j)) ∙ rest_of_give h t c n.frames (u + further m.fuel k j) x r stands in
+    ends_give h t m n w x s r k u c (λ j. ap (conclude (nat_le m.fuel (k + j))) (a j) ∙ conclude_completes (nat_le m.fuel (k + j)) c (u + further m.fuel k j) x r) (none_open n c control stands) (omega arith)
 resumes h t m n w x s r k u (Halted stop room) more e stands within control fuel spent depth lt =
-    let a : rest h t m.control m.frames (min m.fuel k) w s ≡ Stops stop room u x r =
-    ap (λ j. rest h t m.control m.frames j w s) (omega arith) ∙ sym (e 0) ∙ ap (λ j. rest h t (Halted stop room) n.frames j x r) (omega arith) ∙ rest_of_halt h t stop room n.frames u x r in
-    ends_halt h t m n w x s r k u room stop (ap (conclude (nat_le m.fuel k)) a ∙ conclude_stops (nat_le m.fuel k) stop room u x r) (open_there m n (Halted stop room) room refl control depth) (omega arith)
+    let a : (j : ℕ) → rest h t m.control m.frames (min m.fuel (k + j)) w s ≡ Stops stop room (u + further m.fuel k j) x r =
+    λ j. ap (λ i. rest h t m.control m.frames i w s) (omega arith) ∙ sym (e (further m.fuel k j)) ∙ rest_of_halt h t stop room n.frames (u + further m.fuel k j) x r in
+    ends_halt h t m n w x s r k u room stop (λ j. ap (conclude (nat_le m.fuel (k + j))) (a j) ∙ conclude_stops (nat_le m.fuel (k + j)) stop room (u + further m.fuel k j) x r) (open_there m n (Halted stop room) room refl control depth) (omega arith)
 resumes h t m n w x s r k u (Enter part) false e stands within control fuel spent depth lt =
     let le : m.fuel ≤ k = ltb-false k m.fuel lt in
-    let a : rest h t m.control m.frames (min m.fuel k) w s ≡ Cuts part.room x r =
-    ap (λ j. rest h t m.control m.frames j w s) (omega arith) ∙ sym (e 0) ∙ ap (λ j. rest h t (Enter part) n.frames j x r) (omega arith) ∙ rest_of_cut h t part n.frames x r in
-    let b : left h t m w s k ≡ Stops (AtLimit Fuel) part.room 0 x r = ap (λ b. conclude b (rest h t m.control m.frames (min m.fuel k) w s)) (le-leb m.fuel k le) ∙ ap (conclude true) a in
-    ended h t m n w x s r k 0 (Stops (AtLimit Fuel) part.room 0 x r) (Limit Fuel) (m.depth - part.room) b refl (open_there m n (Enter part) part.room refl control depth) (omega arith)
+    let a : (j : ℕ) → rest h t m.control m.frames (min m.fuel (k + j)) w s ≡ Cuts part.room x r =
+    λ j. ap (λ i. rest h t m.control m.frames i w s) (omega arith) ∙ sym (e 0) ∙ ap (λ i. rest h t (Enter part) n.frames i x r) (omega arith) ∙ rest_of_cut h t part n.frames x r in
+    let b : (j : ℕ) → left h t m w s (k + j) ≡ Stops (AtLimit Fuel) part.room (0 + further m.fuel k j) x r =
+    λ j. ap (λ b. conclude b (rest h t m.control m.frames (min m.fuel (k + j)) w s)) (le-leb m.fuel (k + j) (omega arith)) ∙ ap (conclude true) (a j) ∙ ap (λ i. Stops (AtLimit Fuel) part.room i x r) (omega arith) in
+    ended h t m n w x s r k 0 (λ j. Stops (AtLimit Fuel) part.room (0 + further m.fuel k j) x r) (Limit Fuel) (m.depth - part.room) b (λ j. refl) (open_there m n (Enter part) part.room refl control depth) (omega arith)
 resumes h t m n w x s r k u (Enter part) true e stands within control fuel spent depth lt =
     let less : k < m.fuel = ltb-true k m.fuel lt in
     let a : rest h t m.control m.frames (min m.fuel k) w s ≡ Cuts part.room x r =

@@ -1,5 +1,5 @@
 -- What one step leaves of a run.
-use Rattle.std.proofs.Common.{◌≡◌, ℕ, ◌+◌, ◌-◌, List, [], ◌∷◌, ◌++◌, Result, Ok, Err, IfOk, OnOk, ap, sym, ◌∙◌, add-one}
+use Rattle.std.proofs.Common.{◌≡◌, ℕ, ◌+◌, ◌-◌, List, [], ◌∷◌, ◌++◌, Result, Ok, Err, IfOk, OnOk, OnErr, ap, sym, ◌∙◌, add-one}
 use Rattle.rip_values.specs.declared.value.Value.{Value}
 use Rattle.rip_heap.specs.World.{World}
 use Rattle.rip_frames.specs.declared.completion.Completion.{Completion}
@@ -21,6 +21,16 @@ use Rattle.rip_machine.specs.Nesting.{Nests}
 pub ok_both : {T E : Type 0} (r : Result T E) (P Q F : Type 0) → OnOk r P → OnOk r Q → (P → Q → F) → OnOk r F
 ok_both (Ok x) P Q F p q go = go p q
 ok_both (Err e) P Q F p q go = tt
+
+-- what two facts of an answer give, or what it leaves where it is none
+pub ok_or_kept : {T E : Type 0} (r : Result T E) (P Q K F : Type 0) → OnOk r P → OnOk r Q → OnErr r K → (P → Q → F) → (K → F) → F
+ok_or_kept (Ok x) P Q K F p q k go kept = go p q
+ok_or_kept (Err e) P Q K F p q k go kept = kept k
+
+-- what holds in any case
+pub on_ok : {T E : Type 0} {F : Type 0} (r : Result T E) → F → OnOk r F
+on_ok (Ok x) f = f
+on_ok (Err e) f = tt
 
 -- what holds of a value with each y holds of it with this one
 pub ok_at : {T E A : Type 0} (r : Result T E) (P : T → A → Type 0) (y : A) → IfOk r (λ x. (z : A) → P x z) → IfOk r (λ x. P x y)

@@ -111,10 +111,17 @@ end_of depth (Completes c u w s) = Some (outcome_of c, 0, u, w, s)
 end_of depth (Stops stop room u w s) = Some (stop_outcome stop, depth - room, u, w, s)
 end_of depth (Cuts room w s) = None
 
+-- of k units more than n, how many the fuel reaches
+abbrev pub further : ℕ → ℕ → ℕ → ℕ
+further fuel n k = min (n + k) fuel - min n fuel
+
 -- the run ends within n units with this outcome and with so much open as the machine says, and the units that it did not
--- need were not counted
+-- need were not counted; with k units more it ends alike, and needs none of them
 abbrev pub Ends : {S : Type 0} → Calling S → Table → Standing → World → S → ℕ → Standing → World → S → Outcome → Type 0
-Ends h t m w s n m' w' s' outcome = (u : ℕ) × (end_of m.depth (left h t m w s n) ≡ Some (outcome, open_depth m', u, w', s')) × (m'.spent + u ≡ m.spent + min n m.fuel)
+Ends h t m w s n m' w' s' outcome =
+    (u : ℕ)
+    × ((k : ℕ) → end_of m.depth (left h t m w s (n + k)) ≡ Some (outcome, open_depth m', u + further m.fuel n k, w', s'))
+    × (m'.spent + u ≡ m.spent + min n m.fuel)
 
 -- what a machine, a world and a host are after n units: after More they are those of the run cut after exactly these
 -- units, with so much of the depth open, and what is left is what was left, later; after Done they are those of its end.
@@ -151,6 +158,6 @@ Begins t row fuel w m = StandsAt t row m.depth w m.control m.frames × (m.fuel �
 -- what `start` leaves, where it comes to this: the machine at the beginning of the row, in the world after what the start
 -- charged and bound; or all as it was, exactly where a limit would be passed. Of want of memory nothing is said
 abbrev pub Starts : Table → Beginning → ℕ → World → World → Standing → Standing → Result (Unit {0}) Refused → Type 0
-Starts t beginning fuel w x m n (Ok done) = (row : Row) × (beginning ≡ Runs row) × Begins t row fuel x n
+Starts t beginning fuel w x m n (Ok done) = (row : Row) × (beginning ≡ Runs row x) × Begins t row fuel x n
 Starts t beginning fuel w x m n (Err (At limit)) = (beginning ≡ Exceeds limit) × (x ≡ w) × (n ≡ m)
 Starts t beginning fuel w x m n (Err NoRoom) = Unit {0}

@@ -4,6 +4,8 @@ pub mod Loading
 pub mod Nesting
 pub mod Reading
 pub mod Rows
+pub mod Run
 pub mod Starting
 pub mod Table
+pub mod Turns
 pub mod Worked

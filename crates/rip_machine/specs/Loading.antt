@@ -103,13 +103,13 @@ values_needed code depth w = max (depth * longest_call code.grove.branches) w.li
 -- LOADING
 
 -- what `load` leaves: the world and the spans of the loaded program; or all as it was, exactly where its literals would
--- pass the limit of units. Of want of memory nothing is said
+-- pass the limit of units. Where memory is wanting the machine has at most more room for values
 abbrev pub Loads : Code → World → Standing → Result (Unit {0}) Refused → World → Standing → Type 0
 Loads code w m (Ok done) x n =
     (w.pool.used + cost_of_literals code ≤ w.pool.limit) × (x ≡ world_loaded code w)
     × (n ≡ record m { literals = spans_loaded code w; value_room = max m.value_room (values_needed code m.depth w) })
 Loads code w m (Err (At limit)) x n = (limit ≡ Units) × (w.pool.limit < w.pool.used + cost_of_literals code) × (x ≡ w) × (n ≡ m)
-Loads code w m (Err NoRoom) x n = Unit {0}
+Loads code w m (Err NoRoom) x n = n ≡ record m { value_room = n.value_room }
 
 -- the span of each node that is or names a text stands for that text
 abbrev pub TextsStand : Loaded → World → Type 0

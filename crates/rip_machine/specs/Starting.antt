@@ -12,6 +12,8 @@ use Rattle.rip_frames.specs.declared.frame.Ending.TheVariants as ending
 use Rattle.rip_frames.specs.declared.part.Part.{Part}
 use Rattle.rip_frames.specs.declared.part.Role.TheVariants as role
 use Rattle.rip_frames.specs.Row.{Row}
+use Rattle.rip_frames.specs.Run.{world_at}
+use Rattle.rip_frames.specs.Started.{Started, ScriptOf, CallOf}
 use Rattle.rip_machine.specs.declared.calls.Invocable.{Invocable}
 use Rattle.rip_machine.specs.declared.calls.Invocable.TheVariants.{OfScript, OfBuiltin, NotCallable}
 use Rattle.rip_machine.specs.declared.outcome.Start.{Start}
@@ -23,15 +25,15 @@ use Rattle.rip_machine.specs.Rows.Names.{throws}
 use Rattle.rip_machine.specs.Rows.Scripts.{script_entered, script_row}
 use Rattle.rip_machine.specs.Rows.Statements.{statements}
 
--- what a start comes to: the run of a row, or a limit that its own charge would pass
+-- what a start comes to: the run of a row, in this world; or a limit that its own charge would pass
 pub data Beginning : Type 0 where
-  Runs : Row → Beginning
+  Runs : Row → World → Beginning
   Exceeds : Limit → Beginning
 
 -- a script stands at its first statement, where its functions fit (10.4.1, 14)
 abbrev pub script_begun : Loaded → ℕ → ℕ → Option World → Beginning
 script_begun p depth root None = Exceeds Cells
-script_begun p depth root (Some x) = Runs (script_row p root depth x)
+script_begun p depth root (Some x) = Runs (script_row p root depth x) x
 
 -- the part of a function that is called from outside: it takes a depth of 1, and its statements have what is left
 abbrev pub function_part : ℕ → ℕ → Value → ℕ → Part
@@ -40,7 +42,8 @@ function_part f scope this depth = record { node = f; scope = scope; this = this
 -- a function stands at its first statement, where what entering it costs fits (13.2.1)
 abbrev pub function_begun : Loaded → ℕ → ℕ → Value → Option (ℕ × World) → Beginning
 function_begun p depth f this None = Exceeds Cells
-function_begun p depth f this (Some made) = Runs (statements p (function_part f made.0 this depth) ending.Call (body p f) made.1)
+function_begun p depth f this (Some made) =
+    Runs (statements p (function_part f made.0 this depth) ending.Call (body p f) made.1) made.1
 
 -- the place outside all code where a built-in function is called, so that a function of the script that `call` calls there
 -- takes a depth of 1, as one that is called from outside does (15.3.4.4)
@@ -50,16 +53,25 @@ outside depth this = record { node = 0; scope = 0; this = this; room = depth + 1
 -- a built-in function stands at its own work, where the charge of its arguments fits
 abbrev pub builtin_begun : Loaded → ℕ → Builtin → Value → List Value → Option World → Beginning
 builtin_begun p depth b this args None = Exceeds Cells
-builtin_begun p depth b this args (Some x) = Runs (answered_by p (outside depth this) (answerer_of b) b this args x)
+builtin_begun p depth b this args (Some x) =
+    Runs (answered_by p (outside depth this) (answerer_of b) b this args x) x
 
 -- the depth of a function of the script is judged first; what is no function throws a TypeError (11.2.3)
 abbrev pub call_begun : Loaded → ℕ → Value → List Value → Invocable → World → Beginning
 call_begun p depth this args (OfScript f scope) w =
     if depth == 0 then Exceeds Depth else function_begun p depth f this (function_entered p f scope args w)
 call_begun p depth this args (OfBuiltin b) w = builtin_begun p depth b this args (charging (length args) w (λ x. x))
-call_begun p depth this args NotCallable w = Runs (throws ThrownTypeError w)
+call_begun p depth this args NotCallable w = Runs (throws ThrownTypeError w) (world_at (throws ThrownTypeError w))
 
 -- what a start comes to, where so much depth is left for the run
+abbrev pub begun_by : Loaded → ℕ → Started → World → Beginning
+begun_by p depth (ScriptOf n) w = script_begun p depth (root_of p.code.grove n) (script_entered p n w)
+begun_by p depth (CallOf f this args) w = call_begun p depth this args (callable w (Object f)) w
+
+-- what a run is of that `start` is asked for
+abbrev pub started_of : Start → Started
+started_of (start.Script n) = ScriptOf n
+started_of (start.Function f this args) = CallOf f this args.now
+
 abbrev pub begun : Loaded → ℕ → Start → World → Beginning
-begun p depth (start.Script n) w = script_begun p depth (root_of p.code.grove n) (script_entered p n w)
-begun p depth (start.Function f this args) w = call_begun p depth this args.now (callable w (Object f)) w
+begun p depth s w = begun_by p depth (started_of s) w

@@ -1,10 +1,15 @@
 ghost use Rattle.std.specs.Prelude.{◌≡◌, ℕ};
+ghost use Rattle.rip_heap.specs.World.{World};
 ghost use Rattle.rip_frames.specs.Cut.{run_of};
 ghost use Rattle.rip_frames.specs.Row.{Row};
+ghost use Rattle.rip_frames.specs.Started.{Started};
 ghost use Rattle.rip_machine.specs.Law.{Begins, host_calls, left, loaded};
+ghost use Rattle.rip_machine.specs.Run.{RunsOn};
 ghost use Rattle.rip_machine.specs.Table.{table};
+ghost use Rattle.rip_machine.specs.Turns.{LoopsAreTheirRows};
 
 use crate::machine::Machine;
+use rip_frames::Part;
 use rip_heap::{Heap, Host};
 use rip_tree::Program;
 
@@ -24,4 +29,40 @@ pub fn begun_is_whole<H: Host>(
     let _ = heap;
     let _ = host;
     let _ = fuel;
+}
+
+/// A law, and no work: where a machine stands as [`Machine::start`] left it, what is left of its run with any number of
+/// units is the run of that start with these, for every host.
+pub fn started_runs_on<H: Host>(
+    machine: &Machine,
+    program: &Program,
+    heap: &Heap,
+    host: &H,
+    fuel: u64,
+)
+    ensures { (start : Started) (w : World) (depth : ℕ) → RunsOn (host_calls H.read_gives H.write_gives H.call_gives) (loaded program.now machine.now) depth start w host.now fuel heap.now machine.now }
+{
+    let _ = machine;
+    let _ = program;
+    let _ = heap;
+    let _ = host;
+    let _ = fuel;
+}
+
+/// A law, and no work: each loop runs as the row that the standard gives it, with the completions of its parts, in every
+/// program, at every place and in every world.
+pub fn loops_are_their_rows<H: Host>(
+    machine: &Machine,
+    program: &Program,
+    heap: &Heap,
+    host: &H,
+    at: Part,
+)
+    ensures { LoopsAreTheirRows (host_calls H.read_gives H.write_gives H.call_gives) (loaded program.now machine.now) at heap.now host.now }
+{
+    let _ = machine;
+    let _ = program;
+    let _ = heap;
+    let _ = host;
+    let _ = at;
 }

@@ -21,11 +21,13 @@
 //! | [`Machine`] | contracts see `Law.Standing` |
 //! | [`Machine::load`] | `Loading.Loads`; where each text stands then `Loading.TextsStand` |
 //! | [`Machine::start`], [`Machine::resume`] | `Law.Starts`, `Law.Resumes`; what a start comes to `Starting.begun` |
+//! | [`Machine::run`] | `Run.Ran`: the run of a start, with all its fuel, is `Run.run_from` |
 //! | [`Machine::depth`] | `Law.open_depth` |
+//! | loops, with the completions of their parts | `Turns.antt` |
 //! | worked scripts, with their units and cells | `Worked.antt` |
 //!
-//! Reading is total: a child that is absent counts as node 0, a name that is bound nowhere is not bound, so that the law
-//! holds for every program, heap and machine.
+//! Reading is total: a child that is absent counts as node 0, and a name that means nothing reads as undefined and is
+//! never written, so that the law holds for every program, heap and machine.
 #![tactic(auto)]
 
 mod arguments;
@@ -49,9 +51,10 @@ mod source;
 mod statements;
 mod steps;
 mod switch;
+mod whole;
 mod worked;
 
-pub use law::begun_is_whole;
+pub use law::{begun_is_whole, loops_are_their_rows, started_runs_on};
 pub use machine::Machine;
 pub use outcome::{Outcome, Start, Turned};
 pub use worked::{closing_is_worked, counting_is_worked};

@@ -1,9 +1,10 @@
-ghost use Rattle.std.specs.Prelude.{◌≡◌, ◌+◌, ◌≤◌, [], ⊤, length, Some, None, IfOk, IfErr, OnOk, MatchOption};
+ghost use Rattle.std.specs.Prelude.{◌≡◌, ◌+◌, ◌<◌, ◌≤◌, [], ⊤, length, Some, None, IfOk, IfErr, OnOk, MatchOption};
 ghost use Rattle.std.specs.Bool.{MatchBool};
 ghost use Rattle.rip_heap.specs.declared.class.Class.TheVariants.{ThrownTypeError};
 ghost use Rattle.rip_heap.specs.Growth.{Grows};
 ghost use Rattle.rip_heap.specs.World.{World, charging};
 ghost use Rattle.rip_tree.specs.Program.{root_of};
+ghost use Rattle.rip_frames.specs.Run.{world_at};
 ghost use Rattle.rip_machine.specs.Law.{Begins, Resumes, Starts, host_calls, loaded, open_depth, outcome_of, stop_outcome, turned_of};
 ghost use Rattle.rip_machine.specs.Loading.{Loads, TextsStand};
 ghost use Rattle.rip_machine.specs.Nesting.{IsInside};
@@ -101,7 +102,8 @@ impl Machine {
     /// How many nodes are entered and not ended, and how many functions are running. After a fault or a limit they are those
     /// that were open where the run ended.
     pub fn depth(&self) -> u32
-        ensures { result ≡ open_depth self.now }
+        ensures open { result ≡ open_depth self.now }
+        ensures within { result ≤ self.now.depth }
     {
         match &self.control {
             Control::Enter(part) => self.depth.saturating_sub(part.room),
@@ -132,7 +134,7 @@ impl Machine {
         s: &Start<'_>,
         fuel: u64,
     ) -> Result<(), Refused>
-        ensures keeps { IfOk result (λ _. (self.new.literals ≡ self.old.literals) × (self.new.depth ≡ self.old.depth)) }
+        ensures keeps { (self.new.literals ≡ self.old.literals) × (self.new.depth ≡ self.old.depth) }
         ensures nested { IsInside (self.new.depth + 1) self.new.control self.new.frames }
         ensures starts { Starts (table (loaded program.now self.old)) (begun (loaded program.now self.old) self.old.depth s.now heap.old) fuel heap.old heap.new self.old self.new result }
         ensures grows { Grows heap.old heap.new }
@@ -155,7 +157,7 @@ impl Machine {
         script: u32,
         fuel: u64,
     ) -> Result<(), Refused>
-        ensures keeps { IfOk result (λ _. (self.new.literals ≡ self.old.literals) × (self.new.depth ≡ self.old.depth)) }
+        ensures keeps { (self.new.literals ≡ self.old.literals) × (self.new.depth ≡ self.old.depth) }
         ensures nested { IsInside (self.new.depth + 1) self.new.control self.new.frames }
         ensures starts { Starts (table (loaded program.now self.old)) (script_begun (loaded program.now self.old) self.old.depth (root_of program.now.grove script) (script_entered (loaded program.now self.old) script heap.old)) fuel heap.old heap.new self.old self.new result }
         ensures grows { Grows heap.old heap.new }
@@ -181,7 +183,7 @@ impl Machine {
         args: &[Value],
         fuel: u64,
     ) -> Result<(), Refused>
-        ensures keeps { IfOk result (λ _. (self.new.literals ≡ self.old.literals) × (self.new.depth ≡ self.old.depth)) }
+        ensures keeps { (self.new.literals ≡ self.old.literals) × (self.new.depth ≡ self.old.depth) }
         ensures nested { IsInside (self.new.depth + 1) self.new.control self.new.frames }
         ensures starts { Starts (table (loaded program.now self.old)) (call_begun (loaded program.now self.old) self.old.depth this.now args.now (callable heap.old (Value.Object function)) heap.old) fuel heap.old heap.new self.old self.new result }
         ensures grows { Grows heap.old heap.new }
@@ -211,7 +213,7 @@ impl Machine {
         args: &[Value],
         fuel: u64,
     ) -> Result<(), Refused>
-        ensures keeps { IfOk result (λ _. (self.new.literals ≡ self.old.literals) × (self.new.depth ≡ self.old.depth)) }
+        ensures keeps { (self.new.literals ≡ self.old.literals) × (self.new.depth ≡ self.old.depth) }
         ensures nested { IsInside (self.new.depth + 1) self.new.control self.new.frames }
         ensures starts { (p : Loaded) → Starts (table p) (builtin_begun p self.old.depth b this.now args.now (charging (length args.now) heap.old (λ x. x))) fuel heap.old heap.new self.old self.new result }
         ensures grows { Grows heap.old heap.new }
@@ -309,6 +311,7 @@ impl Machine {
         this: &Value,
         fuel: u64,
     ) -> Result<(), Refused>
+        requires { 0 < self.old.depth }
         ensures begins { OnOk result ((w : World) → Begins (table (loaded program.now self.old)) (statements (loaded program.now self.old) (function_part f scope this.now self.old.depth) Ending.Call (body (loaded program.now self.old) f) w) fuel w self.new) }
         ensures nested { IsInside (self.new.depth + 1) self.new.control self.new.frames }
         ensures memory { IfErr result (λ refused. refused ≡ Refused.Memory) }
@@ -344,7 +347,8 @@ impl Machine {
         place: u32,
         fuel: u64,
     ) -> Result<(), Refused>
-        requires { at.now.room ≤ self.old.depth + 1 }
+        requires within { at.now.room ≤ self.old.depth + 1 }
+        requires some { 0 < at.now.room }
         ensures begins { OnOk result ((w : World) → Begins (table (loaded program.now self.old)) (statements (loaded program.now self.old) at.now ending (children_from (loaded program.now self.old) at.now.node place) w) fuel w self.new) }
         ensures nested { IsInside (self.new.depth + 1) self.new.control self.new.frames }
         ensures memory { IfErr result (λ refused. refused ≡ Refused.Memory) }
@@ -381,6 +385,7 @@ impl Machine {
         fuel: u64,
     ) -> Result<(), Refused>
         ensures begins { OnOk result (Begins (table (loaded program.now self.old)) (throws ThrownTypeError heap.old) fuel heap.new self.new) }
+        ensures world { OnOk result (heap.new ≡ world_at (throws ThrownTypeError heap.old)) }
         ensures nested { IsInside (self.new.depth + 1) self.new.control self.new.frames }
         ensures memory { IfErr result (λ refused. refused ≡ Refused.Memory) }
         ensures keeps { (self.new.literals ≡ self.old.literals) × (self.new.depth ≡ self.old.depth) }
@@ -420,6 +425,9 @@ impl Machine {
         ensures fits { H.fits host.new heap.new }
         ensures keeps { (self.new.literals ≡ self.old.literals) × (self.new.depth ≡ self.old.depth) }
         ensures nested { IsInside (self.new.depth + 1) self.new.control self.new.frames }
+        ensures counted { self.new.spent + self.new.fuel ≡ self.old.spent + self.old.fuel }
+        ensures later { self.old.spent ≤ self.new.spent }
+        ensures grows { Grows heap.old heap.new }
         ensures law { Resumes (host_calls H.read_gives H.write_gives H.call_gives) (table (loaded program.now self.old)) self.old heap.old host.old n self.new heap.new host.new result }
     {
         let budget = n.min(self.fuel);

@@ -3,6 +3,7 @@ ghost use Rattle.std.specs.Bool.{MatchBool};
 ghost use Rattle.rip_heap.specs.Growth.{Grows};
 ghost use Rattle.rip_heap.specs.World.{World};
 ghost use Rattle.rip_frames.specs.Rest.{control_of, frame_of, rest};
+ghost use Rattle.rip_frames.specs.Run.{world_at};
 ghost use Rattle.rip_frames.specs.Stack.{framed, last_values, without_last};
 ghost use Rattle.rip_machine.specs.Law.{GoesOn, Stands, host_calls, weight};
 ghost use Rattle.rip_machine.specs.Nesting.{IsInside};
@@ -27,7 +28,7 @@ fn pushed(stack: &mut Stack, frame: &Frame)
     requires { length stack.old.frames < stack.old.most }
     ensures { stack.new ≡ record stack.old { frames = stack.old.frames ++ framed frame.now [] ∷ [] } }
 {
-    match stack.push(frame) {
+    match stack.push(*frame) {
         Ok(()) => {},
         Err(_) => unreachable!(),
     }
@@ -115,7 +116,7 @@ pub(crate) fn begin_list(
     depth: u32,
 ) -> Result<(), NoMemory>
     requires within { at.now.room ≤ stack.old.most }
-    requires room { 0 < stack.old.most }
+    requires some { 0 < at.now.room }
     requires inside { IsInside stack.old.most control.old stack.old.frames }
     ensures goes_on { OnOk result ((w : World) → GoesOn (table p.now) (statements p.now at.now ending (children_from p.now at.now.node place) w) depth w control.new stack.new.frames) }
     ensures inside { IsInside stack.new.most control.new stack.new.frames }
@@ -142,6 +143,7 @@ pub(crate) fn begin_throw(
     requires room { 0 < stack.old.most }
     requires inside { IsInside stack.old.most control.old stack.old.frames }
     ensures stands { OnOk result (GoesOn (table p.now) (throws ThrownTypeError heap.old) depth heap.new control.new stack.new.frames) }
+    ensures world { OnOk result (heap.new ≡ world_at (throws ThrownTypeError heap.old)) }
     ensures inside { IsInside stack.new.most control.new stack.new.frames }
     ensures most { stack.new.most ≡ stack.old.most }
     ensures grows { Grows heap.old heap.new }
@@ -166,7 +168,7 @@ pub(crate) fn begin_called(
     args: &[Value],
 ) -> Result<(), NoMemory>
     requires within { at.now.room ≤ stack.old.most }
-    requires room { 0 < stack.old.most }
+    requires some { 0 < at.now.room }
     ensures control { control.new ≡ Control.Give (Completion.Normal Value.Undefined) }
     ensures frames { OnOk result (stack.new.frames ≡ framed (Frame.Called at.now function this.now) args.now ∷ []) }
     ensures none { OnErr result (stack.new.frames ≡ []) }

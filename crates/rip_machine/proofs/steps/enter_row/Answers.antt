@@ -1,4 +1,4 @@
-use Rattle.std.proofs.Common.{◌≡◌, ℕ, ◌+◌, ◌-◌, [], ◌++◌, length, refl, ap, rules}
+use Rattle.std.proofs.Common.{◌≡◌, ℕ, ◌+◌, ◌-◌, [], ◌++◌, length, refl, ap, arith, rules}
 use Rattle.rip_frames.specs.declared.next.Control.TheVariants.{Enter}
 use Rattle.rip_frames.specs.Rest.{control_of, frame_of, rest}
 use Rattle.rip_frames.specs.Stack.{Frames}
@@ -28,9 +28,12 @@ returns-in-Ok-clause-rest g c =
 
 pub returns-in-Ok-clause-inside : goal.returns-in-Ok-clause-inside
 returns-in-Ok-clause-inside g c =
+    let row = rw c.in-Ok.is at c.begin.ensures.row in
     let nests = rw c.in-Ok.is at c.begin.ensures.nests in
+    let room = c.args.part.now.room in
+    let some = entered_fits (table c.args.p.now) c.in-Ok.next c.args.part.now room room c.args.heap.now c.begin.new.heap refl (omega arith) (row []) in
     let stack : Frames = record c.args.stack.now { frames = c.args.stack.now.frames ++ frame_of c.in-Ok.next [] } in
     ok_both c.open.result (c.open.new.control ≡ control_of c.saturating_sub.result c.in-Ok.next) (c.open.new.stack ≡ stack)
     (IsInside c.open.new.stack.most c.open.new.control c.open.new.stack.frames)
     c.open.ensures.control c.open.ensures.frames
-    (λ control f. went_inside c.args.stack.now c.open.new.stack c.args.part.now.room c.saturating_sub.result c.in-Ok.next [] c.args.stack.now.frames c.open.new.control c.requires.0 c.requires.1 nests control f)
+    (λ control f. went_inside c.args.stack.now c.open.new.stack c.args.part.now.room c.saturating_sub.result c.in-Ok.next [] c.args.stack.now.frames c.open.new.control c.requires.0 c.requires.1 some nests control f)

@@ -1,4 +1,4 @@
-use Rattle.std.proofs.Common.{◌≡◌, List, ◌++◌, ap, subst, rules}
+use Rattle.std.proofs.Common.{◌≡◌, ◌≤◌, List, [], ◌++◌, length, ap, subst, arith, rules}
 use Rattle.rip_values.specs.declared.value.Value.{Value}
 use Rattle.rip_frames.specs.Frame.{part_of}
 use Rattle.rip_frames.specs.Rest.{as_row, frame_of, room_in}
@@ -6,7 +6,7 @@ use Rattle.rip_frames.specs.Settle.{settle}
 use Rattle.rip_frames.specs.Stack.{Frames, framed, last_values, without_last}
 use Rattle.rip_machine.specs.Law.{host_calls}
 use Rattle.rip_machine.specs.Table.{rest_by, table}
-use Rattle.rip_machine.proofs.Nested.{at_last, went_inside}
+use Rattle.rip_machine.proofs.Nested.{at_last, one_frame, went_inside}
 use Rattle.rip_machine.proofs.StepLaws.{give_rest, passes}
 use Rattle.rip_machine.proofs.steps.give.Goals as goal
 
@@ -28,4 +28,5 @@ returns-in_ok-reopen-in-Ok-clause-inside g c =
     let o = framed c.in-Some.frame.now (last_values os) in
     let nests = rw c.in-Ok.is at c.finish.ensures.nests in
     let last = at_last c.args.stack.now.most os (without_last os) o c.in-Some.ensures c.requires.inside in
-    went_inside c.args.stack.now c.reopen.new.stack (part_of c.in-Some.frame.now).room c.saturating_sub-room.result c.in-Ok.next (last_values os) (without_last os) c.reopen.new.control last.0 last.1 nests c.in_ok-reopen-in-Ok.ensures.control c.in_ok-reopen-in-Ok.ensures.frames
+    let some : length (frame_of c.in-Ok.next []) ≤ (part_of c.in-Some.frame.now).room = omega (arith, one_frame c.in-Ok.next [], last.2) in
+    went_inside c.args.stack.now c.reopen.new.stack (part_of c.in-Some.frame.now).room c.saturating_sub-room.result c.in-Ok.next (last_values os) (without_last os) c.reopen.new.control last.0 last.1 some nests c.in_ok-reopen-in-Ok.ensures.control c.in_ok-reopen-in-Ok.ensures.frames

@@ -21,7 +21,7 @@ returns-clause-room c =
 
 pub returns-clause-pushed : goal.returns-clause-pushed
 returns-clause-pushed c =
-    let r : Entry = record { frame = c.args.frame.now; values = 0 } in
+    let r : Entry = record { frame = c.args.frame; values = 0 } in
     let p = ap (λ es. joined es c.self.inside.values.items) c.push_reserved.ensures.items ∙ frames-pushed c.self.inside.entries.items r c.self.inside.values.items c.self.invariant.beside refl in
     let most : c.self.inside.most ≡ c.args.self.now.most = ap (λ (m : Frames). m.most) c.self.view_is in
     let room : c.self.inside.room ≡ c.args.self.now.room = ap (λ (m : Frames). m.room) c.self.view_is in

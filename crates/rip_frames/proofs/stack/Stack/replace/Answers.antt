@@ -5,8 +5,8 @@ use Rattle.rip_frames.specs.Joining.{joined}
 use Rattle.rip_frames.proofs.Joined.{frames-replaced, last-taken, set-last}
 use Rattle.rip_frames.proofs.stack.Stack.replace.Goals as goal
 
-pub returns-in-Some : goal.returns-in-Some
-returns-in-Some c _ =
+pub returns-in-Some-clause-replaced : goal.returns-in-Some-clause-replaced
+returns-in-Some-clause-replaced c _ =
     let len : ℕ = c.self.inside.entries.len in
     let some : 0 < len = c.in-Some.ensures.variant.0 refl in
     let n : c.len.result ≡ length c.self.inside.values.items = search rules in

@@ -17,5 +17,4 @@ returns-in-Ok-clause-starts c = λ p.
     let row = answered_by p (outside m.depth c.args.this.now) (answerer_of c.args.b) c.args.b c.args.this.now c.args.args.now in
     starts (table p) (builtin_begun p m.depth c.args.b c.args.this.now c.args.args.now (charging {A = World} n c.args.heap.now (λ w. w))) (row x) c.args.fuel c.args.heap.now x m c.begin_called.new.self c.begin_called.result
     ((q : Loaded) (w : World) → Begins (table q) (answered_by q (outside m.depth c.args.this.now) (answerer_of c.args.b) c.args.b c.args.this.now c.args.args.now w) c.args.fuel w c.begin_called.new.self)
-    (ap (builtin_begun p m.depth c.args.b c.args.this.now c.args.args.now) charged)
-    c.begin_called.ensures.begins c.begin_called.ensures.memory (λ b. b p x)
+    c.begin_called.ensures.begins c.begin_called.ensures.memory (λ b. (ap (builtin_begun p m.depth c.args.b c.args.this.now c.args.args.now) charged, b p x))

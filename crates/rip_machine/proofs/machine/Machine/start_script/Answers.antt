@@ -24,4 +24,4 @@ returns-in-Ok-true-clause-starts c =
     let whole : B c.script_part-at.result → D m.depth = λ b. subst D (ap (λ (s : Standing). s.depth) c.self.view_is) (subst B c.script_part-at.ensures b) in
     subst S c.root-root.ensures
     (starts (table p) (script_begun p m.depth root (script_entered p c.args.script c.args.heap.now)) (script_row p root m.depth x) c.args.fuel c.args.heap.now x m c.begin_list.new.self c.begin_list.result
-    (B c.script_part-at.result) (ap (script_begun p m.depth root) entered) c.begin_list.ensures.begins c.begin_list.ensures.memory (λ b. whole b x))
+    (B c.script_part-at.result) c.begin_list.ensures.begins c.begin_list.ensures.memory (λ b. (ap (script_begun p m.depth root) entered, whole b x)))
