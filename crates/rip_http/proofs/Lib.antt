@@ -1,0 +1,6 @@
+pub mod FieldLemmas
+pub mod HeadEndLemmas
+pub mod HeadLemmas
+pub mod StageLemmas
+pub mod StreamLemmas
+pub mod TargetLemmas

@@ -1,0 +1,160 @@
+-- What a stage tells of the bytes.
+use Rattle.std.proofs.Common.{◌≡◌, ℕ, ◌+◌, ◌-◌, ◌≤◌, ◌<◌, ◌⊎◌, ⊎_elim, min, Bool, true, false, cond, leb, IsTrue, List, [], ◌∷◌, ◌++◌, length, take, drop, Option, Some, None, unwrap_or, refl, sym, ap, ◌∙◌, subst, arith}
+use Rattle.std.proofs.lemmas.List.{take_all, take-append-drop, drop-drop, length-drop}
+use Rattle.std.proofs.lemmas.Bool.{cases_lt, cond-true, cond-false, le-leb, lt-leb, leb-true}
+use Rattle.httparse.specs.Spans.{IsWithin, span_bytes}
+use Rattle.rip_http.specs.Heads.{after, head_end, head_at}
+use Rattle.rip_http.specs.Routes.{segment_of}
+use Rattle.rip_http.specs.Verdicts.{Verdict, Refuses, Goes, IsVerdict}
+use Rattle.rip_http.specs.Stream.{Next, waits, refuses, takes, behind, IsNextAt, IsNext, code_of, allowed_by}
+use Rattle.rip_http.specs.Stages.{IsStage, refused_of}
+use Rattle.rip_http.specs.declared.head.Scan.{Scan}
+use Rattle.rip_http.specs.declared.head.Scan.TheVariants.{Before}
+use Rattle.rip_http.specs.declared.request.Method.TheVariants.{Get}
+use Rattle.rip_http.specs.declared.request.Refusal.{Refusal}
+use Rattle.rip_http.specs.declared.request.Refusal.TheVariants.{Head as BadHead, Fields, Path, WrongMethod, Coding, NoLength, TooLarge}
+use Rattle.rip_http.specs.declared.request.RefusedHead.{RefusedHead}
+use Rattle.rip_http.specs.declared.request.Going.{Going}
+use Rattle.rip_http.specs.declared.request.Message.{Message}
+use Rattle.rip_http.specs.declared.stage.Awaited.{Awaited}
+use Rattle.rip_http.specs.declared.stage.Stage.{Stage}
+use Rattle.rip_http.specs.declared.stage.Stage.TheVariants.{Head, Body, Refused}
+use Rattle.rip_http.proofs.HeadLemmas.{after-none}
+use Rattle.rip_http.proofs.StreamLemmas.{next_one, head_end_stays, head_end_le, head_at_stays, refuses_stay}
+
+-- ---- what stands at the front
+
+pub head_waits : (bytes : List ℕ) (scan : Scan) → after Before bytes ≡ Some scan → length bytes < 8192 → IsNext bytes waits
+head_waits bytes scan e short =
+    let whole : take 8192 bytes ≡ bytes = take_all 8192 bytes (omega arith) in
+    let unended : head_end (take 8192 bytes) ≡ None = ap head_end whole ∙ after-none Before scan bytes e in
+    let P : Option ℕ → Type 0 = λ o. IsNextAt o bytes waits in
+    subst P (sym unended) (sym (cond-false _ _ _ (lt-leb 8192 (length bytes) short)))
+
+pub overlong_refuses : (bytes : List ℕ) (scan : Scan) → after Before (take 8192 bytes) ≡ Some scan → 8192 ≤ length bytes
+    → IsNext bytes (refuses 8192 (record { refusal = Fields; bare = false }))
+overlong_refuses bytes scan e long =
+    let P : Option ℕ → Type 0 = λ o. IsNextAt o bytes (refuses 8192 (record { refusal = Fields; bare = false })) in
+    subst P (sym (after-none Before scan (take 8192 bytes) e)) (sym (cond-true _ _ _ (le-leb 8192 (length bytes) long)))
+
+next_behind : (bytes : List ℕ) (n : ℕ) (v : Verdict) → head_end (take 8192 bytes) ≡ Some n → IsVerdict (head_at bytes n) v
+    → IsNext bytes (behind bytes n v)
+next_behind bytes n v e is =
+    let P : Option ℕ → Type 0 = λ o. IsNextAt o bytes (behind bytes n v) in
+    subst P (sym e) (v, is, refl)
+
+pub head_refuses : (bytes head : List ℕ) (n : ℕ) (r : RefusedHead) → head_end (take 8192 bytes) ≡ Some n → head ≡ head_at bytes n
+    → IsVerdict head (Refuses r) → IsNext bytes (refuses n r)
+head_refuses bytes head n r e same is =
+    let P : List ℕ → Type 0 = λ h. IsVerdict h (Refuses r) in
+    next_behind bytes n (Refuses r) e (subst P same is)
+
+pub body_waits : (bytes : List ℕ) (a : Awaited) → IsStage bytes (Body a) → length bytes < a.end + a.going.size → IsNext bytes waits
+body_waits bytes a (e, is, within) short =
+    let v = Goes a.going (segment_of (span_bytes (head_at bytes a.end) a.target)) in
+    let unfinished : behind bytes a.end v ≡ waits = cond-false _ _ _ (lt-leb (a.end + a.going.size) (length bytes) short) in
+    let P : Next → Type 0 = λ x. IsNext bytes x in
+    subst P unfinished (next_behind bytes a.end v e is)
+
+pub body_takes : (bytes segment body : List ℕ) (a : Awaited) → IsStage bytes (Body a) → a.end + a.going.size ≤ length bytes
+    → segment ≡ segment_of (span_bytes (head_at bytes a.end) a.target) → body ≡ take a.going.size (drop a.end bytes)
+    → IsNext bytes (takes (a.end + a.going.size) (record { route = a.going.route; segment = segment; body = body; close = a.going.close }))
+body_takes bytes segment body a (e, is, within) fits s b =
+    let v = Goes a.going (segment_of (span_bytes (head_at bytes a.end) a.target)) in
+    let whole = cond-true _ _ _ (le-leb (a.end + a.going.size) (length bytes) fits) in
+    let P : Next → Type 0 = λ x. IsNext bytes x in
+    let S : List ℕ → Type 0 = λ x. IsNext bytes (takes (a.end + a.going.size) (record { route = a.going.route; segment = x; body = body; close = a.going.close })) in
+    let B : List ℕ → Type 0 = λ x. IsNext bytes (takes (a.end + a.going.size) (record { route = a.going.route; segment = segment_of (span_bytes (head_at bytes a.end) a.target); body = x; close = a.going.close })) in
+    subst S (sym s) (subst B (sym b) (subst P whole (next_behind bytes a.end v e is)))
+
+pub body_end_le : (bytes : List ℕ) (a : Awaited) → IsStage bytes (Body a) → a.end ≤ length bytes
+body_end_le bytes a (e, is, within) = head_end_le 8192 a.end bytes e
+
+-- the body has come, by what is left behind the head
+pub come_tells : (end size len : ℕ) → end ≤ len
+    → (IsTrue (leb size (len - end)) → end + size ≤ len) × (end + size ≤ len → IsTrue (leb size (len - end)))
+come_tells end size len within =
+    ((λ t. omega (arith, leb-true size (len - end) t)), (λ fits. le-leb size (len - end) (omega arith)))
+
+-- ---- a stage at more bytes
+
+pub at_stage : (xs ys : List ℕ) (s t : Stage) → IsStage xs s → s ≡ t → ys ≡ xs → IsStage ys t
+at_stage xs ys s t is same bytes =
+    let P : Stage → Type 0 = λ x. IsStage ys x in
+    let Q : List ℕ → Type 0 = λ x. IsStage x s in
+    subst P same (subst Q (sym bytes) is)
+
+body_stays : (bytes more : List ℕ) (a : Awaited) → IsStage bytes (Body a) → IsStage (bytes ++ more) (Body a)
+body_stays bytes more a (e, is, within) =
+    let same : head_at bytes a.end ≡ head_at (bytes ++ more) a.end = sym (head_at_stays bytes more a.end (head_end_le 8192 a.end bytes e)) in
+    let P : List ℕ → Type 0 = λ head. IsVerdict head (Goes a.going (segment_of (span_bytes head a.target))) in
+    let Q : List ℕ → Type 0 = λ head. IsWithin (length head) a.target in
+    (head_end_stays 8192 a.end bytes more e, subst P same is, subst Q same within)
+
+pub body_grows : (bytes : List ℕ) (from : ℕ) (s : Stage) (a : Awaited) → IsStage (take from bytes) s → s ≡ Body a → IsStage bytes (Body a)
+body_grows bytes from s a is same =
+    let P : List ℕ → Type 0 = λ x. IsStage x (Body a) in
+    subst P (take-append-drop from bytes) (body_stays (take from bytes) (drop from bytes) a (at_stage (take from bytes) (take from bytes) s (Body a) is same refl))
+
+pub refused_grows : (bytes : List ℕ) (from : ℕ) (s : Stage) (r : RefusedHead) → IsStage (take from bytes) s → s ≡ Refused r → IsStage bytes (Refused r)
+refused_grows bytes from s r is same =
+    let here = at_stage (take from bytes) (take from bytes) s (Refused r) is same refl in
+    let P : List ℕ → Type 0 = λ x. IsStage x (Refused r) in
+    subst P (take-append-drop from bytes) (here.0, refuses_stay (take from bytes) (drop from bytes) here.0 r here.1)
+
+-- the bytes in which a head is sought
+pub window_is : (bytes : List ℕ) (limit : ℕ) → limit ≡ min (length bytes) 8192 → take limit bytes ≡ take 8192 bytes
+window_is bytes limit e =
+    ⊎_elim
+    (λ (long : 8192 < length bytes). let same : limit ≡ 8192 = omega arith in ap (λ k. take k bytes) same)
+    (λ (short : length bytes ≤ 8192). take_all limit bytes (omega arith) ∙ sym (take_all 8192 bytes short))
+    (cases_lt 8192 (length bytes))
+
+-- ---- what a stage says of refusals
+
+pub refused_is : (bytes : List ℕ) (s : Stage) (q r : RefusedHead) (n : ℕ) → IsStage bytes s → refused_of s ≡ Some q → IsNext bytes (refuses n r) → r ≡ q
+refused_is bytes (Head scan) q r n is e next = cc
+refused_is bytes (Body a) q r n is e next = cc
+refused_is bytes (Refused p) q r n (k, here) e next =
+    let same = next_one bytes (refuses n r) (refuses k p) next here in cc
+
+pub never_refused : (bytes : List ℕ) (s : Stage) (r : RefusedHead) (n : ℕ) → IsStage bytes s → refused_of s ≡ None → IsNext bytes (refuses n r) → ⊥
+never_refused bytes (Head scan) r n (e, short) none next =
+    let same = next_one bytes (refuses n r) waits next (head_waits bytes scan e short) in cc
+never_refused bytes (Body a) r n is none next =
+    ⊎_elim
+    (λ (short : length bytes < a.end + a.going.size).
+    let same = next_one bytes (refuses n r) waits next (body_waits bytes a is short) in cc)
+    (λ (fits : a.end + a.going.size ≤ length bytes).
+    let same = next_one bytes (refuses n r) _ next (body_takes bytes _ _ a is fits refl refl) in cc)
+    (cases_lt (length bytes) (a.end + a.going.size))
+never_refused bytes (Refused p) r n is none next = cc
+
+pub named_by_405 : (x : Refusal) → code_of x ≡ 405 → allowed_by x ≡ Some (unwrap_or (allowed_by x) Get)
+named_by_405 (WrongMethod m) e = refl
+named_by_405 BadHead e = absurd (omega (arith, e))
+named_by_405 Fields e = absurd (omega (arith, e))
+named_by_405 Path e = absurd (omega (arith, e))
+named_by_405 Coding e = absurd (omega (arith, e))
+named_by_405 NoLength e = absurd (omega (arith, e))
+named_by_405 TooLarge e = absurd (omega (arith, e))
+
+-- ---- readiness
+
+pub not_ready : (bytes : List ℕ) → IsNext bytes waits → (IsTrue false → ¬ IsNext bytes waits) × ((¬ IsNext bytes waits) → IsTrue false)
+not_ready bytes w = ((λ t. cc), (λ h. absurd (h w)))
+
+pub refused_ready : (bytes : List ℕ) (n : ℕ) (r : RefusedHead) → IsNext bytes (refuses n r)
+    → (IsTrue true → ¬ IsNext bytes waits) × ((¬ IsNext bytes waits) → IsTrue true)
+refused_ready bytes n r next = ((λ t w. let same = next_one bytes (refuses n r) waits next w in cc), (λ h. refl))
+
+pub body_ready : (bytes : List ℕ) (a : Awaited) (b : Bool) → IsStage bytes (Body a)
+    → (IsTrue b → a.end + a.going.size ≤ length bytes) × (a.end + a.going.size ≤ length bytes → IsTrue b)
+    → (IsTrue b → ¬ IsNext bytes waits) × ((¬ IsNext bytes waits) → IsTrue b)
+body_ready bytes a b is come = (
+  (λ t w. let same = next_one bytes waits _ w (body_takes bytes _ _ a is (come.0 t) refl refl) in cc),
+  (λ h. ⊎_elim
+      (λ (short : length bytes < a.end + a.going.size). absurd (h (body_waits bytes a is short)))
+      (λ (fits : a.end + a.going.size ≤ length bytes). come.1 fits)
+      (cases_lt (length bytes) (a.end + a.going.size))),
+)

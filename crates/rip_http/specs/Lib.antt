@@ -1,0 +1,9 @@
+pub mod Answers
+pub mod Conns
+pub mod Fields
+pub mod Heads
+pub mod Laws
+pub mod Routes
+pub mod Stages
+pub mod Stream
+pub mod Verdicts
