@@ -2,6 +2,9 @@ pub mod Outside
 pub mod Reading
 pub mod Writing
 pub mod Connections
+pub mod KnockLists
 pub mod Memory
+pub mod Calls
+pub mod MemoryDoor
 pub mod Moments
 pub mod Pieces

@@ -72,7 +72,8 @@ pub trait Door {
     /// What came from outside. It waits for the outside only where `busy` is false.
     fn next(&mut self, room: &mut [u8; 4096], busy: bool) -> Knock
         ensures fits { FitsRoom result }
-        ensures allowed { AreAllowed (knocks self.old).told (shuts self.old) (telling result room.new) }
+        ensures allowed { AreAllowed (knocks self.old).told (shuts self.old)
+            (telling result room.new) }
         ensures told { Goes (knocks self.old) (knocks self.new) (telling result room.new) }
         ensures over { result ≡ Knock.Closed → IsOver (knocks self.new).left }
         ensures asked { asked self.new ≡ also (busy_told result busy) (asked self.old) }

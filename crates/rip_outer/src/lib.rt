@@ -3,13 +3,16 @@
 //! Whatever reaches outside the program stands behind one of five traits, [`Files`], [`Sink`], [`Door`], [`Clock`] and
 //! [`Words`]. A call answers `Failed` only where the count `faults` of its object rose in it. What an object holds or
 //! has told is an optional meaning: the forms in memory tell it, the real ones don't, and a clause that speaks of it
-//! holds of both. [`MemoryFiles`], [`MemorySink`], [`MemoryClock`] and [`MemoryWords`] are forms in memory; [`NoDoor`],
-//! [`NoClock`] and [`NoWords`] stand where a run asks nothing of the outside. [`lines`] gives the pieces of a text
-//! between line feeds.
+//! holds of both. [`MemoryFiles`], [`MemorySink`], [`MemoryDoor`], [`MemoryClock`] and [`MemoryWords`] are forms in
+//! memory; [`NoDoor`], [`NoClock`] and [`NoWords`] stand where a run asks nothing of the outside. A [`KnockList`] is
+//! what a door in memory is made of. [`lines`] gives the pieces of a text between line feeds.
 #![tactic(auto)]
 
 mod connections;
+mod knock_list;
 mod listed;
+mod memory_connections;
+mod memory_door;
 mod memory_files;
 mod memory_moments;
 mod memory_sink;
@@ -23,6 +26,8 @@ mod text;
 mod writing;
 
 pub use connections::{Door, Knock, Sent, TraceKnock};
+pub use knock_list::{KnockError, KnockList, MAX_PIECE};
+pub use memory_door::MemoryDoor;
 pub use memory_files::MemoryFiles;
 pub use memory_moments::{MemoryClock, MemoryWords};
 pub use memory_sink::MemorySink;

@@ -163,6 +163,90 @@ fn named(alloc: Global, name: &[u8], contents: Vec<u8>) -> Result<NamedFile, Fai
     })
 }
 
+fn piece(alloc: Global, c: u64, bytes: &[u8]) -> Result<TraceKnock, Fail> {
+    Ok(TraceKnock::Bytes(c, Bytes::from_slice(alloc, bytes)?))
+}
+
+#[test]
+fn a_list_of_knocks_keeps_the_rules(rt: HostRuntime) -> Result<(), Fail> {
+    let alloc = rt.alloc();
+    let mut knocks = KnockList::new(alloc);
+    let full = vec![in alloc; b'x'; 4096]?;
+    let long = vec![in alloc; b'x'; 4097]?;
+    let cases = vec![in alloc;
+        (piece(alloc, 0, b"a")?, false),
+        (TraceKnock::Gone(0), false),
+        (TraceKnock::Opened(1), false),
+        (TraceKnock::Opened(0), true),
+        (TraceKnock::Opened(0), false),
+        (TraceKnock::Quiet, true),
+        (piece(alloc, 0, b"")?, false),
+        (piece(alloc, 0, full.as_slice())?, true),
+        (piece(alloc, 0, long.as_slice())?, false),
+        (piece(alloc, 1, b"a")?, false),
+        (TraceKnock::Opened(1), true),
+        (TraceKnock::Gone(0), true),
+        (TraceKnock::Gone(0), false),
+        (piece(alloc, 0, b"a")?, false),
+        (piece(alloc, 1, b"a")?, true),
+    ]?;
+    for (knock, allowed) in cases {
+        let pushed = knocks.push(knock);
+        assert!(rt;
+            pushed
+                == if allowed {
+                    Ok(())
+                } else {
+                    Err(KnockError::NotAllowed)
+                }
+        );
+    }
+    assert_eq!(rt; knocks.as_slice().len(), 6);
+    Ok(())
+}
+
+#[test]
+fn a_door_in_memory_tells_its_knocks(rt: HostRuntime) -> Result<(), Fail> {
+    let alloc = rt.alloc();
+    let mut knocks = KnockList::new(alloc);
+    let listed = vec![in alloc;
+        TraceKnock::Opened(0),
+        piece(alloc, 0, b"ab")?,
+        TraceKnock::Opened(1),
+        piece(alloc, 1, b"cd")?,
+        TraceKnock::Gone(0),
+        TraceKnock::Gone(1),
+    ]?;
+    for knock in listed {
+        assert!(rt; knocks.push(knock) == Ok(()));
+    }
+    let failing_next = NumberList::from_slice(alloc, &[3, 9])?;
+    let failing_send = NumberList::from_slice(alloc, &[2])?;
+    let mut door = MemoryDoor::make(alloc, &knocks, &failing_next, &failing_send)?;
+    let mut room = [0; 4096];
+    let wanted = [
+        Knock::Opened(0),
+        Knock::Quiet,
+        Knock::Failed,
+        Knock::Opened(1),
+        Knock::Bytes(1, 2),
+        Knock::Quiet,
+        Knock::Gone(1),
+        Knock::Closed,
+        Knock::Failed,
+        Knock::Closed,
+    ];
+    for knock in wanted {
+        assert_eq!(rt; greet(&mut door, &mut room), knock);
+    }
+    assert!(rt; room.starts_with(b"cd"));
+    assert_eq!(rt; door.faults(), 3);
+    assert!(rt; door.was_shut(0) && !door.was_shut(1) && !door.was_shut(2));
+    assert!(rt; door.sent(0) == b"welcome".as_slice());
+    assert!(rt; door.sent(1).is_empty() && door.sent(2).is_empty());
+    Ok(())
+}
+
 #[test]
 fn a_clock_and_words_in_memory(rt: HostRuntime) -> Result<(), Fail> {
     let alloc = rt.alloc();
