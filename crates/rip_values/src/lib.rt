@@ -16,6 +16,7 @@
 //! | [`Builtin`] | `Builtins.number_of`, `Builtins.name_of`, `Builtins.home_of` |
 //! | [`Pool`] | contracts see `Pool.Texts`; a span stands for `Pool.text_at` |
 //! | [`Limits`] | `Limits.AreInRange` |
+//! | [`Report`], [`EventKind`], [`BadReport`] | contracts see their variants and fields |
 //! | [`Writer`] | contracts see the bytes so far; numerals are std's `decimal` and `signed_decimal` |
 //! | [`Page`] | contracts see `Page.Contents`: the nodes, and which hold the scripts |
 //!

@@ -15,7 +15,7 @@ pub record Contents : Type 0 where
 abbrev pub contents_of : Batch → Contents
 contents_of b = record { number = b.number; items = map reported_of b.items }
 
--- its JSON: an object with exactly the members `batch` and `items`
+-- its JSON: an object with exactly the members `batch` and `items`; a value holds members in the order of their names
 abbrev pub batch_value : Contents → Data
 batch_value b = object (member (codes "batch") (number_value b.number) (member (codes "items") (list_of (map item_value b.items)) no_members))
 
