@@ -1,11 +1,10 @@
 -- The search for a head's end finds the first empty line behind a byte that is neither CR nor LF, and nothing else.
-use Rattle.std.proofs.Common.{◌≡◌, ◌≢◌, ℕ, zero, suc, ◌+◌, ◌≤◌, ◌<◌, ◌⊎◌, inl, inr, ⊎_elim, Bool, true, false, cond, eqb, ◌||◌, ◌↔◌, List, [], ◌∷◌, ◌++◌, length, take, drop, Option, Some, None, option_map, refl, sym, ap, ◌∙◌, subst, arith}
+use Rattle.std.proofs.Common.{◌≡◌, ◌≢◌, ℕ, zero, suc, ◌≤◌, ◌<◌, ◌⊎◌, inl, inr, ⊎_elim, Bool, true, false, cond, ◌↔◌, List, [], ◌∷◌, ◌++◌, length, take, drop, Option, Some, None, option_map, refl, sym, ap, ◌∙◌, subst, arith}
 use Rattle.std.proofs.lemmas.List.{append_assoc, append-nil, same_from_push, length-append}
 use Rattle.std.proofs.lemmas.Bool.{cases_eq, cases_lt, eq-eqb, ne_eqb, cond-true, cond-false}
-use Rattle.rip_http.specs.Heads.{is_line_byte, blank, head_at, EndsInEmptyLine, IsHeadEnd, step, end_from, head_end, ended_or}
+use Rattle.rip_http.specs.Heads.{is_line_byte, head_at, EndsInEmptyLine, IsHeadEnd, step, end_from, head_end, ended_or}
 use Rattle.rip_http.specs.declared.head.Scan.{Scan}
 use Rattle.rip_http.specs.declared.head.Scan.TheVariants.{Before, Inside, AfterFeed, AfterReturn}
-use Rattle.rip_http.proofs.HeadLemmas.{mapped}
 
 -- the bytes end with LF; with LF CR
 abbrev WithFeed : List ℕ → Type 0

@@ -1,6 +1,6 @@
 -- What a stage tells of the bytes.
-use Rattle.std.proofs.Common.{◌≡◌, ℕ, ◌+◌, ◌-◌, ◌≤◌, ◌<◌, ◌⊎◌, ⊎_elim, min, Bool, true, false, cond, leb, IsTrue, List, [], ◌∷◌, ◌++◌, length, take, drop, Option, Some, None, unwrap_or, refl, sym, ap, ◌∙◌, subst, arith}
-use Rattle.std.proofs.lemmas.List.{take_all, take-append-drop, drop-drop, length-drop}
+use Rattle.std.proofs.Common.{◌≡◌, ℕ, ◌+◌, ◌-◌, ◌≤◌, ◌<◌, ⊎_elim, min, Bool, true, false, leb, IsTrue, List, ◌++◌, length, take, drop, Option, Some, None, unwrap_or, refl, sym, ap, ◌∙◌, subst, arith}
+use Rattle.std.proofs.lemmas.List.{take_all, take-append-drop}
 use Rattle.std.proofs.lemmas.Bool.{cases_lt, cond-true, cond-false, le-leb, lt-leb, leb-true}
 use Rattle.httparse.specs.Spans.{IsWithin, span_bytes}
 use Rattle.rip_http.specs.Heads.{after, head_end, head_at}
@@ -14,7 +14,6 @@ use Rattle.rip_http.specs.declared.request.Method.TheVariants.{Get}
 use Rattle.rip_http.specs.declared.request.Refusal.{Refusal}
 use Rattle.rip_http.specs.declared.request.Refusal.TheVariants.{Head as BadHead, Fields, Path, WrongMethod, Coding, NoLength, TooLarge}
 use Rattle.rip_http.specs.declared.request.RefusedHead.{RefusedHead}
-use Rattle.rip_http.specs.declared.request.Going.{Going}
 use Rattle.rip_http.specs.declared.request.Message.{Message}
 use Rattle.rip_http.specs.declared.stage.Awaited.{Awaited}
 use Rattle.rip_http.specs.declared.stage.Stage.{Stage}
@@ -75,6 +74,11 @@ pub come_tells : (end size len : ℕ) → end ≤ len
     → (IsTrue (leb size (len - end)) → end + size ≤ len) × (end + size ≤ len → IsTrue (leb size (len - end)))
 come_tells end size len within =
     ((λ t. omega (arith, leb-true size (len - end) t)), (λ fits. le-leb size (len - end) (omega arith)))
+
+-- a message whose body has come stands at the front
+pub message_stands : (bytes : List ℕ) (a : Awaited) → IsStage bytes (Body a) → a.end + a.going.size ≤ length bytes
+    → (n : ℕ) × (m : Message) × IsNext bytes (takes n m)
+message_stands bytes a is fits = (_, _, body_takes bytes _ _ a is fits refl refl)
 
 -- ---- a stage at more bytes
 

@@ -1,12 +1,10 @@
 -- The laws of a stream of messages.
-use Rattle.std.proofs.Common.{◌≡◌, ℕ, zero, suc, ◌+◌, ◌-◌, ◌≤◌, ◌<◌, ◌⊎◌, inl, inr, ⊎_elim, Bool, true, false, cond, leb, List, [], ◌∷◌, ◌++◌, length, take, drop, min, Option, Some, None, refl, sym, ap, ◌∙◌, subst, arith, rules}
-use Rattle.std.proofs.lemmas.List.{append-nil, append_assoc, length-append, length-take, length-drop, take-append-le, drop-append-le, take_all}
+use Rattle.std.proofs.Common.{◌≡◌, ℕ, zero, suc, ◌+◌, ◌≤◌, ◌<◌, inl, inr, ⊎_elim, Bool, true, false, cond, leb, List, [], ◌∷◌, ◌++◌, length, take, drop, Option, Some, None, refl, sym, ap, ◌∙◌, subst, arith}
+use Rattle.std.proofs.lemmas.List.{append-nil, append_assoc, length-append, length-take, length-drop, take-append-le, drop-append-le}
 use Rattle.std.proofs.lemmas.Bool.{cases_lt, cond-true, cond-false, le-leb, lt-leb, leb-true}
-use Rattle.std.proofs.lemmas.Bool.Decides.{nat_tests}
 use Rattle.httparse.proofs.GrammarLemmas.{request_unique}
 use Rattle.rip_http.specs.Heads.{head_end, head_at, blank}
 use Rattle.rip_http.specs.declared.head.Scan.TheVariants.{Before}
-use Rattle.rip_http.specs.declared.request.Going.{Going}
 use Rattle.rip_http.specs.Verdicts.{Verdict, Refuses, Goes, IsVerdict, verdict_of, parts_of}
 use Rattle.rip_http.specs.Stream.{Next, waits, refuses, takes, behind, IsNextAt, IsNext, Splits, IsLast, Requests, Deed, fed, took, Does, all_fed, all_taken}
 use Rattle.rip_http.specs.declared.request.Message.{Message}

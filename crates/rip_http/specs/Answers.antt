@@ -55,6 +55,7 @@ opened_lines o =
     field (codes "Ripley-Session") (identifier_text o.id)
     ++ (field (codes "Ripley-Seed") (decimal o.seed) ++ field (codes "Ripley-Time") (decimal o.time))
 
+-- in an answer to an opening alone
 abbrev pub opening_lines : Option Opening → List ℕ
 opening_lines None = []
 opening_lines (Some o) = opened_lines o
@@ -83,3 +84,26 @@ answer_text a =
     ++ close_line a.close
     ++ line []
     ++ body_of a
+
+-- the numbers of an opening are in range (RFC 9562, 4: an identifier has 16 bytes)
+pub record IsOpening (o : Opening) : Type 0 where
+  pub long : length o.id ≡ 16
+  pub bytes_in_range : All (λ b. b < 256) o.id
+  pub seed : o.seed < 2 ^ 32
+  pub time : o.time < 2 ^ 64
+
+-- of an opening, if there is one
+abbrev pub IsNoneOrOpening : Option Opening → Type 0
+IsNoneOrOpening None = Unit {0}
+IsNoneOrOpening (Some o) = IsOpening o
+
+-- an answer whose numbers are in range, and which has no body where none is written
+pub record IsAnswer (a : HttpAnswer) : Type 0 where
+  pub code : a.code < 2 ^ 16
+  pub opening : IsNoneOrOpening a.opening
+  pub size : length a.body < 2 ^ 64
+  pub bodiless : IsTrue a.bare → a.body ≡ []
+
+-- two such answers with the same bytes are equal
+abbrev pub AnswersTellApart : Type 0
+AnswersTellApart = (a b : HttpAnswer) → IsAnswer a → IsAnswer b → answer_text a ≡ answer_text b → a ≡ b

@@ -9,6 +9,10 @@ use Rattle.rip_http.specs.declared.request.RefusedHead.{RefusedHead}
 abbrev pub HeadEndIsFound : Type 0
 HeadEndIsFound = (bytes : List ℕ) (n : ℕ) → (head_end bytes ≡ Some n) ↔ IsHeadEnd bytes n
 
+-- one thing stands at the front of bytes
+abbrev pub NextIsOne : Type 0
+NextIsOne = (bytes : List ℕ) (x y : Next) → IsNext bytes x → IsNext bytes y → x ≡ y
+
 -- a stream has one list of requests
 abbrev pub RequestsAreOne : Type 0
 RequestsAreOne = (bytes : List ℕ) (a b : List Message) (x y : Next) → Requests bytes a x → Requests bytes b y → (a ≡ b) × (x ≡ y)

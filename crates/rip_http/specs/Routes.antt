@@ -1,5 +1,5 @@
 -- Where requests go: `/`, and `/e/` and `/q/` each with one segment.
-use Rattle.std.specs.Prelude.{ℕ, ◌<◌, ◌==◌, Bool, ◌&&◌, not, nat_lt, nat_eq, bytes_eq, List, length, take, drop, Option, Some, None, if◌then◌else◌, codes}
+use Rattle.std.specs.Prelude.{ℕ, ◌==◌, Bool, ◌&&◌, not, nat_lt, nat_eq, bytes_eq, List, length, drop, Option, Some, None, if◌then◌else◌, codes}
 use Rattle.std.specs.List.{list_any, starts_with, before_first}
 use Rattle.rip_http.specs.declared.request.Method.{Method}
 use Rattle.rip_http.specs.declared.request.Method.TheVariants.{Get, Post}

@@ -10,6 +10,7 @@ use Rattle.rip_http.specs.declared.head.Sought.{Sought}
 use Rattle.rip_http.specs.declared.head.Sought.TheVariants.{Open, Ended}
 use Rattle.rip_http.specs.declared.verdict.Judged.{Judged}
 use Rattle.rip_http.specs.declared.verdict.Judged.TheVariants.{Refused as RefusedSo, Passed}
+use Rattle.rip_http.specs.declared.request.Message.{Message}
 use Rattle.rip_http.specs.declared.request.RefusedHead.{RefusedHead}
 use Rattle.rip_http.specs.declared.stage.Front.{Front}
 use Rattle.rip_http.specs.declared.stage.Front.TheVariants.{Whole, NotYet, Refused as RefusedNow, Memory}
@@ -51,7 +52,7 @@ abbrev pub IsFront : List ℕ → Front → Type 0
 IsFront bytes (Whole n m) = IsNext bytes (takes n m) × (n ≤ length bytes)
 IsFront bytes NotYet = IsNext bytes waits
 IsFront bytes (RefusedNow refused) = (n : ℕ) × IsNext bytes (refuses n refused)
-IsFront bytes Memory = Unit {0}
+IsFront bytes Memory = (n : ℕ) × (m : Message) × IsNext bytes (takes n m)
 
 -- what a connection keeps: bytes, of which those behind the start are unread
 pub record IsConn (bytes : List ℕ) (start : ℕ) (stage : Stage) : Type 0 where

@@ -6,7 +6,6 @@ use Rattle.rip_http.specs.declared.request.Method.{Method}
 use Rattle.rip_http.specs.declared.request.Refusal.{Refusal}
 use Rattle.rip_http.specs.declared.request.Refusal.TheVariants.{Head, Fields, Path, WrongMethod, Coding, NoLength, TooLarge}
 use Rattle.rip_http.specs.declared.request.RefusedHead.{RefusedHead}
-use Rattle.rip_http.specs.declared.request.Going.{Going}
 use Rattle.rip_http.specs.declared.request.Message.{Message}
 
 -- RFC 9110 15: the status code of a refusal
@@ -52,6 +51,7 @@ IsNextAt None bytes next =
     next ≡ (if nat_le 8192 (length bytes) then refuses 8192 (record { refusal = Fields; bare = false }) else waits)
 IsNextAt (Some n) bytes next = (v : Verdict) × IsVerdict (head_at bytes n) v × (next ≡ behind bytes n v)
 
+-- what stands at the front of these bytes
 abbrev pub IsNext : List ℕ → Next → Type 0
 IsNext bytes next = IsNextAt (head_end (take 8192 bytes)) bytes next
 

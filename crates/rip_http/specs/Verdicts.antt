@@ -1,15 +1,14 @@
 -- What a head decides: that its request is refused, or where it goes.
-use Rattle.std.specs.Prelude.{◌≡◌, ℕ, ◌≤◌, ◌==◌, ◌⊎◌, Bool, true, false, bytes_eq, nat_le, List, [], ◌∷◌, length, map, Option, Some, None, Result, Ok, Err, codes}
+use Rattle.std.specs.Prelude.{◌≡◌, ℕ, ◌≤◌, ◌⊎◌, Bool, true, false, bytes_eq, nat_le, List, [], ◌∷◌, length, map, Option, Some, None, Result, Ok, Err, codes}
 use Rattle.std.specs.Option.{ok_or}
 use Rattle.httparse.specs.Grammar.{RequestHead, ReadsRequest}
 use Rattle.httparse.specs.Spans.{name_and_value}
 use Rattle.rip_http.specs.Fields.{Pair, values_of, has_host, body_length, closes}
 use Rattle.rip_http.specs.Routes.{path_of, segment_of, route_of, method_of, method_name}
-use Rattle.rip_http.specs.declared.request.Method.{Method}
 use Rattle.rip_http.specs.declared.request.Route.{Route}
 use Rattle.rip_http.specs.declared.request.Route.TheVariants.{Page, Events, Quit}
 use Rattle.rip_http.specs.declared.request.Refusal.{Refusal}
-use Rattle.rip_http.specs.declared.request.Refusal.TheVariants.{Head, Fields, Path, WrongMethod, Coding, NoLength, TooLarge}
+use Rattle.rip_http.specs.declared.request.Refusal.TheVariants.{Head, Path, WrongMethod, Coding, NoLength, TooLarge}
 use Rattle.rip_http.specs.declared.request.RefusedHead.{RefusedHead}
 use Rattle.rip_http.specs.declared.request.Going.{Going}
 
@@ -20,11 +19,12 @@ pub record Parts : Type 0 where
   pub minor : ℕ
   pub fields : List Pair
 
+-- of a head: its fields by name and value
 abbrev pub parts_of : RequestHead → Parts
 parts_of h = record { method = h.method; target = h.target; minor = h.minor; fields = map name_and_value h.fields }
 
--- one step, and the next where it does not refuse
 infixl 10 ◌>>=◌
+-- one step, and the next where it does not refuse
 abbrev pub ◌>>=◌ : {A B : Type 0} → Result A Refusal → (A → Result B Refusal) → Result B Refusal
 Ok a >>= f = f a
 Err e >>= f = Err e
@@ -63,10 +63,12 @@ pub data Verdict : Type 0 where
   Refuses : RefusedHead → Verdict
   Goes : Going → List ℕ → Verdict
 
+-- by what its parts decide
 abbrev pub verdict_by : Parts → Result Going Refusal → Verdict
 verdict_by p (Err refusal) = Refuses (record { refusal = refusal; bare = bytes_eq p.method (codes "HEAD") })
 verdict_by p (Ok going) = Goes going (segment_of p.target)
 
+-- what comes of a head with these parts
 abbrev pub verdict_of : Parts → Verdict
 verdict_of p = verdict_by p (decide p)
 

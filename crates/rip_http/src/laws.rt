@@ -1,8 +1,14 @@
-ghost use Rattle.rip_http.specs.Laws.{HeadEndIsFound, RequestsAreOne, CutsDoNotMatter, TakenStands, ComeStays};
+ghost use Rattle.rip_http.specs.Answers.{AnswersTellApart};
+ghost use Rattle.rip_http.specs.Laws.{HeadEndIsFound, NextIsOne, RequestsAreOne, CutsDoNotMatter, TakenStands, ComeStays};
 
 /// The search finds the end of a head, and nothing else.
 pub fn head_end_is_found()
     ensures { HeadEndIsFound }
+{}
+
+/// One thing stands at the front of bytes: a message, a refusal, or less than a message.
+pub fn next_is_one()
+    ensures { NextIsOne }
 {}
 
 /// A stream has one list of requests.
@@ -24,4 +30,9 @@ pub fn taken_stands()
 /// A message that has come stays, and so does a refusal, whatever comes behind it.
 pub fn come_stays()
     ensures { ComeStays }
+{}
+
+/// Two answers with the same bytes are equal, where a bare one has no body.
+pub fn answers_tell_apart()
+    ensures { AnswersTellApart }
 {}

@@ -1,4 +1,4 @@
-use Rattle.std.proofs.Common.{rules, ◌≡◌, ◌∙◌, sym, ap, refl, List, map, Bool, [], ◌∷◌, eqb, ◌||◌}
+use Rattle.std.proofs.Common.{rules, ◌≡◌, ◌∙◌, ap, refl, List, map, Bool, [], ◌∷◌, eqb, ◌||◌}
 use Rattle.std.proofs.Common.{tests}
 use Rattle.std.specs.Prelude.{codes}
 use Rattle.std.specs.List.{list_any, slice_split}

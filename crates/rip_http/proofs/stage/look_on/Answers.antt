@@ -1,4 +1,4 @@
-use Rattle.std.proofs.Common.{◌≡◌, ◌∙◌, sym, ap, Some, take}
+use Rattle.std.proofs.Common.{◌∙◌, sym, ap}
 use Rattle.rip_http.specs.Heads.{after, head_end}
 use Rattle.rip_http.specs.declared.head.Scan.TheVariants.{Before}
 use Rattle.rip_http.proofs.StageLemmas.{window_is, overlong_refuses}

@@ -1,5 +1,5 @@
 use Rattle.std.proofs.Common.{◌≡◌, ◌∙◌, sym, ap, subst, ℕ, List, Some, drop, unwrap_or}
-use Rattle.rip_http.specs.Stream.{IsNext, refuses, code_of, allowed_by}
+use Rattle.rip_http.specs.Stream.{IsNext, refuses, allowed_by}
 use Rattle.rip_http.specs.declared.request.Method.TheVariants.{Get}
 use Rattle.rip_http.specs.declared.request.RefusedHead.{RefusedHead}
 use Rattle.rip_http.proofs.StageLemmas.{refused_is, never_refused, named_by_405}

@@ -1,4 +1,4 @@
-use Rattle.std.proofs.Common.{◌≡◌, ◌∙◌, sym, ap, subst, ℕ, List, Some, drop}
+use Rattle.std.proofs.Common.{◌∙◌, sym, ap, subst, ℕ, List, drop}
 use Rattle.rip_http.specs.Stream.{IsNext, refuses}
 use Rattle.rip_http.specs.declared.request.RefusedHead.{RefusedHead}
 use Rattle.rip_http.proofs.StageLemmas.{refused_is, never_refused}
