@@ -7,8 +7,8 @@ use Rattle.std.proofs.lemmas.List.{length-map, ext_get_or, get_or-map, get_or_pa
 use Rattle.rip_dom.specs.declared.lists.Ends.{Ends}
 use Rattle.rip_dom.specs.declared.lists.Item.{Item}
 use Rattle.rip_dom.specs.Lists.{Lists, list_at, owner_at, without, with_item, first_of, last_or, item_behind, item_in_front}
-use Rattle.rip_dom.specs.Linked.{no_ends, no_item, ends_at, item_at, forward, backward, owner_of, walk, lists_of, ends_joined, items_joined, items_forward, items_backward, Has, Path, Linked, AreLinked}
-use Rattle.rip_dom.proofs.Paths.{IsAt, path-same, path-first, path-last, path-behind, path-front, without-absent}
+use Rattle.rip_dom.specs.Linked.{no_ends, no_item, ends_at, item_at, forward, backward, owner_of, walk, lists_of, ends_joined, items_joined, items_forward, items_backward, Has, Path, Linked, AreLinked, AreKnown, AreListed}
+use Rattle.rip_dom.proofs.Paths.{IsAt, path-same, path-first, path-last, path-behind, path-front, path-differ, without-absent}
 use Rattle.rip_dom.proofs.Links.{IsWithin, Joins, joins, removed, inserted, view-linked, relinked, owners-at, has-list, length-ends_joined, length-items_joined, owner-joined, front-within, behind-within, within}
 
 abbrev pub view : ℕ → List (List ℕ) → List (Option ℕ) → Lists
@@ -388,3 +388,14 @@ item-front E I c p limit er ir i a e o =
 pub item-behind : (E : List Ends) (I : List Item) (c p limit er ir : ℕ) (i : Item) → AreLinked E I limit er ir → i ≡ item_at I c → i.owner ≡ Some p → IsWithin i.next (length I)
 item-behind E I c p limit er ir i a e o =
     subst (λ (j : Item). IsWithin j.next (length I)) (sym e) (behind-within E I (lists_of E I) p c a.links (a.links.listed p c (ap (λ (i : Item). i.owner) (sym e) ∙ o)))
+
+-- each item of a list is one of the items
+pub items-known : (E : List Ends) (I : List Item) (limit er ir : ℕ) → AreLinked E I limit er ir → AreKnown (view limit (lists_of E I) (map (λ i. i.owner) I))
+items-known E I limit er ir a = λ p m h. subst (λ k. m < k) (sym (length-map I (λ i. i.owner))) (within I m p (a.links.owned p m h))
+
+pub items-listed : (E : List Ends) (I : List Item) (limit er ir : ℕ) → AreLinked E I limit er ir → AreListed (view limit (lists_of E I) (map (λ i. i.owner) I))
+items-listed E I limit er ir a = record {
+  owned = λ p n h. owners-at I n ∙ a.links.owned p n h;
+  listed = λ p n h. a.links.listed p n (sym (owners-at I n) ∙ h);
+  once = λ p. path-differ (forward E I p) (backward E I p) None (list_at (lists_of E I) p) (a.links.paths p);
+}

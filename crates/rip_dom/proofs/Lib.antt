@@ -1,6 +1,10 @@
 pub mod Calls
+pub mod DepthLemmas
 pub mod DomLemmas
 pub mod Links
+pub mod NameLemmas
+pub mod OpeningLemmas
 pub mod Paths
+pub mod RemovalLemmas
 pub mod TreeLemmas
 pub mod WalkLemmas

@@ -3,7 +3,7 @@ use Rattle.std.proofs.Common.{◌≡◌, ◌≢◌, ℕ, zero, suc, ◌+◌, ◌
 use Rattle.std.proofs.lemmas.Bool.{cases_eq, cond-true, cond-false, eq-eqb, ne_eqb}
 use Rattle.std.proofs.lemmas.Option.{same_Some, none-some}
 use Rattle.rip_dom.specs.Lists.{without, is_place, with_item, first_of, last_or, item_behind, item_in_front}
-use Rattle.rip_dom.specs.Linked.{Has, Apart, Path}
+use Rattle.rip_dom.specs.Linked.{Has, Differ, Apart, Path}
 
 pub without-same : (c n : ℕ) (ns : List ℕ) → n ≡ c → without c (n ∷ ns) ≡ without c ns
 without-same c n ns e = cond-true (n == c) (without c ns) (n ∷ without c ns) (eq-eqb n c e)
@@ -240,11 +240,6 @@ path-front F B x c (n ∷ ns) p h =
 
 -- HOW MANY
 
--- no item is in the list twice
-abbrev pub Differ : List ℕ → Type 0
-Differ [] = Unit {0}
-Differ (n ∷ ns) = (Has n ns → ⊥) × Differ ns
-
 pub path-differ : (F B : Links) (x : Option ℕ) (ns : List ℕ) → Path F B x ns → Differ ns
 path-differ F B x [] p = tt
 path-differ F B x (n ∷ ns) p = (λ h. path-apart F B (Some n) ns p.3 n h refl, path-differ F B (Some n) ns p.3)
@@ -281,3 +276,19 @@ few-below (suc k) ns d b =
   where
     below : (m : ℕ) → Has m ns × (m ≡ k → ⊥) → m < k
     below m h = let l : m < suc k = b m h.0 in let n : m ≢ k = h.1 in omega (arith, l, n)
+
+-- what is put before a place is read before it
+pub put-read : (ns : List ℕ) (c r : ℕ) → (Has c ns → ⊥) → Has r ns → item_behind c (with_item c (Some r) ns) ≡ Some r
+put-read [] c r o h = absurd h
+put-read (n ∷ ns) c r o h =
+    elim (place_cases (Some r) n) [
+      | inl e ↦
+          ap (item_behind c) (with_item-here c (Some r) n ns e.1)
+          ∙ cond-true (c == c) (Some n) (item_behind c (n ∷ ns)) (eq-eqb c c refl)
+          ∙ sym e.0
+      | inr e ↦
+          let g : Has r ns = elim h [ inl f ↦ absurd (e.0 (ap (λ k. Some k) f)) | inr g ↦ g ] in
+          ap (item_behind c) (with_item-on c (Some r) n ns e.1)
+          ∙ cond-false (n == c) (first_of (with_item c (Some r) ns)) (item_behind c (with_item c (Some r) ns)) (ne_eqb n c (λ f. o (inl (sym f))))
+          ∙ put-read ns c r (λ k. o (inr k)) g
+    ]

@@ -4,20 +4,21 @@ use Rattle.std.specs.Prelude.{IfSome, slice_index_or, option_and_then, slice_set
 use Rattle.std.specs.List.{range_with_len}
 use Rattle.std.proofs.lemmas.Bool.{both_ways, cases_eq, cases_lt, cond-true, cond-false, eq-eqb, ne_eqb}
 use Rattle.std.proofs.lemmas.Option.{same_Some, none-some}
-use Rattle.std.proofs.lemmas.List.{length-map, ext_get_or, get_or-map, get_or_past, get_or_append_left, get_or_push, length_push}
+use Rattle.std.proofs.lemmas.List.{length-map, ext_get_or, get_or-map, get_or_past, get_or_append_left, get_or_push, length_push, map_push}
 use Rattle.std.proofs.lemmas.List.FromFn.{length-range_with_len, get_or-map-range_with_len}
 use Rattle.rip_values.specs.declared.page.NodeKind.{NodeKind}
 use Rattle.rip_values.specs.declared.value.Span.{Span}
 use Rattle.rip_dom.specs.declared.dom.NodeRecord.{NodeRecord}
 use Rattle.rip_dom.specs.Lists.{Lists, list_at, owner_at, without, with_item, is_place, item_behind, item_in_front}
-use Rattle.rip_dom.specs.Tree.{Node, Tree, no_node, node_at, parent_of, children_of, next_of, previous_of, each, taken_out, put_in, with_node, bare_node, is_child}
-use Rattle.rip_dom.specs.Document.{no_record, record_at, pair_at, node_of, tree_of, IsDocument}
+use Rattle.rip_dom.specs.Tree.{Node, Tree, no_node, node_at, parent_of, children_of, next_of, previous_of, each, taken_out, put_in, with_node, bare_node, is_child, with_attribute}
+use Rattle.rip_dom.specs.Linked.{Has, AreKnown}
+use Rattle.rip_dom.specs.Document.{no_span, no_record, record_at, pair_at, node_of, tree_of, IsDocument}
 use Rattle.rip_dom.proofs.Paths.{place_cases}
 
-abbrev make : NodeRecord → List (Span × Span) → Option ℕ → List ℕ → Node
+abbrev pub make : NodeRecord → List (Span × Span) → Option ℕ → List ℕ → Node
 make r a o c = record { kind = r.kind; name = r.name; text = r.text; attributes = a; parent = o; children = c }
 
-same-node : (r s : NodeRecord) (a b : List (Span × Span)) (o p : Option ℕ) (c d : List ℕ) → r ≡ s → a ≡ b → o ≡ p → c ≡ d → make r a o c ≡ make s b p d
+pub same-node : (r s : NodeRecord) (a b : List (Span × Span)) (o p : Option ℕ) (c d : List ℕ) → r ≡ s → a ≡ b → o ≡ p → c ≡ d → make r a o c ≡ make s b p d
 same-node r s a b o p c d e f g h = ap₂ (λ r a. make r a o c) e f ∙ ap₂ (λ o c. make s b o c) g h
 
 -- each record has its lists
@@ -29,7 +30,7 @@ pub record Fits (R : List NodeRecord) (C A : Lists) : Type 0 where
 pub fits : {lim rr pr : ℕ} {R : List NodeRecord} {C A : Lists} {P : List (Span × Span)} → IsDocument lim R C A P rr pr → Fits R C A
 fits d = record { lists = d.child_lists; owners = d.child_items; attributes = d.attribute_lists }
 
-length-nodes : (f : ℕ → Node) (k : ℕ) → length (map f (range_with_len 0 k)) ≡ k
+pub length-nodes : (f : ℕ → Node) (k : ℕ) → length (map f (range_with_len 0 k)) ≡ k
 length-nodes f k = length-map (range_with_len 0 k) f ∙ length-range_with_len 0 k
 
 nodes-at : (f : ℕ → Node) (k n : ℕ) → n < k → get_or (map f (range_with_len 0 k)) n no_node ≡ f n
@@ -100,7 +101,15 @@ moved lim R C D A P g f e =
     (map-same (node_of R D A P) (λ n. g n (node_at (tree_of lim R C A P) n)) (λ n. e n ∙ ap (g n) (sym (node-at lim R C A P f n))) (range_with_len 0 (length R))
     ∙ ap (λ k. map (λ n. g n (node_at (tree_of lim R C A P) n)) (range_with_len 0 k)) (sym (made lim R C A P)))
 
-list-without : (c : ℕ) (ls : List (List ℕ)) (q : ℕ) → list_at (map (without c) ls) q ≡ without c (list_at ls q)
+-- the same for the lists of attributes
+pub changed : (lim : ℕ) (R : List NodeRecord) (C A B : Lists) (P : List (Span × Span)) (g : ℕ → Node → Node) → Fits R C A
+    → ((n : ℕ) → node_of R C B P n ≡ g n (node_of R C A P n)) → tree_of lim R C B P ≡ each g (tree_of lim R C A P)
+changed lim R C A B P g f e =
+    ap (tree lim (length R + length P))
+    (map-same (node_of R C B P) (λ n. g n (node_at (tree_of lim R C A P) n)) (λ n. e n ∙ ap (g n) (sym (node-at lim R C A P f n))) (range_with_len 0 (length R))
+    ∙ ap (λ k. map (λ n. g n (node_at (tree_of lim R C A P) n)) (range_with_len 0 k)) (sym (made lim R C A P)))
+
+pub list-without : (c : ℕ) (ls : List (List ℕ)) (q : ℕ) → list_at (map (without c) ls) q ≡ without c (list_at ls q)
 list-without c ls q =
     elim (cases_lt q (length ls)) [
       | inl h ↦ get_or-map (without c) ls q [] [] h
@@ -205,6 +214,13 @@ one_more C = record C { lists = C.lists ++ [] ∷ []; owners = C.owners ++ None 
 abbrev pub list_more : Lists → Lists
 list_more A = record A { lists = A.lists ++ [] ∷ [] }
 
+pub fits-more : (R : List NodeRecord) (C A : Lists) (r : NodeRecord) → Fits R C A → Fits (R ++ r ∷ []) (one_more C) (list_more A)
+fits-more R C A r f = record {
+  lists = length_push C.lists [] ∙ ap (λ k. k + 1) f.lists ∙ sym (length_push R r);
+  owners = length_push C.owners None ∙ ap (λ k. k + 1) f.owners ∙ sym (length_push R r);
+  attributes = length_push A.lists [] ∙ ap (λ k. k + 1) f.attributes ∙ sym (length_push R r);
+}
+
 node-read : (R : List NodeRecord) (C A : Lists) (P : List (Span × Span)) (r : NodeRecord) → (i : ℕ) → record_at (R ++ r ∷ []) i ≡ record_at R i → node_of (R ++ r ∷ []) (one_more C) (list_more A) P i ≡ node_of R C A P i
 node-read R C A P r i e =
     same-node (record_at (R ++ r ∷ []) i) (record_at R i) (map (pair_at P) (list_at (A.lists ++ [] ∷ []) i)) (map (pair_at P) (list_at A.lists i))
@@ -247,3 +263,62 @@ node-more lim R C A P r f = ap₂ (tree lim) used nodes
         ∙ ap₂ (λ xs x. xs ++ x ∷ [])
         (map-range-same (node_of (R ++ r ∷ []) (one_more C) (list_more A) P) (node_of R C A P) 0 (length R) (λ n _ h. node-read R C A P r n (get_or_append_left R (r ∷ []) no_record n (omega (arith, h)))))
         (node-new R C A P r f (0 + length R) (omega arith))
+
+-- ONE ATTRIBUTE MORE
+
+with_item-last : (c : ℕ) (ns : List ℕ) → with_item c None ns ≡ ns ++ c ∷ []
+with_item-last c [] = refl
+with_item-last c (n ∷ ns) = ap (λ ms. n ∷ ms) (with_item-last c ns)
+
+pairs-same : (P : List (Span × Span)) (v : Span × Span) (ns : List ℕ) → ((m : ℕ) → Has m ns → m < length P) → map (pair_at (P ++ v ∷ [])) ns ≡ map (pair_at P) ns
+pairs-same P v [] h = refl
+pairs-same P v (n ∷ ns) h = ap₂ (λ x xs. x ∷ xs) (get_or_append_left P (v ∷ []) (no_span, no_span) n (h n (inl refl))) (pairs-same P v ns (λ m g. h m (inr g)))
+
+abbrev with_pair : Lists → ℕ → ℕ → Lists
+with_pair A n k = with_item_in (record A { owners = A.owners ++ None ∷ [] }) n k None
+
+abbrev with_value_at : ℕ → Span × Span → ℕ → Node → Node
+with_value_at n v m x = record x { attributes = cond (m == n) (x.attributes ++ v ∷ []) x.attributes }
+
+pub attribute-more : (lim : ℕ) (R : List NodeRecord) (C A : Lists) (P : List (Span × Span)) (n : ℕ) (v : Span × Span) → Fits R C A → n < length R → AreKnown A → length A.owners ≡ length P
+    → tree_of lim R C (with_pair A n (length P)) (P ++ v ∷ []) ≡ with_attribute (tree_of lim R C A P) n v.0 v.1
+attribute-more lim R C A P n v f h known o = ap₂ (tree lim) used nodes
+  where
+    used : length R + length (P ++ v ∷ []) ≡ length R + length P + 1
+    used = omega (arith, length_push P v)
+
+    below : (q m : ℕ) → Has m (list_at A.lists q) → m < length P
+    below q m g = subst (λ k. m < k) o (known q m g)
+
+    mine : map (pair_at (P ++ v ∷ [])) (with_item (length P) None (list_at A.lists n)) ≡ map (pair_at P) (list_at A.lists n) ++ v ∷ []
+    mine =
+        ap (map (pair_at (P ++ v ∷ []))) (with_item-last (length P) (list_at A.lists n))
+        ∙ map_push (pair_at (P ++ v ∷ [])) (list_at A.lists n) (length P)
+        ∙ ap₂ (λ xs x. xs ++ x ∷ []) (pairs-same P v (list_at A.lists n) (below n)) (get_or_push P v (no_span, no_span) (length P) refl)
+
+    pairs : (m : ℕ) → map (pair_at (P ++ v ∷ [])) (list_at (slice_set A.lists n (with_item (length P) None (list_at A.lists n))) m) ≡ cond (m == n) (map (pair_at P) (list_at A.lists m) ++ v ∷ []) (map (pair_at P) (list_at A.lists m))
+    pairs m =
+        elim (cases_eq m n) [
+          | inl e ↦ subst (λ m. map (pair_at (P ++ v ∷ [])) (list_at (slice_set A.lists n (with_item (length P) None (list_at A.lists n))) m) ≡ cond (m == n) (map (pair_at P) (list_at A.lists m) ++ v ∷ []) (map (pair_at P) (list_at A.lists m))) (sym e)
+              (ap (map (pair_at (P ++ v ∷ []))) (get_or-set_same A.lists n (with_item (length P) None (list_at A.lists n)) [] (subst (λ k. n < k) (sym f.attributes) h))
+              ∙ mine ∙ sym (cond-true (n == n) (map (pair_at P) (list_at A.lists n) ++ v ∷ []) (map (pair_at P) (list_at A.lists n)) (eq-eqb n n refl)))
+          | inr e ↦
+              ap (map (pair_at (P ++ v ∷ []))) (get_or-set_other A.lists n m (with_item (length P) None (list_at A.lists n)) [] e)
+              ∙ pairs-same P v (list_at A.lists m) (below m)
+              ∙ sym (cond-false (m == n) (map (pair_at P) (list_at A.lists m) ++ v ∷ []) (map (pair_at P) (list_at A.lists m)) (ne_eqb m n e))
+        ]
+
+    each-node : (m : ℕ) → node_of R C (with_pair A n (length P)) (P ++ v ∷ []) m ≡ with_value_at n v m (node_of R C A P m)
+    each-node m =
+        same-node (record_at R m) (record_at R m) (map (pair_at (P ++ v ∷ [])) (list_at (slice_set A.lists n (with_item (length P) None (list_at A.lists n))) m))
+        (cond (m == n) (map (pair_at P) (list_at A.lists m) ++ v ∷ []) (map (pair_at P) (list_at A.lists m)))
+        (owner_at C.owners m) (owner_at C.owners m) (list_at C.lists m) (list_at C.lists m) refl (pairs m) refl refl
+
+    nodes : map (node_of R C (with_pair A n (length P)) (P ++ v ∷ [])) (range_with_len 0 (length R)) ≡ (each (with_value_at n v) (tree_of lim R C A P)).nodes
+    nodes =
+        map-same (node_of R C (with_pair A n (length P)) (P ++ v ∷ [])) (λ m. with_value_at n v m (node_at (tree_of lim R C A P) m))
+        (λ m. each-node m ∙ ap (with_value_at n v m) (sym (node-at lim R C A P f m))) (range_with_len 0 (length R))
+        ∙ ap (λ k. map (λ m. with_value_at n v m (node_at (tree_of lim R C A P) m)) (range_with_len 0 k)) (sym (made lim R C A P))
+
+pub length-with_attribute : (t : Tree) (n : ℕ) (name value : Span) → length (with_attribute t n name value).nodes ≡ length t.nodes
+length-with_attribute t n name value = length-nodes (λ m. with_value_at n (name, value) m (node_at t m)) (length t.nodes)

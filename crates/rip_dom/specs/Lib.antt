@@ -1,6 +1,9 @@
 pub mod Answers
 pub mod Document
+pub mod Laws
 pub mod Linked
 pub mod Lists
+pub mod Names
+pub mod Opening
 pub mod Tree
 pub mod Walks

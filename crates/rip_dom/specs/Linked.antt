@@ -2,7 +2,7 @@
 use Rattle.std.specs.Prelude.{◌≡◌, ◌≢◌, ℕ, zero, suc, ◌<◌, ◌≤◌, ◌⊎◌, Option, None, Some, List, [], ◌∷◌, length, map, slice_index_or, slice_set}
 use Rattle.rip_dom.specs.declared.lists.Ends.{Ends}
 use Rattle.rip_dom.specs.declared.lists.Item.{Item}
-use Rattle.rip_dom.specs.Lists.{list_at}
+use Rattle.rip_dom.specs.Lists.{Lists, list_at, owner_at}
 
 -- the ends of an empty list
 abbrev pub no_ends : Ends
@@ -12,9 +12,11 @@ no_ends = record { first = None; last = None }
 abbrev pub no_item : Item
 no_item = record { owner = None; next = None; previous = None }
 
+-- the ends of the list of this number
 abbrev pub ends_at : List Ends → ℕ → Ends
 ends_at ends p = slice_index_or ends p no_ends
 
+-- the item of this number
 abbrev pub item_at : List Item → ℕ → Item
 item_at items n = slice_index_or items n no_item
 
@@ -47,6 +49,7 @@ abbrev pub ends_forward : List Ends → ℕ → Option ℕ → Option ℕ → Li
 ends_forward ends p None to = slice_set ends p (record (ends_at ends p) { first = to })
 ends_forward ends p (Some n) to = ends
 
+-- the ends of the lists when what comes before this place of a list is another
 abbrev pub ends_backward : List Ends → ℕ → Option ℕ → Option ℕ → List Ends
 ends_backward ends p None to = slice_set ends p (record (ends_at ends p) { last = to })
 ends_backward ends p (Some n) to = ends
@@ -56,14 +59,16 @@ abbrev pub items_forward : List Item → Option ℕ → Option ℕ → List Item
 items_forward items None to = items
 items_forward items (Some n) to = slice_set items n (record (item_at items n) { next = to })
 
+-- the items when what comes before this place is another
 abbrev pub items_backward : List Item → Option ℕ → Option ℕ → List Item
 items_backward items None to = items
 items_backward items (Some n) to = slice_set items n (record (item_at items n) { previous = to })
 
--- ends and items when these two are neighbours in the list
+-- the ends of the lists when these two are neighbours in the list
 abbrev pub ends_joined : List Ends → ℕ → Option ℕ → Option ℕ → List Ends
 ends_joined ends p front behind = ends_backward (ends_forward ends p front behind) p behind front
 
+-- the items when these two are neighbours
 abbrev pub items_joined : List Item → Option ℕ → Option ℕ → List Item
 items_joined items front behind = items_backward (items_forward items front behind) behind front
 
@@ -71,6 +76,11 @@ items_joined items front behind = items_backward (items_forward items front behi
 abbrev pub Has : ℕ → List ℕ → Type 0
 Has c [] = ⊥
 Has c (n ∷ ns) = (c ≡ n) ⊎ Has c ns
+
+-- no item is in the list twice
+abbrev pub Differ : List ℕ → Type 0
+Differ [] = Unit {0}
+Differ (n ∷ ns) = (Has n ns → ⊥) × Differ ns
 
 -- the item from which a way begins is none of the list
 abbrev pub Apart : Option ℕ → List ℕ → Type 0
@@ -94,3 +104,13 @@ pub record AreLinked (ends : List Ends) (items : List Item) (limit ends_room ite
   pub few_items : length items ≤ limit
   pub ends_reserved : limit ≤ ends_room
   pub items_reserved : limit ≤ items_room
+
+-- each item of a list is one of the items
+abbrev pub AreKnown : Lists → Type 0
+AreKnown l = (p m : ℕ) → Has m (list_at l.lists p) → m < length l.owners
+
+-- what linked lists keep of lists and items: an item is in a list exactly where that is its own, and there once
+pub record AreListed (l : Lists) : Type 0 where
+  pub owned : (p n : ℕ) → Has n (list_at l.lists p) → owner_at l.owners n ≡ Some p
+  pub listed : (p n : ℕ) → owner_at l.owners n ≡ Some p → Has n (list_at l.lists p)
+  pub once : (p : ℕ) → Differ (list_at l.lists p)

@@ -31,17 +31,20 @@ no_node = record { kind = Text; name = None; text = None; attributes = []; paren
 abbrev pub node_at : Tree → ℕ → Node
 node_at t n = slice_index_or t.nodes n no_node
 
+-- the node's parent, or none (1.2, parentNode)
 abbrev pub parent_of : Tree → ℕ → Option ℕ
 parent_of t n = (node_at t n).parent
 
+-- the node's children, in their order (1.2, childNodes)
 abbrev pub children_of : Tree → ℕ → List ℕ
 children_of t n = (node_at t n).children
 
--- the next sibling (1.2, nextSibling), and the previous one
+-- the next sibling of a node that has this parent (1.2, nextSibling)
 abbrev pub next_of : Tree → ℕ → Option ℕ → Option ℕ
 next_of t n None = None
 next_of t n (Some p) = item_behind n (children_of t p)
 
+-- the previous sibling (1.2, previousSibling)
 abbrev pub previous_of : Tree → ℕ → Option ℕ → Option ℕ
 previous_of t n None = None
 previous_of t n (Some p) = item_in_front None n (children_of t p)
@@ -58,18 +61,21 @@ is_above t c n = list_any (λ m. m == c) (way_up (length t.nodes) t (Some n))
 
 -- KINDS
 
+-- the kind is that of the document
 abbrev pub is_document : NodeKind → Bool
 is_document Document = true
 is_document Element = false
 is_document Text = false
 is_document Comment = false
 
+-- the kind is that of elements
 abbrev pub is_element : NodeKind → Bool
 is_element Document = false
 is_element Element = true
 is_element Text = false
 is_element Comment = false
 
+-- the kind is that of texts
 abbrev pub is_text : NodeKind → Bool
 is_text Document = false
 is_text Element = false
@@ -138,9 +144,11 @@ is_child t p (Some r) = is_place (parent_of t r) p
 abbrev pub insert_code : Tree → ℕ → ℕ → Option ℕ → Option ℕ
 insert_code t p c at = if is_barred t p c None then Some 3 else if is_child t p at then None else Some 8
 
+-- the same for a replacement
 abbrev pub replace_code : Tree → ℕ → ℕ → ℕ → Option ℕ
 replace_code t p c o = if is_barred t p c (Some o) then Some 3 else if is_child t p (Some o) then None else Some 8
 
+-- a removal is refused only where the node is no child of the parent
 abbrev pub remove_code : Tree → ℕ → ℕ → Option ℕ
 remove_code t p c = if is_child t p (Some c) then None else Some 8
 
@@ -157,3 +165,9 @@ with_node t kind name text = record t { used = t.used + 1; nodes = t.nodes ++ ba
 -- a node costs 1; it is not made where that would pass the limit
 abbrev pub new_node : Tree → NodeKind → Option Span → Option Span → Option (ℕ × Tree)
 new_node t kind name text = if nat_lt t.used t.limit then Some (length t.nodes, with_node t kind name text) else None
+
+-- an attribute costs 1: the tree in which this node has an attribute more, behind its others
+abbrev pub with_attribute : Tree → ℕ → Span → Span → Tree
+with_attribute t n name value = record (each (λ m x. record x {
+  attributes = if m == n then x.attributes ++ (name, value) ∷ [] else x.attributes;
+}) t) { used = t.used + 1 }

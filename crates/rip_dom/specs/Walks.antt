@@ -1,3 +1,4 @@
+-- What loops along links look for.
 use Rattle.std.specs.Prelude.{ℕ, Bool, not, ◌==◌, ◌&&◌, Option, List}
 use Rattle.rip_dom.specs.declared.dom.NodeRecord.{NodeRecord}
 use Rattle.rip_dom.specs.Document.{record_at}

@@ -1,11 +1,12 @@
-ghost use Rattle.std.specs.Prelude.{◌≡◌, ◌<◌, ◌≤◌, [], true, false, IfOk, IfSome, length};
-ghost use Rattle.rip_dom.specs.Tree.{node_at, parent_of, children_of, next_of, previous_of, has_other_element, is_above, is_barred, is_child, insert_code, replace_code, remove_code, inserted, put_in, replaced, taken_out, new_node};
+ghost use Rattle.std.specs.Prelude.{◌≡◌, ◌<◌, ◌≤◌, ℕ, [], true, false, IfOk, IfSome, length, slice_get};
+ghost use Rattle.rip_dom.specs.Tree.{node_at, parent_of, children_of, next_of, previous_of, has_other_element, is_above, is_barred, is_child, insert_code, replace_code, remove_code, inserted, put_in, replaced, taken_out, new_node, with_attribute, with_node};
 ghost use Rattle.rip_dom.specs.Lists.{first_of, is_place, last_or};
+ghost use Rattle.rip_dom.specs.Laws.{Agree, HasNoCycle};
 ghost use Rattle.rip_dom.specs.Answers.{Makes, Moves};
 
 use crate::kinds::{has_children, is_document, is_element, is_text};
 use crate::lists::LinkedLists;
-use crate::walks::{is_place, record_at};
+use crate::walks::{is_place, pair_at, record_at};
 use rip_values::{Limit, NoMemory, NodeKind, Refused, Span};
 use std::alloc::Global;
 use std::marker::Model;
@@ -28,11 +29,11 @@ pub struct NodeRecord {
 /// call but the maker takes memory.
 #[derive(Debug, Drop)]
 pub struct Dom {
-    limit: u32,
-    nodes: Vec<NodeRecord>,
-    children: LinkedLists,
-    attributes: LinkedLists,
-    pairs: Vec<(Span, Span)>,
+    pub(crate) limit: u32,
+    pub(crate) nodes: Vec<NodeRecord>,
+    pub(crate) children: LinkedLists,
+    pub(crate) attributes: LinkedLists,
+    pub(crate) pairs: Vec<(Span, Span)>,
 }
 
 impl Model for Dom {
@@ -50,7 +51,7 @@ impl Model for Dom {
 
 impl Dom {
     // A document without any node, and the room for so many nodes and attributes.
-    fn empty(alloc: Global, limit: u32) -> Result<Dom, NoMemory>
+    pub(crate) fn empty(alloc: Global, limit: u32) -> Result<Dom, NoMemory>
         ensures { IfOk result (λ dom. dom ≡ record { limit = limit; used = 0; nodes = [] }) }
     {
         Ok(Dom {
@@ -133,6 +134,16 @@ impl Dom {
         record_at(&self.nodes, n).text
     }
 
+    /// The name and the value of the attribute at this place, in the order of making.
+    pub fn attribute_at(&self, n: u32, place: u32) -> Option<(Span, Span)>
+        ensures { result ≡ slice_get (node_at self.now n).attributes place }
+    {
+        match self.attributes.at_place(n, place) {
+            Some(number) => Some(pair_at(&self.pairs, number)),
+            None => None,
+        }
+    }
+
     /// A new node with this text, which stands nowhere yet.
     pub fn create_text(&mut self, alloc: Global, text: Span) -> Result<u32, Refused>
         ensures { Makes (new_node self.old NodeKind.Text None (Some text)) self.old result self.new }
@@ -145,18 +156,40 @@ impl Dom {
     }
 
     // A new node of this record, which stands nowhere yet.
-    fn add_node(&mut self, record: NodeRecord) -> Result<u32, Refused>
-        ensures { Makes (new_node self.old record.kind record.name record.text) self.old result self.new }
+    pub(crate) fn add_node(&mut self, node: NodeRecord) -> Result<u32, Refused>
+        ensures { Makes (new_node self.old node.kind node.name node.text) self.old result self.new }
     {
         if self.nodes.len() + self.pairs.len() >= self.limit as usize {
             return Err(Refused::Limit(Limit::Nodes));
         }
+        Ok(self.push_node(node))
+    }
+
+    // The same, where the limit is known to leave room.
+    pub(crate) fn push_node(&mut self, node: NodeRecord) -> u32
+        requires { self.old.used < self.old.limit }
+        ensures number { result ≡ length self.old.nodes }
+        ensures fresh { (m : ℕ) → parent_of self.new m ≡ Some result → ⊥ }
+        ensures made { self.new ≡ with_node self.old node.kind node.name node.text }
+    {
         let number = self.nodes.len() as u32;
-        self.nodes.push_reserved(record);
+        self.nodes.push_reserved(node);
         self.children.add_list();
         self.children.add_item();
         self.attributes.add_list();
-        Ok(number)
+        number
+    }
+
+    // An attribute more, behind the others of the node.
+    pub(crate) fn push_attribute(&mut self, n: u32, name: Span, value: Span)
+        requires node { n < length self.old.nodes }
+        requires room { self.old.used < self.old.limit }
+        ensures { self.new ≡ with_attribute self.old n name value }
+    {
+        let number = self.pairs.len() as u32;
+        self.pairs.push_reserved((name, value));
+        self.attributes.add_item();
+        self.attributes.insert(n, number, None);
     }
 
     /// Puts the child below the parent, before the child at the place, or behind all where no place is given. It leaves
@@ -185,8 +218,8 @@ impl Dom {
         requires parent { parent < length self.old.nodes }
         requires child { new_child < length self.old.nodes }
         requires old { old < length self.old.nodes }
-        ensures { Moves (replace_code self.old parent new_child old) (replaced self.old parent new_child old)
-            self.old result self.new }
+        ensures { Moves (replace_code self.old parent new_child old)
+            (replaced self.old parent new_child old) self.old result self.new }
     {
         if self.is_barred(parent, new_child, Some(old)) {
             return Err(HIERARCHY_REQUEST);
@@ -215,11 +248,26 @@ impl Dom {
         Ok(())
     }
 
-    fn put_in(&mut self, parent: u32, child: u32, at: Option<u32>)
+    /// The children of a node are the nodes whose parent it is, each once.
+    pub fn parents_and_children_agree(&self)
+        ensures { Agree self.now }
+    {
+        self.children.are_listed();
+    }
+
+    /// No node is its own ancestor.
+    pub fn has_no_cycle(&self)
+        ensures { HasNoCycle self.now }
+    {
+        let _children = &self.children;
+    }
+
+    pub(crate) fn put_in(&mut self, parent: u32, child: u32, at: Option<u32>)
         requires parent { parent < length self.old.nodes }
         requires child { child < length self.old.nodes }
         requires at { is_child self.old parent at ≡ true }
         requires other { is_place at child ≡ false }
+        requires below { is_above self.old child parent ≡ false }
         ensures { self.new ≡ put_in self.old parent child at }
     {
         self.children.remove(child);

@@ -1,6 +1,6 @@
 ghost use Rattle.std.specs.Prelude.{◌≡◌, ◌<◌, ◌∷◌, ◌++◌, [], IfOk, IfSome, IsSome, length, map, slice_set, option_and_then, vec_capacity};
 ghost use Rattle.rip_dom.specs.Lists.{list_at, owner_at, without, with_item, first_of, last_or, item_behind, item_in_front};
-ghost use Rattle.rip_dom.specs.Linked.{ends_at, item_at, backward, ends_joined, items_joined};
+ghost use Rattle.rip_dom.specs.Linked.{AreKnown, AreListed, ends_at, item_at, backward, ends_joined, items_joined};
 
 use rip_values::NoMemory;
 use std::alloc::Global;
@@ -73,7 +73,8 @@ impl LinkedLists {
     /// One item more, which stands in no list.
     pub fn add_item(&mut self)
         requires { length self.old.owners < self.old.limit }
-        ensures { self.new ≡ record self.old { owners = self.old.owners ++ None ∷ [] } }
+        ensures more { self.new ≡ record self.old { owners = self.old.owners ++ None ∷ [] } }
+        ensures known { AreKnown self.old }
     {
         self.items.push_reserved(Item {
             owner: None,
@@ -125,6 +126,13 @@ impl LinkedLists {
             Some(_) => found.previous,
             None => None,
         }
+    }
+
+    /// Each item is in the list in which it stands, and in no other.
+    pub fn are_listed(&self)
+        ensures { AreListed self.now }
+    {
+        let _ends = &self.ends;
     }
 
     /// Takes the item out of the list in which it stands, if it stands in one.

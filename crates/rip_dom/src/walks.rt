@@ -1,13 +1,13 @@
-ghost use Rattle.std.specs.Prelude.{◌≡◌, ◌==◌, ◌&&◌, ◌||◌, not, slice_index_or};
+ghost use Rattle.std.specs.Prelude.{◌≡◌, ◌==◌, ◌&&◌, ◌||◌, not, slice_get};
 ghost use Rattle.std.specs.List.{list_any};
-ghost use Rattle.rip_dom.specs.Document.{record_at};
+ghost use Rattle.rip_dom.specs.Document.{pair_at, record_at};
 ghost use Rattle.rip_dom.specs.Lists.{list_at, is_place};
 ghost use Rattle.rip_dom.specs.Walks.{is_other_element};
 
 use crate::dom::NodeRecord;
 use crate::kinds::is_element;
 use crate::lists::{LinkedLists, ends_at, item_at};
-use rip_values::NodeKind;
+use rip_values::{NodeKind, Span};
 
 /// The record of this number; past the last it tells nothing.
 pub(crate) fn record_at(records: &Vec<NodeRecord>, n: u32) -> NodeRecord
@@ -48,6 +48,31 @@ impl LinkedLists {
             }
         }
         false
+    }
+
+    /// The item at this place of the list.
+    pub fn at_place(&self, list: u32, place: u32) -> Option<u32>
+        ensures { result ≡ slice_get (list_at self.now.lists list) place }
+    {
+        let mut at = ends_at(&self.ends, list).first;
+        for _i in 0..place {
+            match at {
+                Some(n) => at = item_at(&self.items, n).next,
+                None => return None,
+            }
+        }
+        at
+    }
+}
+
+/// The name and the value of the attribute of this number; past the last they are empty.
+pub(crate) fn pair_at(pairs: &Vec<(Span, Span)>, n: u32) -> (Span, Span)
+    ensures { result ≡ pair_at pairs.now.items n }
+{
+    let empty = Span { start: 0, count: 0 };
+    match pairs.get(n as usize) {
+        Some(found) => *found,
+        None => (empty, empty),
     }
 }
 

@@ -1,10 +1,10 @@
-use Rattle.std.proofs.Common.{◌≡◌, ◌<◌, ◌∙◌, ap, sym, subst, length, None, Some, true, length-set}
+use Rattle.std.proofs.Common.{◌≡◌, ◌<◌, ◌∙◌, ap, sym, subst, length, None, Some, true, false, length-set}
 use Rattle.std.specs.Prelude.{IfSome}
 use Rattle.std.proofs.lemmas.List.{length-map}
 use Rattle.rip_dom.specs.Lists.{Lists, owner_at, without}
-use Rattle.rip_dom.specs.Tree.{Tree, is_child}
+use Rattle.rip_dom.specs.Tree.{Tree, is_child, is_above}
 use Rattle.rip_dom.proofs.TreeLemmas.{fits, fits-without, with_item_in, free, place-stands}
-use Rattle.rip_dom.proofs.DomLemmas.{made-below, document-without, document-with, into-tree}
+use Rattle.rip_dom.proofs.DomLemmas.{made-below, document-with, into-tree}
 use Rattle.rip_dom.proofs.dom.Dom.put_in.Goals as goal
 
 pub insert-requires-clause-list : goal.insert-requires-clause-list
@@ -26,7 +26,12 @@ insert-requires-clause-at c =
     (place-stands c.self.inside.limit c.self.inside.nodes.items c.self.inside.children c.self.inside.attributes c.self.inside.pairs.items c.args.parent c.args.child c.args.at (fits c.self.invariant) (subst (λ (t : Tree). is_child t c.args.parent c.args.at ≡ true) (sym c.self.view_is) c.requires.at) c.requires.other)
 
 pub invariant_of-self : goal.invariant_of-self
-invariant_of-self c = document-with _ _ _ c.args.parent c.args.child c.args.at _ _ _ _ _ (document-without _ _ _ c.args.child _ _ _ _ _ c.self.invariant c.remove.ensures) c.insert.ensures
+invariant_of-self c =
+    document-with c.self.inside.limit _ _ c.args.parent c.args.child c.args.at c.self.inside.nodes.items c.self.inside.children c.remove.new.self c.insert.new.self c.self.inside.attributes c.self.inside.pairs.items c.self.invariant
+    (made-below c.self.inside.limit c.self.inside.nodes.items c.self.inside.children c.self.inside.attributes c.self.inside.pairs.items c.args.parent c.args.self.now c.self.view_is c.requires.parent)
+    (made-below c.self.inside.limit c.self.inside.nodes.items c.self.inside.children c.self.inside.attributes c.self.inside.pairs.items c.args.child c.args.self.now c.self.view_is c.requires.child)
+    (subst (λ (t : Tree). is_above t c.args.child c.args.parent ≡ false) (sym c.self.view_is) c.requires.below)
+    c.remove.ensures c.insert.ensures
 
 pub returns : goal.returns
 returns c =
