@@ -27,18 +27,22 @@ abbrev pub of_page : PageRefusal → AppRefusal
 of_page (markup.At place kind) = app.Page place kind
 of_page markup.Memory = app.Memory
 
+-- how a refusal of tokens is told of a script
 abbrev pub of_tokens : ℕ → LexRefusal → AppRefusal
 of_tokens number (lex.At place kind) = app.Lex number place kind
 of_tokens number lex.Memory = app.Memory
 
+-- the same of a tree
 abbrev pub of_tree : ℕ → ParseRefusal → AppRefusal
 of_tree number (parse.At place kind) = app.Parse number place kind
 of_tree number parse.Memory = app.Memory
 
+-- the same of early errors
 abbrev pub of_mistake : EarlyRefusal → AppRefusal
 of_mistake (early.At number place kind) = app.Early number place kind
 of_mistake early.Memory = app.Memory
 
+-- how a refusal of a manifest is told
 abbrev pub of_manifest : ManifestRefusal → AppRefusal
 of_manifest (manifest.Kind kind) = app.Manifest kind
 of_manifest manifest.LimitsTooLarge = app.LimitsTooLarge

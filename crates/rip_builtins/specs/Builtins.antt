@@ -26,6 +26,7 @@ use Rattle.rip_builtins.specs.Texts.{char_at, char_code_at, substring}
 
 -- THE FUNCTIONS OF ARRAYS AND TEXTS, ON SUCH A RECEIVER
 
+-- the functions of arrays, on an array
 abbrev pub array_function : ArrayFunction → World → ℕ → List Value → Outcome
 array_function Push w array args = push w array args
 array_function Pop w array args = pop w array
@@ -33,6 +34,7 @@ array_function Slice w array args = slice w array args
 array_function IndexOf w array args = index_of w array args
 array_function Join w array args = join w array args
 
+-- the functions of texts, on a text
 abbrev pub text_function : TextFunction → World → Span → List Value → Outcome
 text_function CharAt w text args = char_at w text args
 text_function CharCodeAt w text args = char_code_at w text args
@@ -41,6 +43,7 @@ text_function PlaceOf w text args = text_index_of w text args
 
 -- THE TABLE OF BUILT-IN FUNCTIONS
 
+-- what a built-in function means where it is called on a value with some arguments: the table
 abbrev pub builtin : World → Builtin → Value → List Value → Outcome
 -- 15.1.2, 15.5.1, 15.7.1
 builtin w ParseInt this args = parse_int w args

@@ -23,10 +23,12 @@ mutual
     array : Elements → Tree
     object : Fields → Tree
 
+  -- no elements, or a tree and then elements
   pub data Elements : Type 0 where
     no_elements : Elements
     element : Tree → Elements → Elements
 
+  -- no fields, or a name, a tree and then fields
   pub data Fields : Type 0 where
     no_fields : Fields
     field : List ℕ → Tree → Fields → Fields
@@ -50,9 +52,11 @@ tree_step (Datum-F.Text u) = text u
 tree_step (Datum-F.List l) = array l
 tree_step (Datum-F.Fields f) = object f
 
+-- one level of fields
 abbrev pub fields_step : DatumFields-F Tree Fields Elements → Fields
 fields_step f = fields_of f.fields.items
 
+-- one level of elements
 abbrev pub elements_step : DatumList-F Tree Fields Elements → Elements
 elements_step l = elements_of l.items.items
 
@@ -83,10 +87,12 @@ abbrev mutual
   data_of (array ts) = json.array (items_of ts)
   data_of (object fs) = json.object (members_of fs)
 
+  -- the elements as items of `serde_json`
   pub items_of : Elements → json.Items
   items_of no_elements = json.no_items
   items_of (element t ts) = json.item (data_of t) (items_of ts)
 
+  -- the fields as members of `serde_json`
   pub members_of : Fields → json.Members
   members_of no_fields = json.no_members
   members_of (field k t fs) = json.member (utf8_of k) (data_of t) (members_of fs)
@@ -119,10 +125,12 @@ abbrev mutual
   IsDatum (array ts) = AreData ts
   IsDatum (object fs) = HaveData fs × AreInOrder (members_of fs)
 
+  -- each element is well made
   pub AreData : Elements → Type 0
   AreData no_elements = ⊤
   AreData (element t ts) = IsDatum t × AreData ts
 
+  -- each name is in UTF-16, and each value well made
   pub HaveData : Fields → Type 0
   HaveData no_fields = ⊤
   HaveData (field k t fs) = IsUtf16 k × IsDatum t × HaveData fs

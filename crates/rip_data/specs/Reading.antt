@@ -25,10 +25,12 @@ abbrev mutual
   all_whole (array ds) = items_whole ds
   all_whole (object ms) = members_whole ms
 
+  -- each number of the items is
   pub items_whole : Items → Bool
   items_whole no_items = true
   items_whole (item d ds) = all_whole d && items_whole ds
 
+  -- each number of the members is
   pub members_whole : Members → Bool
   members_whole no_members = true
   members_whole (member k d ms) = all_whole d && members_whole ms
@@ -54,6 +56,7 @@ abbrev pub unless_refused : Option DataError → Data → Result Data DataError
 unless_refused None d = Ok d
 unless_refused (Some e) d = Err e
 
+-- the answer for data that may not be there: Syntax, or its refusal, or the data
 abbrev pub judged : (Data → Option DataError) → Option Data → Result Data DataError
 judged refused None = Err Syntax
 judged refused (Some d) = unless_refused (refused d) d

@@ -38,6 +38,7 @@ is_loop F.While = true
 is_loop F.For = true
 is_loop _ = false
 
+-- the forms that `break` leaves: loops and `switch`
 abbrev pub is_left_by_break : Form → Bool
 is_left_by_break F.Switch = true
 is_left_by_break f = is_loop f
@@ -56,11 +57,13 @@ has_target is_target (f ∷ fs) = not (is_function f) && (is_target f || has_tar
 abbrev pub child_nodes : Plant → ℕ → List Node
 child_nodes t id = filter_map (node_of t.branches) (children_of t id)
 
+-- the first child of a node, if it is there
 abbrev pub first_child : Plant → ℕ → Option Node
 first_child t id = option_and_then (node_of t.branches) (child_of t.branches id 0)
 
 -- STRICT CODE (14.1)
 
+-- the form is that of an expression statement
 abbrev pub is_expression : Form → Bool
 is_expression F.Expression = true
 is_expression _ = false
@@ -86,6 +89,7 @@ abbrev pub repeated_behind : List Name → List Placed → List Mistake
 repeated_behind before [] = []
 repeated_behind before (n ∷ ns) = where_so (is_some (place_in before n.name)) (mistake n.place Duplicate) ++ repeated_behind (n.name ∷ before) ns
 
+-- those of the names that stand earlier as well
 abbrev pub repeated : List Placed → List Mistake
 repeated names = repeated_behind [] names
 
@@ -95,17 +99,21 @@ key_name t (K.Name p) = units_at t.units p
 key_name t (K.Text literal) = units_at t.units literal.value
 key_name t (K.Number w) = signed_decimal w
 
+-- the name and place of a node that is a parameter
 abbrev pub placed_by : Plant → Node → Form → Option Placed
 placed_by t node (F.Parameter p) = Some (record { name = units_at t.units p; place = node.place })
 placed_by t node _ = None
 
+-- the same, by the form of the node
 abbrev pub placed_parameter : Plant → Node → Option Placed
 placed_parameter t node = placed_by t node node.form
 
+-- the key and place of a node that is an entry of an object literal
 abbrev pub placed_by_key : Plant → Node → Form → Option Placed
 placed_by_key t node (F.Entry key) = Some (record { name = key_name t key; place = node.place })
 placed_by_key t node _ = None
 
+-- the same, by the form of the node
 abbrev pub placed_entry : Plant → Node → Option Placed
 placed_entry t node = placed_by_key t node node.form
 
@@ -122,6 +130,7 @@ duplicates t id _ = []
 abbrev pub is_restricted : Name → Bool
 is_restricted name = bytes_eq name (codes "eval") || bytes_eq name (codes "arguments")
 
+-- the name is that of a global of the profile
 abbrev pub is_global : Name → Bool
 is_global name = is_some (place_in globals name)
 
@@ -144,6 +153,7 @@ is_declaration _ = false
 abbrev pub may_not_bind : Plant → ℕ → Form → Name → Bool
 may_not_bind t id f name = is_restricted name || (is_declaration f && not (has_function (forms_around t id)) && is_global name)
 
+-- the node binds a name that it may not bind; the place is the name
 abbrev pub bad_bindings : Plant → ℕ → Form → List Mistake
 bad_bindings t id f = elim (bound_name f) [ Some p ↦ where_so (may_not_bind t id f (units_at t.units p)) (mistake p.start BadBinding) | None ↦ [] ]
 
@@ -164,27 +174,33 @@ is_bound_in (s ∷ ss) name = is_some (place_in s.names name) || is_bound_in ss 
 abbrev pub may_not_assign : Plant → ℕ → Name → Bool
 may_not_assign t id name = is_restricted name || (is_global name && not (is_bound_in (inner_scopes t id) name))
 
+-- the target is a name that may not be assigned; the place is the name
 abbrev pub bad_name : Plant → ℕ → Node → Form → List Mistake
 bad_name t id node (F.Name p) = where_so (may_not_assign t id (units_at t.units p)) (mistake node.place BadBinding)
 bad_name t id node _ = []
 
+-- the same of a target that may not be there
 abbrev pub bad_target : Plant → ℕ → Option Node → List Mistake
 bad_target t id None = []
 bad_target t id (Some node) = bad_name t id node node.form
 
+-- the node assigns a name that it may not assign
 abbrev pub bad_assignments : Plant → ℕ → Form → List Mistake
 bad_assignments t id f = if assigns f then bad_target t id (first_child t id) else []
 
 -- USES
 
+-- the operator is `delete`
 abbrev pub is_delete : UnaryOperator → Bool
 is_delete Delete = true
 is_delete op = false
 
+-- the form is that of a name
 abbrev pub is_name_form : Form → Bool
 is_name_form (F.Name p) = true
 is_name_form _ = false
 
+-- there is a node, and it is a name
 abbrev pub is_name : Option Node → Bool
 is_name None = false
 is_name (Some node) = is_name_form node.form

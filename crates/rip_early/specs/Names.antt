@@ -8,6 +8,7 @@ use Rattle.rip_tree.specs.declared.node.Piece.{Piece}
 use Rattle.rip_tree.specs.Branches.{Plant, units_at}
 use Rattle.rip_early.specs.Around.{in_text, form_of, children_of, home_of}
 
+-- a name: its units
 abbrev pub Name : Type 0
 Name = List ℕ
 

@@ -18,6 +18,7 @@ pub record Scope : Type 0 where
   pub names : List Name
   pub is_own : Bool
 
+-- the scope that binds these names
 abbrev pub scope_of_names : List Name → Scope
 scope_of_names names = record { names = names; is_own = false }
 
@@ -43,6 +44,7 @@ scopes_among top t ids = flat_map (λ a. scopes_made top t a (form_of t a)) ids
 abbrev pub scopes_around : List Name → Plant → ℕ → List Scope
 scopes_around top t id = scopes_among top t (around t id)
 
+-- the scopes that a node makes, other than the top scope
 abbrev pub inner_made : Plant → ℕ → Form → List Scope
 inner_made t id F.Script = []
 inner_made t id f = scopes_made [] t id f
@@ -73,13 +75,16 @@ meaning_at top t id p = meaning_in 0 (scopes_around top t id) (units_at t.units 
 abbrev pub first_binding : Bool → Meaning
 first_binding is_own = record { resolved = Some (Binding 0 0); is_own = is_own }
 
+-- the node reads and binds no name
 abbrev pub no_meaning : Meaning
 no_meaning = record { resolved = None; is_own = false }
 
+-- what the name of a function expression means in its own scope, if it has one
 abbrev pub own_meaning : Option Piece → Meaning
 own_meaning (Some p) = first_binding true
 own_meaning None = no_meaning
 
+-- what the name of a declaration means, if it has one
 abbrev pub name_meaning : List Name → Plant → ℕ → Option Piece → Meaning
 name_meaning top t id (Some p) = meaning_at top t id p
 name_meaning top t id None = no_meaning

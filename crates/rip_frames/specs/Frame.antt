@@ -3,6 +3,7 @@ use Rattle.rip_frames.specs.declared.frame.Frame.{Frame}
 use Rattle.rip_frames.specs.declared.frame.Frame.TheVariants as frame
 use Rattle.rip_frames.specs.declared.part.Part.{Part}
 
+-- the part that is open at a frame
 abbrev pub part_of : Frame → Part
 part_of (frame.Statement at place ending) = at
 part_of (frame.Initialiser at place) = at

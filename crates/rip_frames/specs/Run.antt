@@ -25,6 +25,7 @@ follow (Completes c u w s) go = go c u w s
 follow (Stops stop room u w s) go = Stops stop room u w s
 follow (Cuts room w s) go = Cuts room w s
 
+-- goes on with what the host answered
 abbrev pub with_reply : {S : Type 0} → HostDone × World × S → (HostDone → World → S → Answer S) → Answer S
 with_reply reply go = go reply.0 reply.1 reply.2
 

@@ -8,6 +8,7 @@ pub record Open : Type 0 where
   pub frame : Frame
   pub values : List Value
 
+-- a frame with these values beside it
 abbrev pub framed : Frame → List Value → Open
 framed frame values = record { frame = frame; values = values }
 
@@ -17,6 +18,7 @@ pub record Frames : Type 0 where
   pub room : ℕ
   pub frames : List Open
 
+-- a stack with no frame
 abbrev pub empty_frames : ℕ → ℕ → Frames
 empty_frames most room = record { most = most; room = room; frames = [] }
 
@@ -24,6 +26,7 @@ empty_frames most room = record { most = most; room = room; frames = [] }
 abbrev pub without_last : List Open → List Open
 without_last frames = take (length frames - 1) frames
 
+-- the values beside a frame, or none
 abbrev pub values_of : Option Open → List Value
 values_of None = []
 values_of (Some o) = o.values

@@ -73,6 +73,7 @@ header_ends C.While place st out = Some (At M.Statement (F.While place ∷ st) o
 header_ends C.DoWhile place st out = Some (At M.Semicolon st (node_at place H.DoWhile 2 ∷ out))
 header_ends C.Switch place st out = Some (At M.OpenSwitch (F.Switch place 0 false ∷ st) out)
 
+-- behind the expression of a header: `)`
 abbrev pub header_by : Word → Header → ℕ → List Frame → List Event → Option State
 header_by W.CloseParenthesis header place st out = header_ends header place st out
 header_by _ header place st out = None
@@ -82,6 +83,7 @@ abbrev pub for_test_ended : Word → List Frame → List Event → Option State
 for_test_ended W.Semicolon st out = test_ended st out
 for_test_ended _ st out = None
 
+-- behind the update of a `for`
 abbrev pub for_update_ended : Word → List Frame → List Event → Option State
 for_update_ended W.CloseParenthesis st out = update_ended st out
 for_update_ended _ st out = None
@@ -126,6 +128,7 @@ operator n sh st out t = cond (is_in t.word && top_bars st) None (reduce n sh st
 abbrev pub separate : Shape → List Frame → List Event → Lexeme → Option State
 separate sh st out t = cond (nat_le (top_floor st) 1) (operator_begins t.word st out) (close sh st out t)
 
+-- a comma behind an operand: open operators end first
 abbrev pub comma : Shape → List Frame → List Event → Lexeme → Option State
 comma sh st out t = reduce 1 sh st out (λ shape below events. separate shape below events t)
 
@@ -160,5 +163,6 @@ abbrev pub after_by : ℕ → Shape → List Frame → List Event → Lexeme →
 after_by zero sh st out t = cond (is_assignment t.word) (assign sh st out t) (after_mark t.word sh st out t)
 after_by (suc n) sh st out t = cond (is_comma t.word) (comma sh st out t) (operator (suc n) sh st out t)
 
+-- an operand was read: by the level of the lexeme
 abbrev pub after : Shape → List Frame → List Event → Lexeme → Option State
 after sh st out t = after_by (binds t.word) sh st out t

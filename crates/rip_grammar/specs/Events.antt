@@ -24,6 +24,7 @@ label _ = None
 abbrev pub node_at : ℕ → Head → ℕ → Event
 node_at place head count = E.Node (Some place) head count
 
+-- a node that begins with its first child
 abbrev pub node_behind : Head → ℕ → Event
 node_behind head count = E.Node None head count
 

@@ -95,6 +95,7 @@ abbrev pub top_floor : List Frame → ℕ
 top_floor [] = 2
 top_floor (f ∷ st) = floor f
 
+-- no bare `in` is taken in the innermost of the open forms
 abbrev pub top_bars : List Frame → Bool
 top_bars [] = false
 top_bars (f ∷ st) = bars_in f

@@ -16,6 +16,7 @@ holds n e = nat_le n (level e)
 abbrev pub is_expression : Phrase → Bool
 is_expression e = holds 1 e
 
+-- an expression with no comma outside parentheses (11.13)
 abbrev pub is_assigned : Phrase → Bool
 is_assigned e = holds 2 e
 
@@ -28,6 +29,7 @@ abbrev pub is_absent : Phrase → Bool
 is_absent Absent = true
 is_absent _ = false
 
+-- an empty list
 abbrev pub is_nothing : Phrase → Bool
 is_nothing Nothing = true
 is_nothing _ = false
@@ -61,28 +63,34 @@ abbrev pub is_block : Phrase → Bool
 is_block (Block o l c) = true
 is_block _ = false
 
+-- an entry of an object literal
 abbrev pub is_entry : Phrase → Bool
 is_entry (Entry k c e) = true
 is_entry _ = false
 
+-- a parameter
 abbrev pub is_parameter : Phrase → Bool
 is_parameter (Parameter n) = true
 is_parameter _ = false
 
+-- a declarator of `var`
 abbrev pub is_declarator : Phrase → Bool
 is_declarator (Declarator n) = true
 is_declarator (Initialised n q e) = true
 is_declarator _ = false
 
+-- a clause of `switch`
 abbrev pub is_clause : Phrase → Bool
 is_clause (Case w e c l) = true
 is_clause (Default w c l) = true
 is_clause _ = false
 
+-- a `catch` clause
 abbrev pub is_catch : Phrase → Bool
 is_catch (Catch w o n c b) = true
 is_catch _ = false
 
+-- a `finally` clause
 abbrev pub is_finally : Phrase → Bool
 is_finally (Finally w b) = true
 is_finally _ = false

@@ -41,6 +41,7 @@ abbrev pub declarator_name_by : Word → List Frame → List Event → Lexeme �
 declarator_name_by W.Name st out t = Some (At (M.AfterName t) st out)
 declarator_name_by _ st out t = None
 
+-- the same as `declarator_name_by`, by the word of the lexeme
 abbrev pub declarator_name : List Frame → List Event → Lexeme → Option State
 declarator_name st out t = declarator_name_by t.word st out t
 
@@ -49,6 +50,7 @@ abbrev pub after_name_by : Word → Lexeme → List Frame → List Event → Lex
 after_name_by W.Assign n st out t = Some (At M.Operand (F.Initialised n (top_bars st) ∷ st) out)
 after_name_by _ n st out t = declared (is_inserted continues_name t) st (node_at n.start (H.Declarator n) 0 ∷ out) t
 
+-- the same as `after_name_by`, by the word of the lexeme
 abbrev pub after_name : Lexeme → List Frame → List Event → Lexeme → Option State
 after_name n st out t = after_name_by t.word n st out t
 
@@ -71,6 +73,7 @@ abbrev pub open_header_by : Word → List Frame → List Event → Option State
 open_header_by W.OpenParenthesis st out = Some (At M.Operand st out)
 open_header_by _ st out = None
 
+-- the same as `open_header_by`, by the word of the lexeme
 abbrev pub open_header : List Frame → List Event → Lexeme → Option State
 open_header st out t = open_header_by t.word st out
 
@@ -79,6 +82,7 @@ abbrev pub open_switch_by : Word → List Frame → List Event → Option State
 open_switch_by W.OpenBrace st out = Some (At M.Clause st out)
 open_switch_by _ st out = None
 
+-- the same as `open_switch_by`, by the word of the lexeme
 abbrev pub open_switch : List Frame → List Event → Lexeme → Option State
 open_switch st out t = open_switch_by t.word st out
 
@@ -87,6 +91,7 @@ abbrev pub open_for_by : Word → List Frame → List Event → Option State
 open_for_by W.OpenParenthesis st out = Some (At M.ForInit st out)
 open_for_by _ st out = None
 
+-- the same as `open_for_by`, by the word of the lexeme
 abbrev pub open_for : List Frame → List Event → Lexeme → Option State
 open_for st out t = open_for_by t.word st out
 
@@ -96,6 +101,7 @@ for_init_by W.Semicolon st out t = init_ended st (E.Absent ∷ out) t
 for_init_by W.Var st out t = Some (At M.DeclaratorName (F.Declarators V.Init t.start 0 ∷ st) out)
 for_init_by _ st out t = operand st out t
 
+-- the same as `for_init_by`, by the word of the lexeme
 abbrev pub for_init : List Frame → List Event → Lexeme → Option State
 for_init st out t = for_init_by t.word st out t
 
@@ -109,6 +115,7 @@ abbrev pub for_test_by : Word → List Frame → List Event → Lexeme → Optio
 for_test_by W.Semicolon st out t = test_ended st (E.Absent ∷ out)
 for_test_by _ st out t = operand st out t
 
+-- the same as `for_test_by`, by the word of the lexeme
 abbrev pub for_test : List Frame → List Event → Lexeme → Option State
 for_test st out t = for_test_by t.word st out t
 
@@ -122,5 +129,6 @@ abbrev pub for_update_by : Word → List Frame → List Event → Lexeme → Opt
 for_update_by W.CloseParenthesis st out t = update_ended st (E.Absent ∷ out)
 for_update_by _ st out t = operand st out t
 
+-- the same as `for_update_by`, by the word of the lexeme
 abbrev pub for_update : List Frame → List Event → Lexeme → Option State
 for_update st out t = for_update_by t.word st out t

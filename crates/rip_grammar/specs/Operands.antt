@@ -55,6 +55,7 @@ abbrev pub argument_by : Word → List Frame → List Event → Lexeme → Optio
 argument_by W.CloseParenthesis st out t = no_argument st out
 argument_by _ st out t = operand st out t
 
+-- the same as `argument_by`, by the word of the lexeme
 abbrev pub argument : List Frame → List Event → Lexeme → Option State
 argument st out t = argument_by t.word st out t
 
@@ -68,6 +69,7 @@ abbrev pub element_by : Word → List Frame → List Event → Lexeme → Option
 element_by W.CloseBracket st out t = elements_end st out
 element_by _ st out t = operand st out t
 
+-- the same as `element_by`, by the word of the lexeme
 abbrev pub element : List Frame → List Event → Lexeme → Option State
 element st out t = element_by t.word st out t
 
@@ -86,6 +88,7 @@ abbrev pub key_by : Word → List Frame → List Event → Lexeme → Option Sta
 key_by W.CloseBrace st out t = entries_end st out
 key_by w st out t = cond (is_key w) (entry_begins st out t) None
 
+-- the same as `key_by`, by the word of the lexeme
 abbrev pub key : List Frame → List Event → Lexeme → Option State
 key st out t = key_by t.word st out t
 
@@ -94,6 +97,7 @@ abbrev pub entry_colon_by : Word → List Frame → List Event → Option State
 entry_colon_by W.Colon st out = Some (At M.Operand st out)
 entry_colon_by _ st out = None
 
+-- the same as `entry_colon_by`, by the word of the lexeme
 abbrev pub entry_colon : List Frame → List Event → Lexeme → Option State
 entry_colon st out t = entry_colon_by t.word st out
 
@@ -103,6 +107,7 @@ function_name_by W.Name place st out t = Some (At M.OpenParameters (F.Parameters
 function_name_by W.OpenParenthesis place st out t = Some (At M.FirstParameter (F.Parameters (O.Expression place None) 0 ∷ st) out)
 function_name_by _ place st out t = None
 
+-- the same as `function_name_by`, by the word of the lexeme
 abbrev pub function_name : ℕ → List Frame → List Event → Lexeme → Option State
 function_name place st out t = function_name_by t.word place st out t
 
@@ -111,6 +116,7 @@ abbrev pub declaration_name_by : Word → ℕ → List Frame → List Event → 
 declaration_name_by W.Name place st out t = Some (At M.OpenParameters (F.Parameters (O.Declaration place t) 0 ∷ st) out)
 declaration_name_by _ place st out t = None
 
+-- the same as `declaration_name_by`, by the word of the lexeme
 abbrev pub declaration_name : ℕ → List Frame → List Event → Lexeme → Option State
 declaration_name place st out t = declaration_name_by t.word place st out t
 
@@ -119,6 +125,7 @@ abbrev pub open_parameters_by : Word → List Frame → List Event → Option St
 open_parameters_by W.OpenParenthesis st out = Some (At M.FirstParameter st out)
 open_parameters_by _ st out = None
 
+-- the same as `open_parameters_by`, by the word of the lexeme
 abbrev pub open_parameters : List Frame → List Event → Lexeme → Option State
 open_parameters st out t = open_parameters_by t.word st out
 
@@ -133,6 +140,7 @@ first_parameter_by W.CloseParenthesis st out t = Some (At M.OpenBody st out)
 first_parameter_by W.Name st out t = parameter_read st out t
 first_parameter_by _ st out t = None
 
+-- the same as `first_parameter_by`, by the word of the lexeme
 abbrev pub first_parameter : List Frame → List Event → Lexeme → Option State
 first_parameter st out t = first_parameter_by t.word st out t
 
@@ -141,6 +149,7 @@ abbrev pub parameter_by : Word → List Frame → List Event → Lexeme → Opti
 parameter_by W.Name st out t = parameter_read st out t
 parameter_by _ st out t = None
 
+-- the same as `parameter_by`, by the word of the lexeme
 abbrev pub parameter : List Frame → List Event → Lexeme → Option State
 parameter st out t = parameter_by t.word st out t
 
@@ -150,6 +159,7 @@ after_parameter_by W.Comma st out = Some (At M.Parameter st out)
 after_parameter_by W.CloseParenthesis st out = Some (At M.OpenBody st out)
 after_parameter_by _ st out = None
 
+-- the same as `after_parameter_by`, by the word of the lexeme
 abbrev pub after_parameter : List Frame → List Event → Lexeme → Option State
 after_parameter st out t = after_parameter_by t.word st out
 
@@ -163,5 +173,6 @@ abbrev pub open_body_by : Word → List Frame → List Event → Option State
 open_body_by W.OpenBrace st out = body_begins st out
 open_body_by _ st out = None
 
+-- the same as `open_body_by`, by the word of the lexeme
 abbrev pub open_body : List Frame → List Event → Lexeme → Option State
 open_body st out t = open_body_by t.word st out

@@ -88,6 +88,7 @@ start_by W.Default st out t = clause_ends st out t
 start_by W.End st out t = script_ends st out
 start_by _ st out t = operand (F.Expression ∷ st) out t
 
+-- a statement is wanted: by the word of the lexeme
 abbrev pub start : List Frame → List Event → Lexeme → Option State
 start st out t = start_by t.word st out t
 
@@ -139,6 +140,7 @@ abbrev pub default_colon_by : Word → List Frame → List Event → Option Stat
 default_colon_by W.Colon st out = Some (At M.Statement st out)
 default_colon_by _ st out = None
 
+-- the same as `default_colon_by`, by the word of the lexeme
 abbrev pub default_colon : List Frame → List Event → Lexeme → Option State
 default_colon st out t = default_colon_by t.word st out
 
@@ -147,6 +149,7 @@ abbrev pub open_block_by : Word → List Frame → List Event → Lexeme → Opt
 open_block_by W.OpenBrace st out t = Some (At M.Statement (F.Block t.start 0 ∷ st) out)
 open_block_by _ st out t = None
 
+-- the same as `open_block_by`, by the word of the lexeme
 abbrev pub open_block : List Frame → List Event → Lexeme → Option State
 open_block st out t = open_block_by t.word st out t
 
@@ -155,19 +158,24 @@ abbrev pub open_catch_by : Word → ℕ → List Frame → List Event → Option
 open_catch_by W.OpenParenthesis place st out = Some (At (M.CatchName place) st out)
 open_catch_by _ place st out = None
 
+-- the same as `open_catch_by`, by the word of the lexeme
 abbrev pub open_catch : ℕ → List Frame → List Event → Lexeme → Option State
 open_catch place st out t = open_catch_by t.word place st out
 
+-- the name of a catch clause is wanted
 abbrev pub catch_name_by : Word → ℕ → List Frame → List Event → Lexeme → Option State
 catch_name_by W.Name place st out t = Some (At M.CloseCatch (F.Catch place t ∷ st) out)
 catch_name_by _ place st out t = None
 
+-- the same as `catch_name_by`, by the word of the lexeme
 abbrev pub catch_name : ℕ → List Frame → List Event → Lexeme → Option State
 catch_name place st out t = catch_name_by t.word place st out t
 
+-- the `)` behind the name of a catch clause is wanted
 abbrev pub close_catch_by : Word → List Frame → List Event → Option State
 close_catch_by W.CloseParenthesis st out = Some (At M.OpenBlock st out)
 close_catch_by _ st out = None
 
+-- the same as `close_catch_by`, by the word of the lexeme
 abbrev pub close_catch : List Frame → List Event → Lexeme → Option State
 close_catch st out t = close_catch_by t.word st out

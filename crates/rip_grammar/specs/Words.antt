@@ -84,10 +84,12 @@ abbrev pub is_name : Word → Bool
 is_name W.Name = true
 is_name _ = false
 
+-- the word is `,`
 abbrev pub is_comma : Word → Bool
 is_comma W.Comma = true
 is_comma _ = false
 
+-- the word is `;`
 abbrev pub is_semicolon : Word → Bool
 is_semicolon W.Semicolon = true
 is_semicolon _ = false

@@ -75,12 +75,15 @@ pub record Parts : Type 0 where
 abbrev pub end_tokens : Parts → List Token
 end_tokens p = end_of (codes "body") ∷ (p.behind_body ++ (end_of (codes "html") ∷ (p.behind_html ++ (T.End ∷ []))))
 
+-- the same from the body on
 abbrev pub body_tokens : Parts → List Token
 body_tokens p = T.StartTag p.body_tag ∷ forest_tokens p.content (forest_tokens p.scripts (end_tokens p))
 
+-- the same from the head on
 abbrev pub head_tokens : Parts → List Token
 head_tokens p = T.StartTag p.head_tag ∷ forest_tokens p.head (end_of (codes "head") ∷ (p.before_body ++ body_tokens p))
 
+-- the tokens of a page with these parts
 abbrev pub page_tokens : Parts → List Token
 page_tokens p = p.beginning ++ (p.doctype ++ (T.StartTag p.html ∷ (p.before_head ++ head_tokens p)))
 

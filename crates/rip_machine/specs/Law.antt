@@ -72,6 +72,7 @@ open_at depth (Enter part) frames = depth - part.room
 open_at depth (Give c) frames = open_in depth (slice_get frames (length frames - 1))
 open_at depth (Halted stop room) frames = depth - room
 
+-- how many nodes are entered and not ended, and functions are running, where a machine stands
 abbrev pub open_depth : Standing → ℕ
 open_depth m = open_at m.depth m.control m.frames
 
@@ -93,6 +94,7 @@ outcome_of Continued = Gives Undefined
 outcome_of (Referred r) = Gives Undefined
 outcome_of (Method f this) = Gives Undefined
 
+-- how a run ends that stops: with the fault or the limit
 abbrev pub stop_outcome : Stop → Outcome
 stop_outcome (AtFault fault) = Fault fault
 stop_outcome (AtLimit limit) = Limit limit

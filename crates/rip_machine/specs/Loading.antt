@@ -76,11 +76,13 @@ spans_from units start (b ∷ bs) = span_from start (form_text units b.node.form
 abbrev pub world_loaded : Code → World → World
 world_loaded code w = with_texts code.grove.units code.grove.branches w
 
+-- of each node the span of its text in the world in which the program is loaded
 abbrev pub spans_loaded : Code → World → List Span
 spans_loaded code w = spans_from code.grove.units (length w.pool.units) code.grove.branches
 
 -- ROOM FOR VALUES
 
+-- the form is a call or `new`
 abbrev pub is_call : Form → Bool
 is_call form.Call = true
 is_call form.New = true

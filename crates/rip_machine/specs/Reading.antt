@@ -24,6 +24,7 @@ pub record Loaded : Type 0 where
   pub code : Code
   pub literals : List Span
 
+-- the form of a node, or that of the empty statement
 abbrev pub form_in : Option Node → Form
 form_in None = form.Empty
 form_in (Some node) = node.form
@@ -38,28 +39,35 @@ operator_in (form.Binary op) = op
 operator_in (form.Compound op) = op
 operator_in f = Add
 
+-- the operator of two operands of a node
 abbrev pub operator : Loaded → ℕ → BinaryOperator
 operator p id = operator_in (form_of p id)
 
+-- the logical operator of a form
 abbrev pub logical_in : Form → LogicalOperator
 logical_in (form.Logical op) = op
 logical_in f = And
 
+-- the logical operator of a node
 abbrev pub logical_operator : Loaded → ℕ → LogicalOperator
 logical_operator p id = logical_in (form_of p id)
 
+-- the operator of one operand of a form
 abbrev pub unary_in : Form → UnaryOperator
 unary_in (form.Unary op) = op
 unary_in f = Void
 
+-- the operator of one operand of a node
 abbrev pub unary_operator : Loaded → ℕ → UnaryOperator
 unary_operator p id = unary_in (form_of p id)
 
+-- whether a form steps up or down
 abbrev pub step_in : Form → StepOperator
 step_in (form.Prefix op) = op
 step_in (form.Postfix op) = op
 step_in f = Increment
 
+-- whether a node steps up or down
 abbrev pub step_operator : Loaded → ℕ → StepOperator
 step_operator p id = step_in (form_of p id)
 
@@ -68,6 +76,7 @@ abbrev pub is_postfix_form : Form → Bool
 is_postfix_form (form.Postfix op) = true
 is_postfix_form f = false
 
+-- the form is a postfix step
 abbrev pub is_postfix : Loaded → ℕ → Bool
 is_postfix p id = is_postfix_form (form_of p id)
 
@@ -109,5 +118,6 @@ target at id = record at { node = id; room = at.room - 1; role = Target }
 abbrev pub part_at : Loaded → Part → ℕ → Part
 part_at p at place = part at (child p at.node place)
 
+-- a child of a part, entered as a reference
 abbrev pub target_at : Loaded → Part → ℕ → Part
 target_at p at place = target at (child p at.node place)

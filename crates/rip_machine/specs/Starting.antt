@@ -73,5 +73,6 @@ abbrev pub started_of : Start → Started
 started_of (start.Script n) = ScriptOf n
 started_of (start.Function f this args) = CallOf f this args.now
 
+-- what a start comes to, where so much depth is left for the run
 abbrev pub begun : Loaded → ℕ → Start → World → Beginning
 begun p depth s w = begun_by p depth (started_of s) w

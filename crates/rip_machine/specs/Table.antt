@@ -135,6 +135,7 @@ rest_by p (frame.CommaLeft at) values c w = after_first (comma_row p at) c w
 rest_by p (frame.Called at b this) values c w = answered_by p at (answerer_of b) b this values w
 rest_by p (frame.Last at) values c w = Ends c w
 
+-- what remains of a row at an open frame
 abbrev pub rest : Loaded → Open → Completion → World → Row
 rest p o c w = rest_by p o.frame o.values c w
 

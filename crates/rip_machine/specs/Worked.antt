@@ -24,15 +24,19 @@ use Rattle.rip_machine.specs.Table.{table}
 
 -- PROGRAMS, as trees whose places and spellings do not matter
 
+-- no place of a worked script counts
 abbrev pub nowhere : Piece
 nowhere = record { start = 0; count = 0 }
 
+-- a node of a worked script
 abbrev pub node : Form → List (Option ℕ) → Branch
 node f children = record { node = record { place = 0; form = f }; children = children }
 
+-- a text of a worked script
 abbrev pub text : Form
 text = form.Text (record { value = nowhere; is_plain = true })
 
+-- a function of a worked script without a name
 abbrev pub no_name : Scoping
 no_name = record { names = 0; resolved = None; is_own = false }
 
@@ -127,6 +131,7 @@ pub data Seen : Type 0 where
   Stopped : Stop → ℕ → ℕ → Option Value → Seen
   Open : ℕ → ℕ → Option Value → Seen
 
+-- what is seen of a worked run
 abbrev pub seen : ℕ → Answer (Unit {0}) → Option Seen
 seen place (Completes (Normal Undefined) u w s) = Some (Ended u w.cells (binding w 0 place))
 seen place (Completes c u w s) = None

@@ -80,6 +80,7 @@ attributes_fault tag place seen (a ∷ others) =
 abbrev pub is_radio : List ℕ → ReadAttribute → Bool
 is_radio tag r = bytes_eq tag (codes "input") && bytes_eq r.name (codes "type") && is_value (codes "radio" ∷ []) r
 
+-- the attribute is `multiple` of a `select`
 abbrev pub is_multiple : List ℕ → ReadAttribute → Bool
 is_multiple tag r = bytes_eq tag (codes "select") && bytes_eq r.name (codes "multiple")
 

@@ -49,6 +49,7 @@ IsQuotientOf x y (Err BadArgument) = ⊥
 IsQuotientOf x y (Err LoneSurrogate) = ⊥
 IsQuotientOf x y (Err TextTooLong) = ⊥
 
+-- the same of two numbers, one of which may be NaN
 abbrev pub IsQuotient : Numeral → Numeral → Result Numeral Fault → Type 0
 IsQuotient (Num x) (Num y) answer = IsQuotientOf x y answer
 IsQuotient (Num x) NaN answer = answer ≡ Ok NaN
@@ -85,9 +86,11 @@ shifted_right_unsigned x y = Ok (Num (pos (uint32_of x / 2 ^ count_of y)))
 abbrev pub bits_and : Numeral → Numeral → Result Numeral Fault
 bits_and x y = Ok (Num (signed (bit_and (uint32_of x) (uint32_of y))))
 
+-- bit by bit of the two numbers modulo 2^32
 abbrev pub bits_xor : Numeral → Numeral → Result Numeral Fault
 bits_xor x y = Ok (Num (signed (bit_xor (uint32_of x) (uint32_of y))))
 
+-- bit by bit of the two numbers modulo 2^32
 abbrev pub bits_or : Numeral → Numeral → Result Numeral Fault
 bits_or x y = Ok (Num (signed (bit_or (uint32_of x) (uint32_of y))))
 

@@ -22,6 +22,7 @@ pub data Kind : Type 0 where
   Textual : Kind
   Referred : Kind
 
+-- the kind of a value
 abbrev pub kind_of : Value → Kind
 kind_of Undefined = Absent
 kind_of Null = Absent
@@ -31,6 +32,7 @@ kind_of NaN = Numeric
 kind_of (Text span) = Textual
 kind_of (Object n) = Referred
 
+-- the table of `==`, by the kinds of both sides
 abbrev pub equal_by : Kind → Kind → Texts → Value → Value → Result Bool Fault
 equal_by Absent Absent pool a b = Ok true
 equal_by Absent Numeric pool a b = Ok false
@@ -55,6 +57,7 @@ equal_by Textual Numeric pool a b = of_numbers pool equal_numbers a b
 abbrev pub loosely_equal : Texts → Value → Value → Result Bool Fault
 loosely_equal pool a b = equal_by (kind_of a) (kind_of b) pool a b
 
+-- the other truth, or the fault
 abbrev pub negated : Result Bool Fault → Result Bool Fault
 negated (Ok truth) = Ok (not truth)
 negated (Err fault) = Err fault

@@ -12,6 +12,7 @@ use Rattle.rip_heap.specs.Outcome.{Outcome, Gives, Throws, Faults}
 
 -- THE THREE BUILT-INS OF ERRORS (ECMA-262 15.11)
 
+-- the classes of errors
 abbrev pub is_error : Class → Bool
 is_error Plain = false
 is_error Prototype = false
@@ -25,6 +26,7 @@ is_error ThrownReferenceError = true
 is_error Code = false
 is_error Event = false
 
+-- the classes of type errors
 abbrev pub is_type_error : Class → Bool
 is_type_error Plain = false
 is_type_error Prototype = false
@@ -38,6 +40,7 @@ is_type_error ThrownReferenceError = false
 is_type_error Code = false
 is_type_error Event = false
 
+-- the class of range errors
 abbrev pub is_range_error : Class → Bool
 is_range_error Plain = false
 is_range_error Prototype = false
@@ -71,6 +74,7 @@ instance_of_builtin w a n =
 
 -- FUNCTIONS OF THE SCRIPT
 
+-- the prototype is this object, or the search goes on above it
 abbrev pub met : Option ℕ → ℕ → (ℕ → Bool) → Bool
 met None p further = false
 met (Some up) p further = up == p || further up
@@ -105,6 +109,7 @@ has_instance w NaN f = Gives (Boolean false) w
 has_instance w (Text span) f = Gives (Boolean false) w
 has_instance w (Object n) f = has_above w n (own w f prototype_name)
 
+-- `instanceof` by the class of the right side: a function of the script, or else a TypeError
 abbrev pub instance_of_class : World → Value → ℕ → Class → Outcome
 instance_of_class w a n Function = has_instance w a n
 instance_of_class w a n Plain = Throws

@@ -24,20 +24,24 @@ absent w name =
     else if is_of_object_prototype w.pool name then Faults NotInProfile
     else Gives (Boolean false) w
 
+-- the place that is found
 abbrev pub found : World → Span → Found → Outcome
 found w name Here = Gives (Boolean true) w
 found w name Barred = Faults NotInProfile
 found w name Nowhere = absent w name
 
+-- `in` of a plain object; a name that begins with two underscores is outside the profile
 abbrev pub in_plain : World → ℕ → Span → Outcome
 in_plain w n name = if is_underscored (text_at w.pool name) then Faults NotInProfile else found w name (look_up w n name)
 
 -- ARRAYS
 
+-- `in` of an array, by the index of a name, or else `length`
 abbrev pub at_index : World → ℕ → Span → Option ℕ → Outcome
 at_index w n name (Some i) = Gives (Boolean (nat_lt i (length (elements_at w n)))) w
 at_index w n name None = if is_named w.pool name Length then Gives (Boolean true) w else Faults NotInProfile
 
+-- `in` of an array
 abbrev pub in_array : World → ℕ → Span → Outcome
 in_array w n name = at_index w n name (index_of w.pool name)
 
@@ -53,6 +57,7 @@ number_in_array w z n =
     if is_index z then Gives (Boolean (nat_lt (unsigned_abs z) (length (elements_at w n)))) w
     else not_in_profile w (Num z)
 
+-- `in` by what holds the name
 abbrev pub in_holder : Holder → World → Value → ℕ → Outcome
 in_holder OtherObject w a n = not_in_profile w a
 in_holder PlainObject w (Num z) n = numeral_in_plain w z n

@@ -26,6 +26,7 @@ calculating w f a b = number_or_fault w (of_numbers w.pool f a b)
 
 -- THE TABLE OF BINARY OPERATORS
 
+-- the table of operators of two operands, a row each
 abbrev pub binary : World → BinaryOperator → Value → Value → Outcome
 -- 11.5.1 to 11.5.3
 binary w Multiply a b = calculating w product a b
@@ -57,6 +58,7 @@ binary w BitOr a b = calculating w bits_or a b
 
 -- THE TABLE OF UNARY OPERATORS
 
+-- the table of operators of one operand, a row each
 abbrev pub unary : World → UnaryOp → Value → Outcome
 -- 11.4.6 to 11.4.9
 unary w Plus a = number_or_fault w (number_of w.pool a)

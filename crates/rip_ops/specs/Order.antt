@@ -11,6 +11,7 @@ use Rattle.rip_values.specs.declared.value.Fault.TheVariants.{ObjectToPrimitive}
 use Rattle.rip_values.specs.Pool.{Texts, text_at}
 use Rattle.rip_ops.specs.Numbers.{of_numbers}
 
+-- the value is an object
 abbrev pub is_object : Value → Bool
 is_object Undefined = false
 is_object Null = false
@@ -25,6 +26,7 @@ abbrev pub order_of_numbers : Numeral → Numeral → Result (Option Ordering) F
 order_of_numbers (Number x) (Number y) = Ok (Some (int_cmp x y))
 order_of_numbers x y = Ok None
 
+-- the order of two values that are not both texts
 abbrev pub order_of_others : Texts → Value → Value → Result (Option Ordering) Fault
 order_of_others pool a b = if is_object a || is_object b then Err ObjectToPrimitive else of_numbers pool order_of_numbers a b
 
@@ -34,6 +36,7 @@ abbrev pub order_of : Texts → Value → Value → Result (Option Ordering) Fau
 order_of pool (Text a) (Text b) = Ok (Some (slice_cmp nat_cmp (text_at pool a) (text_at pool b)))
 order_of pool a b = order_of_others pool a b
 
+-- the order passes the test; where there is none, nothing does
 abbrev pub is_so : (Ordering → Bool) → Result (Option Ordering) Fault → Result Bool Fault
 is_so test (Ok (Some order)) = Ok (test order)
 is_so test (Ok None) = Ok false

@@ -72,6 +72,7 @@ place_over None (p ∷ ps) = p.place
 abbrev pub last_parts : ℕ → List Part → List Part
 last_parts n parts = drop (length parts - n) parts
 
+-- the parts behind the first of a row
 abbrev pub other_parts : ℕ → List Part → List Part
 other_parts n parts = take (length parts - n) parts
 

@@ -24,6 +24,7 @@ abbrev pub next_standing : List Around → Standing
 next_standing [] = S.Below 1
 next_standing (a ∷ around) = a.standing
 
+-- the parts to come, without the next one
 abbrev pub next_around : List Around → List Around
 next_around [] = []
 next_around (a ∷ around) = pushed a.more a.standing around
@@ -59,6 +60,7 @@ standing_within (S.Below n) = S.Below (below_one_more n)
 standing_within S.Deep = S.Known
 standing_within S.Known = S.Known
 
+-- the place that is noted once parentheses are taken: theirs, where a node that is too deep begins with them
 abbrev pub parenthesis_noted : Standing → ℕ → Option ℕ → Option ℕ
 parenthesis_noted (S.Below n) place first = first
 parenthesis_noted S.Deep place first = Some place
@@ -73,6 +75,7 @@ take_at c around (E.Node place head count) first = record {
   around = pushed count (standing_in (is_deep c (is_part head)) place c (is_part head)) around;
 }
 
+-- the search once the event before is taken
 abbrev pub taken : Event → Search → Search
 taken event s = take_at (next_standing s.around) (next_around s.around) event s.first
 

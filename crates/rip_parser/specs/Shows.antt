@@ -67,6 +67,7 @@ infix_form (W.Logical op) = Some (F.Logical op)
 infix_form W.Comma = Some F.Comma
 infix_form _ = None
 
+-- the form of an operator before its operand; of other words it is nothing
 abbrev pub prefix_form : Word → Option Form
 prefix_form (W.Prefix op) = Some (F.Unary op)
 prefix_form (W.Infix B.Add) = Some (F.Unary U.Plus)
@@ -74,10 +75,12 @@ prefix_form (W.Infix B.Subtract) = Some (F.Unary U.Minus)
 prefix_form (W.Step op) = Some (F.Prefix op)
 prefix_form _ = None
 
+-- the form of `++` or `--` behind its operand; of other words it is nothing
 abbrev pub postfix_form : Word → Option Form
 postfix_form (W.Step op) = Some (F.Postfix op)
 postfix_form _ = None
 
+-- the form of an assignment, by its operator; of other words it is nothing
 abbrev pub assignment_form : Word → Option Form
 assignment_form W.Assign = Some F.Assign
 assignment_form (W.Compound op) = Some (F.Compound op)

@@ -32,14 +32,17 @@ moved_piece there before p = record { start = before + min p.start there; count 
 abbrev pub with_text : (Piece → Piece) → TextLiteral → TextLiteral
 with_text f literal = record literal { value = f literal.value }
 
+-- a key whose piece is changed
 abbrev pub with_key : (Piece → Piece) → Key → Key
 with_key f (K.Name p) = K.Name (f p)
 with_key f (K.Text literal) = K.Text (with_text f literal)
 with_key f (K.Number w) = K.Number w
 
+-- what a function has beside its children, with its name changed
 abbrev pub with_head : (Piece → Piece) → FunctionHead → FunctionHead
 with_head f head = record head { name = option_map f head.name }
 
+-- a form whose pieces are changed
 abbrev pub with_pieces : (Piece → Piece) → Form → Form
 with_pieces f (F.FunctionDeclaration head) = F.FunctionDeclaration (with_head f head)
 with_pieces f (F.Name p) = F.Name (f p)

@@ -50,6 +50,7 @@ number_of RemoveEventListener = 40
 number_of StopPropagation = 41
 number_of PreventDefault = 42
 
+-- the name of a built-in
 abbrev pub name_of : Builtin → List ℕ
 name_of Math = codes "Math"
 name_of Ripley = codes "ripley"
@@ -95,6 +96,7 @@ name_of RemoveEventListener = codes "removeEventListener"
 name_of StopPropagation = codes "stopPropagation"
 name_of PreventDefault = codes "preventDefault"
 
+-- what a built-in is a member of
 abbrev pub home_of : Builtin → BuiltinHome
 home_of Math = home.Global
 home_of Ripley = home.Global

@@ -82,6 +82,7 @@ answerer_at home.Document = HostItself
 answerer_at home.Node = HostItself
 answerer_at home.Event = HostItself
 
+-- who answers the call of a built-in function
 abbrev pub answerer_of : Builtin → Answerer
 answerer_of b = answerer_at (home_of b)
 
@@ -152,5 +153,6 @@ callee_part p at = record (part at (child p at.node 0)) { role = role.Callee }
 abbrev pub callee_end : Loaded → Part → Completion → World → Row
 callee_end p at c w = with_callee c w (λ f this. arguments p at f this [] (children_from p at.node 1) w)
 
+-- the row of a call
 abbrev pub call_row : Loaded → Part → World → Row
 call_row p at w = Asks (callee_part p at) w (callee_end p at)

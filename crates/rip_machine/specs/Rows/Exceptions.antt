@@ -15,6 +15,7 @@ use Rattle.rip_machine.specs.Reading.{Loaded, child, child_at, part, part_at}
 abbrev pub throw_end : Completion → World → Row
 throw_end c w = with_value c w (λ v. Ends (Thrown v) w)
 
+-- the row of `throw`
 abbrev pub throw_row : Loaded → Part → World → Row
 throw_row p at w = Asks (part_at p at 0) w throw_end
 
@@ -32,6 +33,7 @@ abbrev pub finally_by : Part → Option ℕ → Completion → World → Row
 finally_by at None before w = Ends before w
 finally_by at (Some block) before w = Asks (part at block) w (finally_end before)
 
+-- `finally`, where there is one, after the completion of what stands before it
 abbrev pub finally_row : Loaded → Part → Completion → World → Row
 finally_row p at before w = finally_by at (child_at p at.node 2) before w
 

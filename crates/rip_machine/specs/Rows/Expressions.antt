@@ -64,6 +64,7 @@ name_row p at role.Callee w = with_found (found w at.scope (scoping p at.node).r
 abbrev pub right_end : Loaded → Part → Value → Completion → World → Row
 right_end p at a c w = with_value c w (λ b. with_outcome (binary w (operator p at.node) a b) w gives)
 
+-- the row of an operator of two operands: the left one, the right one, then the operator
 abbrev pub binary_row : Loaded → Part → World → Row
 binary_row p at w = value_of (part_at p at 0) w (λ a x. Asks (part_at p at 1) x (right_end p at a))
 
@@ -72,6 +73,7 @@ abbrev pub is_decided : LogicalOperator → Bool → Bool
 is_decided And truth = if truth then false else true
 is_decided Or truth = truth
 
+-- the row of `&&` and of two bars: the right operand where the left one does not decide
 abbrev pub logical_row : Loaded → Part → World → Row
 logical_row p at w = value_of (part_at p at 0) w (λ a x. if is_decided (logical_operator p at.node) (boolean_of x.pool a) then gives a x else last (part_at p at 1) x)
 
@@ -153,6 +155,7 @@ abbrev pub operand_end : Loaded → Part → UnaryOperator → Completion → Wo
 operand_end p at unary.Delete c w = with_target c w (λ t. deletes t w)
 operand_end p at op c w = with_value c w (λ a. operated p at op a w)
 
+-- the row of an operator of one operand
 abbrev pub unary_row : Loaded → Part → World → Row
 unary_row p at w = Asks (operand p at) w (operand_end p at (unary_operator p at.node))
 
@@ -172,6 +175,7 @@ writes p at (Some r) v given w = with_writing (write w r.base r.key v) v w (λ x
 abbrev pub assign_value : Loaded → Part → Option Reference → Completion → World → Row
 assign_value p at target c w = with_value c w (λ v. writes p at target v v w)
 
+-- the row of `=`: the target, the right side, and the write
 abbrev pub assign_row : Loaded → Part → World → Row
 assign_row p at w = target_of (target_at p at 0) w (λ target x. Asks (part_at p at 1) x (assign_value p at target))
 
@@ -179,6 +183,7 @@ assign_row p at w = target_of (target_at p at 0) w (λ target x. Asks (part_at p
 abbrev pub compound_value : Loaded → Part → Option Reference → Value → Completion → World → Row
 compound_value p at target old c w = with_value c w (λ b. with_outcome (binary w (operator p at.node) old b) w (λ v x. writes p at target v v x))
 
+-- the row of a compound assignment: the target, which is read, the right side, the operator, and the write
 abbrev pub compound_row : Loaded → Part → World → Row
 compound_row p at w =
     target_of (target_at p at 0) w (λ target x. read_target p at target x (λ old y. Asks (part_at p at 1) y (compound_value p at target old)))
@@ -208,5 +213,6 @@ stepped_by p at target (Err fault) w = Halts (AtFault fault) w
 abbrev pub stepped : Loaded → Part → Option Reference → Value → World → Row
 stepped p at target v w = stepped_by p at target (numbers_of_step w (step_operator p at.node) v) w
 
+-- the row of `++` and `--`
 abbrev pub step_row : Loaded → Part → World → Row
 step_row p at w = target_of (target_at p at 0) w (λ target x. read_target p at target x (λ v y. stepped p at target v y))

@@ -40,6 +40,7 @@ abbrev pub has_name : Form → Bool
 has_name (form.Function head) = is_some head.name
 has_name f = false
 
+-- the row of a function expression
 abbrev pub function_row : Loaded → Part → World → Row
 function_row p at w = function_named at (has_name (form_of p at.node)) w
 

@@ -37,6 +37,7 @@ abbrev pub array_begun : Loaded → Part → Option (ℕ × World) → World →
 array_begun p at None w = Halts (AtLimit Cells) w
 array_begun p at (Some made) w = elements p at made.0 (children_from p at.node 0) made.1
 
+-- the row of an array literal
 abbrev pub array_row : Loaded → Part → World → Row
 array_row p at w = array_begun p at (new_array w []) w
 
@@ -62,5 +63,6 @@ abbrev pub object_begun : Loaded → Part → Option (ℕ × World) → World �
 object_begun p at None w = Halts (AtLimit Cells) w
 object_begun p at (Some made) w = entries p at made.0 (children_from p at.node 0) made.1
 
+-- the row of an object literal
 abbrev pub object_row : Loaded → Part → World → Row
 object_row p at w = object_begun p at (new_object w None) w

@@ -79,6 +79,7 @@ member_row p at w = value_of (part_at p at 0) w (λ base x. with_base base x (me
 abbrev pub subscript_end : Loaded → Part → Value → Completion → World → Row
 subscript_end p at base c w = with_value c w (λ b. with_key (key_of w base b) w (λ key x. member_for at.role base key x))
 
+-- the row of `a[b]`
 abbrev pub index_row : Loaded → Part → World → Row
 index_row p at w = value_of (part_at p at 0) w (λ base x. Asks (part_at p at 1) x (subscript_end p at base))
 

@@ -99,6 +99,7 @@ abbrev pub else_row : Part → Option ℕ → World → Row
 else_row at None w = done w
 else_row at (Some s) w = last (part at s) w
 
+-- the row of `if`
 abbrev pub if_row : Loaded → Part → World → Row
 if_row p at w =
     value_of (part_at p at 0) w (λ v x. if boolean_of x.pool v then last (part_at p at 1) x else else_row at (child_at p at.node 2) x)
@@ -111,6 +112,7 @@ abbrev pub return_of : Part → Option ℕ → World → Row
 return_of at None w = Ends (Returned Undefined) w
 return_of at (Some e) w = Asks (part at e) w return_end
 
+-- the row of `return`
 abbrev pub return_row : Loaded → Part → World → Row
 return_row p at w = return_of at (child_at p at.node 0) w
 
@@ -206,6 +208,7 @@ abbrev pub initialiser_end : Loaded → Part → ℕ → Completion → World �
 initialiser_end p at place c w =
     initialised p at (child p (declarators_in p at) place) c w (declarations p at (children_from p (declarators_in p at) (place + 1)))
 
+-- the row of `var`
 abbrev pub var_row : Loaded → Part → World → Row
 var_row p at w = declarations p at (children_from p (declarators_in p at) 0) w
 
@@ -221,5 +224,6 @@ abbrev pub for_row_by : Loaded → Part → Option ℕ → World → Row
 for_row_by p at None w = for_turn p at w
 for_row_by p at (Some start) w = if is_bindings (form_of p start) then var_row p at w else Asks (part at start) w (for_started p at)
 
+-- the row of `for`
 abbrev pub for_row : Loaded → Part → World → Row
 for_row p at w = for_row_by p at (child_at p at.node 0) w
