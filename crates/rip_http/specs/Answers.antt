@@ -53,7 +53,8 @@ identifier_text id = hyphenated_text lower id
 abbrev pub opened_lines : Opening → List ℕ
 opened_lines o =
     field (codes "Ripley-Session") (identifier_text o.id)
-    ++ (field (codes "Ripley-Seed") (decimal o.seed) ++ field (codes "Ripley-Time") (decimal o.time))
+    ++ (field (codes "Ripley-Seed") (decimal o.seed)
+    ++ field (codes "Ripley-Time") (decimal o.time))
 
 -- in an answer to an opening alone
 abbrev pub opening_lines : Option Opening → List ℕ
@@ -106,4 +107,5 @@ pub record IsAnswer (a : HttpAnswer) : Type 0 where
 
 -- two such answers with the same bytes are equal
 abbrev pub AnswersTellApart : Type 0
-AnswersTellApart = (a b : HttpAnswer) → IsAnswer a → IsAnswer b → answer_text a ≡ answer_text b → a ≡ b
+AnswersTellApart =
+    (a b : HttpAnswer) → IsAnswer a → IsAnswer b → answer_text a ≡ answer_text b → a ≡ b

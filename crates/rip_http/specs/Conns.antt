@@ -10,5 +10,7 @@ use Rattle.rip_http.specs.declared.conn.Taken.TheVariants.{Message, NotYet, Refu
 abbrev pub IsTaken : List ℕ → List ℕ → Taken → Type 0
 IsTaken unread left (Message m) = (n : ℕ) × IsNext unread (takes n m) × (left ≡ drop n unread)
 IsTaken unread left NotYet = IsNext unread waits × (left ≡ unread)
-IsTaken unread left (Refused code) = (n : ℕ) × (r : RefusedHead) × IsNext unread (refuses n r) × (code ≡ code_of r.refusal) × (left ≡ unread)
+IsTaken unread left (Refused code) =
+    (n : ℕ) × (r : RefusedHead) × IsNext unread (refuses n r)
+    × (code ≡ code_of r.refusal) × (left ≡ unread)
 IsTaken unread left Memory = (n : ℕ) × (m : Request) × IsNext unread (takes n m) × (left ≡ unread)

@@ -21,7 +21,8 @@ pairs head fields = map (header_bytes head) fields
 -- the values of the fields of this name, in any case, in order
 abbrev pub values_of : List ℕ → List Pair → List (List ℕ)
 values_of name [] = []
-values_of name (f ∷ fields) = if str_eq_ignore_ascii_case f.0 name then f.1 ∷ values_of name fields else values_of name fields
+values_of name (f ∷ fields) =
+    if str_eq_ignore_ascii_case f.0 name then f.1 ∷ values_of name fields else values_of name fields
 
 -- RFC 9112 3.2: one Host field, which a request of version 1.0 may lack
 abbrev pub has_host : ℕ → List (List ℕ) → Bool
@@ -31,7 +32,8 @@ has_host minor (host ∷ next ∷ more) = false
 
 -- 1 to 19 digits and nothing else
 abbrev pub is_length : List ℕ → Bool
-is_length value = nat_le 1 (length value) && (nat_le (length value) 19 && list_all is_ascii_digit value)
+is_length value =
+    nat_le 1 (length value) && (nat_le (length value) 19 && list_all is_ascii_digit value)
 
 -- the number that 1 to 19 digits write
 abbrev pub length_in : List ℕ → Option ℕ
@@ -49,7 +51,8 @@ members value = map trim_ows (slice_split (λ b. b == 44) value)
 
 -- RFC 9112 9.6: the list has the option close
 abbrev pub lists_close : List ℕ → Bool
-lists_close value = list_any (λ option. str_eq_ignore_ascii_case option (codes "close")) (members value)
+lists_close value =
+    list_any (λ option. str_eq_ignore_ascii_case option (codes "close")) (members value)
 
 -- the connection is to be shut behind the answer: version 1.0, or a Connection field lists close
 abbrev pub closes : ℕ → List Pair → Bool

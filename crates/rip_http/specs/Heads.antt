@@ -18,9 +18,11 @@ head_at bytes n = drop (blank (take n bytes)) (take n bytes)
 
 -- an LF directly followed by LF, or by CR LF, ends these bytes
 abbrev pub EndsInEmptyLine : List ℕ → Type 0
-EndsInEmptyLine bytes = (front : List ℕ) × ((bytes ≡ front ++ 10 ∷ 10 ∷ []) ⊎ (bytes ≡ front ++ 10 ∷ 13 ∷ 10 ∷ []))
+EndsInEmptyLine bytes =
+    (front : List ℕ) × ((bytes ≡ front ++ 10 ∷ 10 ∷ []) ⊎ (bytes ≡ front ++ 10 ∷ 13 ∷ 10 ∷ []))
 
--- the head ends behind the first n bytes: with the first empty line behind a byte that is neither CR nor LF
+-- the head ends behind the first n bytes: with the first empty line behind a byte that is neither
+-- CR nor LF
 pub record IsHeadEnd (bytes : List ℕ) (n : ℕ) : Type 0 where
   pub within : n ≤ length bytes
   pub ends : EndsInEmptyLine (head_at bytes n)
@@ -46,7 +48,8 @@ after scan (b ∷ bytes) = ended_or None (step scan b) (λ next. after next byte
 -- how many bytes up to the head's end
 abbrev pub end_from : Scan → List ℕ → Option ℕ
 end_from scan [] = None
-end_from scan (b ∷ bytes) = ended_or (Some 1) (step scan b) (λ next. option_map (λ n. suc n) (end_from next bytes))
+end_from scan (b ∷ bytes) =
+    ended_or (Some 1) (step scan b) (λ next. option_map (λ n. suc n) (end_from next bytes))
 
 -- how many bytes up to the end of the head that begins here
 abbrev pub head_end : List ℕ → Option ℕ

@@ -15,12 +15,16 @@ NextIsOne = (bytes : List ℕ) (x y : Next) → IsNext bytes x → IsNext bytes 
 
 -- a stream has one list of requests
 abbrev pub RequestsAreOne : Type 0
-RequestsAreOne = (bytes : List ℕ) (a b : List Message) (x y : Next) → Requests bytes a x → Requests bytes b y → (a ≡ b) × (x ≡ y)
+RequestsAreOne =
+    (bytes : List ℕ) (a b : List Message) (x y : Next) → Requests bytes a x → Requests bytes b y
+    → (a ≡ b) × (x ≡ y)
 
--- however the bytes were cut and whenever messages were taken, once no more is to be taken, the messages are those of the whole stream
+-- however the bytes were cut and whenever messages were taken, once no more is to be taken, the
+-- messages are those of the whole stream
 abbrev pub CutsDoNotMatter : Type 0
 CutsDoNotMatter =
-    (deeds : List Deed) (rest : List ℕ) (last : Next) → Does [] deeds rest → IsNext rest last → IsLast last
+    (deeds : List Deed) (rest : List ℕ) (last : Next)
+    → Does [] deeds rest → IsNext rest last → IsLast last
     → Requests (all_fed deeds) (all_taken deeds) last
 
 -- in mid-stream, what was taken begins the stream, whatever comes
@@ -33,5 +37,7 @@ TakenStands =
 abbrev pub ComeStays : Type 0
 ComeStays =
     (bytes more : List ℕ)
-    → ((n : ℕ) (m : Message) → IsNext bytes (takes n m) → (n ≤ length bytes) × IsNext (bytes ++ more) (takes n m))
-    × ((n : ℕ) (r : RefusedHead) → IsNext bytes (refuses n r) → IsNext (bytes ++ more) (refuses n r))
+    → ((n : ℕ) (m : Message) → IsNext bytes (takes n m)
+    → (n ≤ length bytes) × IsNext (bytes ++ more) (takes n m))
+    × ((n : ℕ) (r : RefusedHead) → IsNext bytes (refuses n r)
+    → IsNext (bytes ++ more) (refuses n r))

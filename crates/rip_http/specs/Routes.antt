@@ -16,7 +16,9 @@ segment_of target = drop 3 (path_of target)
 
 -- the prefix, and behind it one segment that is not empty
 abbrev pub is_below : List ℕ → List ℕ → Bool
-is_below prefix path = nat_lt 3 (length path) && (starts_with nat_eq path prefix && not (list_any (λ b. b == 47) (drop 3 path)))
+is_below prefix path =
+    nat_lt 3 (length path)
+    && (starts_with nat_eq path prefix && not (list_any (λ b. b == 47) (drop 3 path)))
 
 -- the route of a path
 abbrev pub route_of : List ℕ → Option Route

@@ -37,7 +37,8 @@ abbrev pub IsStage : List ℕ → Stage → Type 0
 IsStage bytes (Head scan) = (after Before bytes ≡ Some scan) × (length bytes < 8192)
 IsStage bytes (Body awaited) =
     (head_end (take 8192 bytes) ≡ Some awaited.end)
-    × IsVerdict (head_at bytes awaited.end) (Goes awaited.going (segment_of (span_bytes (head_at bytes awaited.end) awaited.target)))
+    × IsVerdict (head_at bytes awaited.end) (Goes awaited.going
+    (segment_of (span_bytes (head_at bytes awaited.end) awaited.target)))
     × IsWithin (length (head_at bytes awaited.end)) awaited.target
 IsStage bytes (Refused refused) = (n : ℕ) × IsNext bytes (refuses n refused)
 

@@ -42,14 +42,21 @@ abbrev pub behind : List ℕ → ℕ → Verdict → Next
 behind bytes n (Refuses refused) = refuses n refused
 behind bytes n (Goes going segment) =
     if nat_le (n + going.size) (length bytes)
-    then takes (n + going.size) (record { route = going.route; segment = segment; body = take going.size (drop n bytes); close = going.close })
+    then takes (n + going.size) (record {
+      route = going.route;
+      segment = segment;
+      body = take going.size (drop n bytes);
+      close = going.close;
+    })
     else waits
 
 -- the end of the head is sought in the first 8,192 bytes
 abbrev pub IsNextAt : Option ℕ → List ℕ → Next → Type 0
 IsNextAt None bytes next =
-    next ≡ (if nat_le 8192 (length bytes) then refuses 8192 (record { refusal = Fields; bare = false }) else waits)
-IsNextAt (Some n) bytes next = (v : Verdict) × IsVerdict (head_at bytes n) v × (next ≡ behind bytes n v)
+    next ≡ (if nat_le 8192 (length bytes)
+    then refuses 8192 (record { refusal = Fields; bare = false }) else waits)
+IsNextAt (Some n) bytes next =
+    (v : Verdict) × IsVerdict (head_at bytes n) v × (next ≡ behind bytes n v)
 
 -- what stands at the front of these bytes
 abbrev pub IsNext : List ℕ → Next → Type 0
@@ -58,7 +65,8 @@ IsNext bytes next = IsNextAt (head_end (take 8192 bytes)) bytes next
 -- the bytes are these messages, one behind the other, and a rest
 abbrev pub Splits : List ℕ → List Message → List ℕ → Type 0
 Splits bytes [] rest = bytes ≡ rest
-Splits bytes (m ∷ messages) rest = (n : ℕ) × IsNext bytes (takes n m) × Splits (drop n bytes) messages rest
+Splits bytes (m ∷ messages) rest =
+    (n : ℕ) × IsNext bytes (takes n m) × Splits (drop n bytes) messages rest
 
 -- no message stands at the front
 abbrev pub IsLast : Next → Type 0
@@ -66,7 +74,8 @@ IsLast waits = Unit {0}
 IsLast (refuses n refused) = Unit {0}
 IsLast (takes n m) = ⊥
 
--- the requests of a stream: its messages in order, and what stands behind them, of which a refused head is the last
+-- the requests of a stream: its messages in order, and what stands behind them, of which a refused
+-- head is the last
 pub record Requests (bytes : List ℕ) (messages : List Message) (last : Next) : Type 0 where
   pub rest : List ℕ
   pub splits : Splits bytes messages rest
@@ -82,7 +91,8 @@ pub data Deed : Type 0 where
 abbrev pub Does : List ℕ → List Deed → List ℕ → Type 0
 Does unread [] left = unread ≡ left
 Does unread (fed piece ∷ deeds) left = Does (unread ++ piece) deeds left
-Does unread (took m ∷ deeds) left = (n : ℕ) × IsNext unread (takes n m) × Does (drop n unread) deeds left
+Does unread (took m ∷ deeds) left =
+    (n : ℕ) × IsNext unread (takes n m) × Does (drop n unread) deeds left
 
 -- all that was fed, in order
 abbrev pub all_fed : List Deed → List ℕ

@@ -21,7 +21,12 @@ pub record Parts : Type 0 where
 
 -- of a head: its fields by name and value
 abbrev pub parts_of : RequestHead → Parts
-parts_of h = record { method = h.method; target = h.target; minor = h.minor; fields = map name_and_value h.fields }
+parts_of h = record {
+  method = h.method;
+  target = h.target;
+  minor = h.minor;
+  fields = map name_and_value h.fields;
+}
 
 infixl 10 ◌>>=◌
 -- one step, and the next where it does not refuse
@@ -58,14 +63,16 @@ decide p = do
   _ ← check (nat_le size 65536) TooLarge
   Ok (record { route = route; size = size; close = closes p.minor p.fields })
 
--- what comes of a head: a refusal, which is answered bare where the method is HEAD, or a request with its segment
+-- what comes of a head: a refusal, which is answered bare where the method is HEAD, or a request
+-- with its segment
 pub data Verdict : Type 0 where
   Refuses : RefusedHead → Verdict
   Goes : Going → List ℕ → Verdict
 
 -- by what its parts decide
 abbrev pub verdict_by : Parts → Result Going Refusal → Verdict
-verdict_by p (Err refusal) = Refuses (record { refusal = refusal; bare = bytes_eq p.method (codes "HEAD") })
+verdict_by p (Err refusal) =
+    Refuses (record { refusal = refusal; bare = bytes_eq p.method (codes "HEAD") })
 verdict_by p (Ok going) = Goes going (segment_of p.target)
 
 -- what comes of a head with these parts
@@ -79,5 +86,6 @@ IsHead bytes h = ReadsRequest bytes h [] × (length h.fields ≤ 64)
 -- bytes that are no head are refused; a head is judged by its parts
 abbrev pub IsVerdict : List ℕ → Verdict → Type 0
 IsVerdict bytes v =
-    (((h : RequestHead) → ¬ IsHead bytes h) × (v ≡ Refuses (record { refusal = Head; bare = false })))
+    (((h : RequestHead) → ¬ IsHead bytes h)
+    × (v ≡ Refuses (record { refusal = Head; bare = false })))
     ⊎ ((h : RequestHead) × IsHead bytes h × (v ≡ verdict_of (parts_of h)))

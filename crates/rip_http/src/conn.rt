@@ -147,8 +147,8 @@ impl Conn {
 
     /// The method that the answer 405 names; where the head is not refused by 405, GET.
     pub fn allowed(&self) -> Method
-        ensures { (n : ℕ) (r : RefusedHead) → IsNext self.now (refuses n r) → code_of r.refusal ≡ 405
-            → allowed_by r.refusal ≡ Some result }
+        ensures { (n : ℕ) (r : RefusedHead) → IsNext self.now (refuses n r)
+            → code_of r.refusal ≡ 405 → allowed_by r.refusal ≡ Some result }
     {
         match self.stage.refused() {
             Some(refused) => refused.refusal.allowed().unwrap_or(Method::Get),
