@@ -1,6 +1,7 @@
 pub mod Calls
 pub mod DepthLemmas
 pub mod DomLemmas
+pub mod LawLemmas
 pub mod Links
 pub mod NameLemmas
 pub mod OpeningLemmas

@@ -33,7 +33,7 @@ fits d = record { lists = d.child_lists; owners = d.child_items; attributes = d.
 pub length-nodes : (f : ℕ → Node) (k : ℕ) → length (map f (range_with_len 0 k)) ≡ k
 length-nodes f k = length-map (range_with_len 0 k) f ∙ length-range_with_len 0 k
 
-nodes-at : (f : ℕ → Node) (k n : ℕ) → n < k → get_or (map f (range_with_len 0 k)) n no_node ≡ f n
+pub nodes-at : (f : ℕ → Node) (k n : ℕ) → n < k → get_or (map f (range_with_len 0 k)) n no_node ≡ f n
 nodes-at f k n h = get_or-map-range_with_len f 0 k n n no_node h (omega arith)
 
 -- the node of a number is what its record and its lists say, also where there is none

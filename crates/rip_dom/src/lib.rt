@@ -20,7 +20,8 @@
 //!
 //! Laws stand in `Laws`, each the contract of a function: parent and children agree
 //! ([`Dom::parents_and_children_agree`]), no node is its own ancestor ([`Dom::has_no_cycle`]), and what is put before a
-//! place is read before it ([`puts_are_read`]).
+//! place is read before it ([`puts_are_read`]), and other lists stay but where the node left ([`puts_leave_others`]); a
+//! number never comes again ([`numbers_are_new`]).
 //!
 //! A layer above may rest on this: a refused call changes nothing; a node that was taken out keeps its number and its
 //! children; a number that is no node's has no parent, no children and no siblings.
@@ -37,4 +38,4 @@ mod tests;
 mod walks;
 
 pub use dom::{Dom, HIERARCHY_REQUEST, NOT_FOUND};
-pub use laws::puts_are_read;
+pub use laws::{numbers_are_new, puts_are_read, puts_leave_others};
