@@ -33,9 +33,17 @@ impl Model for Queue {
 
     ghost Value = { Calls };
 
-    ghost view = { λ q. record { made = q.past.made; taken = q.past.taken; limit = q.bytes.capacity } };
+    ghost view = { λ q. record {
+      made = q.past.made;
+      taken = q.past.taken;
+      limit = q.bytes.capacity;
+    } };
 
-    ghost invariant = { λ q. IsQueue (record { made = q.past.made; taken = q.past.taken; limit = q.bytes.capacity }) q.bytes.items q.number };
+    ghost invariant = { λ q. IsQueue (record {
+      made = q.past.made;
+      taken = q.past.taken;
+      limit = q.bytes.capacity;
+    }) q.bytes.items q.number };
 }
 
 impl Queue {
@@ -53,7 +61,8 @@ impl Queue {
     /// Puts a call behind those that wait, and answers its number. It takes no memory.
     pub fn push_made(&mut self, alloc: Global, call: &[u8]) -> Result<u64, Refused>
         requires { IsOneLine call.now }
-        ensures limit { (result ≡ Err (Refused.Limit Limit.Queue)) ↔ (self.old.limit < used self.old + (length call.now + 1)) }
+        ensures limit { (result ≡ Err (Refused.Limit Limit.Queue)) ↔
+            (self.old.limit < used self.old + (length call.now + 1)) }
         ensures only_limit { IfErr result (λ refused. refused ≡ Refused.Limit Limit.Queue) }
         ensures made { OnOk result (self.new ≡ with_call self.old call.now) }
         ensures number { IfOk result (λ number. number ≡ number_at (length self.new.made)) }

@@ -1,5 +1,5 @@
 -- Sessions in the order of their opening: identifiers, values, and which have ended, in three lists of one length.
-use Rattle.std.specs.Prelude.{◌≡◌, ℕ, ◌-◌, ◌≤◌, Bool, true, false, not, nat_eq, if◌then◌else◌, List, [], ◌∷◌, ◌++◌, length, position, slice_get, slice_set, count_by, Option, None, unwrap_or}
+use Rattle.std.specs.Prelude.{◌≡◌, ℕ, ◌-◌, ◌≤◌, Bool, true, false, not, nat_eq, if◌then◌else◌, List, [], ◌∷◌, ◌++◌, length, position, slice_get, slice_set, count_by, Option, None, option_and_then, unwrap_or}
 use Rattle.std.specs.HashSet.{IsUnique}
 use Rattle.std.specs.Vec.{with_item}
 use Rattle.rip_table.specs.declared.table.Table.{Table}
@@ -53,6 +53,14 @@ module _ {T : Type 0} where
   -- the value at a place, where the session is live
   abbrev pub live_value : Table T → ℕ → Option T
   live_value t place = if is_live_at t place then slice_get (values t) place else None
+
+  -- the value of a session, live or ended
+  abbrev pub any_session : Table T → ℕ → Option T
+  any_session t id = option_and_then (slice_get (values t)) (place_of t id)
+
+  -- the value of a live session
+  abbrev pub live_session : Table T → ℕ → Option T
+  live_session t id = option_and_then (live_value t) (place_of t id)
 
   -- ---- changes
 

@@ -1,4 +1,4 @@
-ghost use Rattle.std.specs.Prelude.{◌≡◌, ◌↔◌, ◌+◌, ◌-◌, ◌<◌, ◌≤◌, [], ◌∷◌, ◌++◌, false, length, IsSome, IfOk, IfErr, OnOk, OnErr, option_and_then, option_map, slice_get, nat_eq, vec_len, vec_capacity};
+ghost use Rattle.std.specs.Prelude.{◌≡◌, ◌↔◌, ◌+◌, ◌-◌, ◌<◌, ◌≤◌, [], ◌∷◌, ◌++◌, false, length, IsSome, IfOk, IfErr, OnOk, OnErr, option_map, slice_get, nat_eq, vec_len, vec_capacity};
 ghost use Rattle.std.specs.HashSet.{IsUnique, contains};
 ghost use Rattle.std.specs.Option.{option_copied, option_copied_mut};
 ghost use Rattle.std.specs.List.{position_or_len};
@@ -23,7 +23,7 @@ pub struct Table<T> {
 }
 
 impl<T: Drop> Table<T> {
-    ghost use Rattle.rip_table.specs.Table.{IsTable, ids, values, most_live, live_count, place_of, at_ordinal, is_live_at, live_value, Opens, Ends, IsSame, value_of};
+    ghost use Rattle.rip_table.specs.Table.{IsTable, ids, most_live, live_count, place_of, at_ordinal, is_live_at, live_value, any_session, live_session, Opens, Ends, IsSame, value_of};
     ghost use Rattle.rip_table.specs.Lending.{LendsPlace, LendsSession};
 
     /// A table in which so many sessions may be live.
@@ -77,7 +77,7 @@ impl<T: Drop> Table<T> {
 
     /// The value of a session, live or ended.
     pub fn any(&self, id: u128) -> Option<&T>
-        ensures { option_copied result ≡ option_and_then (slice_get (values self.now)) (place_of self.now id) }
+        ensures { option_copied result ≡ any_session self.now id }
     {
         let place = self.ids.get_index_of(&id)?;
         self.values.get(place)
@@ -106,7 +106,7 @@ impl<T: Drop> Table<T> {
 
     /// The value of a live session.
     pub fn get(&self, id: u128) -> Option<&T>
-        ensures { option_copied result ≡ option_and_then (live_value self.now) (place_of self.now id) }
+        ensures { option_copied result ≡ live_session self.now id }
     {
         let place = self.ids.get_index_of(&id)?;
         if self.is_live_at(place) {
@@ -119,7 +119,7 @@ impl<T: Drop> Table<T> {
     /// The value of a live session, to be changed.
     pub fn get_mut(&mut self, id: u128) -> Option<&mut T>
         ensures* writes_back { sem 𝓛 (LendsSession T.row self.entry id result) }
-        ensures value { option_copied_mut result ≡ option_and_then (live_value self.old) (place_of self.old id) }
+        ensures value { option_copied_mut result ≡ live_session self.old id }
     {
         let place = self.ids.get_index_of(&id)?;
         self.live_mut(place)
@@ -149,11 +149,13 @@ impl<T: Drop> Table<T> {
     pub fn insert(&mut self, alloc: Global, id: u128, v: T) -> Result<u32, InsertRefused<T>>
         requires { IsTable self.old }
         ensures table { IsTable self.new }
-        ensures full { (result ≡ Err (InsertRefused.Full v)) ↔ (most_live self.old ≤ live_count self.old) }
+        ensures full { (result ≡ Err (InsertRefused.Full v)) ↔
+            (most_live self.old ≤ live_count self.old) }
         ensures spent { (result ≡ Err (InsertRefused.Spent v)) ↔
             ((live_count self.old < most_live self.old) × (1000000 ≤ length (ids self.old))) }
         ensures clash { (result ≡ Err (InsertRefused.Clash v)) ↔
-            ((live_count self.old < most_live self.old) × (length (ids self.old) < 1000000) × IsSome (place_of self.old id)) }
+            ((live_count self.old < most_live self.old)
+            × (length (ids self.old) < 1000000) × IsSome (place_of self.old id)) }
         ensures returned { IfErr result (λ refused. value_of refused ≡ v) }
         ensures ordinal { IfOk result (λ ordinal. ordinal ≡ length (ids self.old) + 1) }
         ensures opens { OnOk result (Opens self.old self.new id v) }
@@ -180,7 +182,7 @@ impl<T: Drop> Table<T> {
     /// Ends a live session. Its value stays.
     pub fn end(&mut self, id: u128)
         requires table { IsTable self.old }
-        requires live { IsSome (option_and_then (live_value self.old) (place_of self.old id)) }
+        requires live { IsSome (live_session self.old id) }
         ensures table { IsTable self.new }
         ensures ends { Ends self.old self.new (position_or_len (nat_eq id) (ids self.old)) }
     {
