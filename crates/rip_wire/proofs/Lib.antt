@@ -4,4 +4,5 @@ pub mod LawLemmas
 pub mod SameLemmas
 pub mod TextLemmas
 pub mod TreeLemmas
+pub mod Utf8Lemmas
 pub mod ValueLemmas

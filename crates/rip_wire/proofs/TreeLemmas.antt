@@ -186,7 +186,7 @@ item_datum (reply k) h =
 
 -- ---- batches
 
-abbrev batch_tree : Contents → Tree
+abbrev pub batch_tree : Contents → Tree
 batch_tree b = tree.object (tree.field (codes "batch") (number_tree b.number) (tree.field (codes "items") (list_tree (map item_tree b.items)) tree.no_fields))
 
 items_data : (rs : List Reported) → map data_of (map item_tree rs) ≡ map item_value rs

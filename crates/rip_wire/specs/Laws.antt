@@ -8,6 +8,10 @@ use Rattle.rip_wire.specs.Answers.{Said, answer_text, IsAnswer}
 abbrev pub TextTellsBatch : Type 0
 TextTellsBatch = (b c : Contents) → IsBatch b → IsBatch c → batch_text b ≡ batch_text c → b ≡ c
 
+-- each batch in range is spelled by its text
+abbrev pub TextSpellsBatch : Type 0
+TextSpellsBatch = (b : Contents) → IsBatch b → Spells (batch_text b) b
+
 -- a body spells one batch at most
 abbrev pub BodyTellsBatch : Type 0
 BodyTellsBatch = (body : List ℕ) (b c : Contents) → Spells body b → Spells body c → b ≡ c

@@ -1,6 +1,6 @@
 ghost use Rattle.std.specs.Prelude.{◌≡◌, IfOk, IfErr};
 ghost use Rattle.rip_wire.specs.Batches.{contents_of, IsBatch};
-ghost use Rattle.rip_wire.specs.Laws.{TextTellsBatch, BodyTellsBatch, BodiesAreOneValue, BodyTellsAnswer};
+ghost use Rattle.rip_wire.specs.Laws.{TextTellsBatch, TextSpellsBatch, BodyTellsBatch, BodiesAreOneValue, BodyTellsAnswer};
 
 use crate::error::WireError;
 use crate::item::Batch;
@@ -11,6 +11,11 @@ use std::alloc::Global;
 /// No two batches in range have one text.
 pub fn texts_tell_batches()
     ensures { TextTellsBatch }
+{}
+
+/// Each batch in range is spelled by its text, so that it has a body.
+pub fn texts_spell_batches()
+    ensures { TextSpellsBatch }
 {}
 
 /// A body spells one batch at most, and the bodies that spell one batch are one value of JSON.

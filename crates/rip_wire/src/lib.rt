@@ -14,9 +14,9 @@
 //! | [`is_name`] | `Names.IsName` |
 //!
 //! A layer above may rest on this: a body is read exactly where it spells a batch in range, and as that batch alone
-//! ([`bodies_tell_batches`]); a batch that is written is read again ([`written_is_read`]); no two batches have one text,
-//! and no two answers one body ([`texts_tell_batches`], [`bodies_tell_answers`]). Each call takes time in proportion to
-//! the text.
+//! ([`bodies_tell_batches`]); each batch in range has a body ([`texts_spell_batches`]); a batch that is written is read
+//! again ([`written_is_read`]); no two batches have one text, and no two answers one body ([`texts_tell_batches`],
+//! [`bodies_tell_answers`]). Each call takes time in proportion to the text.
 #![tactic(auto)]
 
 mod answer;
@@ -40,7 +40,10 @@ pub use ending::{Ending, Reason};
 pub use error::WireError;
 pub use gesture::Gesture;
 pub use item::{Batch, Item, ItemList, LONGEST_NAME, MOST_BATCHES, MOST_ITEMS};
-pub use laws::{bodies_tell_answers, bodies_tell_batches, texts_tell_batches, written_is_read};
+pub use laws::{
+    bodies_tell_answers, bodies_tell_batches, texts_spell_batches, texts_tell_batches,
+    written_is_read,
+};
 pub use name::is_name;
 pub use read::read_batch;
 pub use write::write_batch;
