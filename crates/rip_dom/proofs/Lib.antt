@@ -5,6 +5,7 @@ pub mod LawLemmas
 pub mod Links
 pub mod NameLemmas
 pub mod OpeningLemmas
+pub mod OrderLemmas
 pub mod Paths
 pub mod RemovalLemmas
 pub mod TreeLemmas

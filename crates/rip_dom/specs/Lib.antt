@@ -5,5 +5,7 @@ pub mod Linked
 pub mod Lists
 pub mod Names
 pub mod Opening
+pub mod Order
 pub mod Tree
 pub mod Walks
+pub mod Way

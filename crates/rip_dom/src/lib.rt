@@ -13,6 +13,7 @@
 //! | [`Dom::kind`], [`Dom::name`], [`Dom::text`] | `Tree.node_at` |
 //! | [`Dom::attribute_at`] | the attributes of `Tree.node_at`, in the order of making |
 //! | [`Dom::attribute`], [`Dom::remove_attribute`] | `Names.attribute_of`, `Names.without_attribute` |
+//! | [`Dom::find_id`] | `Order.element_of_id`, the first in `Order.in_order` |
 //! | [`Dom::create_text`] | `Tree.new_node` |
 //! | [`Dom::insert_before`], [`Dom::replace`], [`Dom::remove`] | `Tree.inserted`, `Tree.replaced`, `Tree.taken_out` |
 //! | the codes of refusals and their order | `Tree.insert_code`, `Tree.replace_code`, `Tree.remove_code`; what bars a node, `Tree.is_barred` |
@@ -33,6 +34,7 @@ mod laws;
 mod lists;
 mod names;
 mod opening;
+mod order;
 #[cfg(test)]
 mod tests;
 mod walks;
