@@ -1,4 +1,6 @@
+pub mod AttributeLemmas
 pub mod Calls
+pub mod CreationLemmas
 pub mod DepthLemmas
 pub mod DomLemmas
 pub mod LawLemmas

@@ -1,4 +1,6 @@
 pub mod Answers
+pub mod Attributes
+pub mod Creation
 pub mod Document
 pub mod Laws
 pub mod Linked
