@@ -1,10 +1,13 @@
+pub mod AttributeLemmas
 pub mod Calls
+pub mod CreationLemmas
 pub mod DepthLemmas
 pub mod DomLemmas
 pub mod LawLemmas
 pub mod Links
 pub mod NameLemmas
 pub mod OpeningLemmas
+pub mod OrderLemmas
 pub mod Paths
 pub mod RemovalLemmas
 pub mod TreeLemmas

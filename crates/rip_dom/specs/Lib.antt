@@ -1,9 +1,13 @@
 pub mod Answers
+pub mod Attributes
+pub mod Creation
 pub mod Document
 pub mod Laws
 pub mod Linked
 pub mod Lists
 pub mod Names
 pub mod Opening
+pub mod Order
 pub mod Tree
 pub mod Walks
+pub mod Way

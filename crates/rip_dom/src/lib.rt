@@ -13,7 +13,10 @@
 //! | [`Dom::kind`], [`Dom::name`], [`Dom::text`] | `Tree.node_at` |
 //! | [`Dom::attribute_at`] | the attributes of `Tree.node_at`, in the order of making |
 //! | [`Dom::attribute`], [`Dom::remove_attribute`] | `Names.attribute_of`, `Names.without_attribute` |
+//! | [`Dom::find_id`] | `Order.element_of_id`, the first in `Order.in_order` |
 //! | [`Dom::create_text`] | `Tree.new_node` |
+//! | [`Dom::create_element`] | `Creation.element_made`, refused as `Creation.element_refusal` says |
+//! | [`Dom::set_attribute`] | `Attributes.attribute_set`, refused as `Attributes.attribute_refusal` says |
 //! | [`Dom::insert_before`], [`Dom::replace`], [`Dom::remove`] | `Tree.inserted`, `Tree.replaced`, `Tree.taken_out` |
 //! | the codes of refusals and their order | `Tree.insert_code`, `Tree.replace_code`, `Tree.remove_code`; what bars a node, `Tree.is_barred` |
 //! | what a call answers of its step | `Answers.Makes`, `Answers.Moves` |
@@ -27,15 +30,19 @@
 //! children; a number that is no node's has no parent, no children and no siblings.
 #![tactic(auto)]
 
+mod attributes;
+mod creation;
 mod dom;
 mod kinds;
 mod laws;
 mod lists;
 mod names;
 mod opening;
+mod order;
 #[cfg(test)]
 mod tests;
 mod walks;
 
+pub use creation::{DomRefused, INVALID_CHARACTER};
 pub use dom::{Dom, HIERARCHY_REQUEST, NOT_FOUND};
 pub use laws::{numbers_are_new, puts_are_read, puts_leave_others};

@@ -65,7 +65,7 @@ fn is_named(pairs: &Vec<(Span, Span)>, pool: &Pool, n: u32, name: &[u16]) -> boo
 }
 
 // Whether the text is the name in small letters.
-fn is_small(text: &[u16], name: &[u16]) -> bool
+pub(crate) fn is_small(text: &[u16], name: &[u16]) -> bool
     ensures { result ≡ is_small text.now name.now }
 {
     if text.len() != name.len() {
@@ -79,7 +79,7 @@ fn is_small(text: &[u16], name: &[u16]) -> bool
     true
 }
 
-fn small_unit(unit: u16) -> u16
+pub(crate) fn small_unit(unit: u16) -> u16
     ensures { result ≡ small_unit unit }
 {
     if 65 <= unit && unit <= 90 {
