@@ -1,3 +1,4 @@
 mod Chains
+mod Climbs
 mod Finds
 mod Pushed
