@@ -2,3 +2,4 @@ mod Chains
 mod Climbs
 mod Finds
 mod Pushed
+mod Steps
