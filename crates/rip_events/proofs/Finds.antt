@@ -1,0 +1,38 @@
+-- The search for a listener that fits, along the chain of its node.
+use Rattle.std.proofs.Common.{◌≡◌, ℕ, suc, ◌+◌, ◌-◌, ◌<◌, ◌≤◌, Bool, true, false, length, Option, None, Some, refl, sym, ap, ◌∙◌, arith}
+use Rattle.std.proofs.lemmas.Bool.{and_left, and_right}
+use Rattle.rip_values.specs.Pool.{Texts}
+use Rattle.rip_events.specs.declared.listener.Listener.{Listener}
+use Rattle.rip_events.specs.declared.listener.Wanted.{Wanted}
+use Rattle.rip_events.specs.Listed.{Listed, listener_at, stands_at, is_alike, may_be, is_wanted, fits, first_number, first_between}
+use Rattle.rip_events.specs.Chained.{is_on, first_on}
+use Rattle.rip_events.proofs.Chains.{rest, skip, past, here, beyond, IsAhead, ahead}
+use Rattle.rip_heap.specs.Names.{same_text}
+use Rattle.std.specs.Prelude.{◌&&◌}
+
+-- what fits is on the node
+weak : (pool : Texts) (w : Wanted) (l : Listed) (m : ℕ) → is_on l.registered w.node m ≡ false → fits pool w l m ≡ false
+weak pool w l m h = let x = listener_at l.registered m in
+    and_right (stands_at l.standing m) (is_wanted pool w x) (and_left (is_on l.registered w.node m) (is_alike w.capture x.capture && (may_be w.function x.function && same_text pool x.kind w.kind)) h)
+
+pub start : (pool : Texts) (w : Wanted) (l : Listed) (from until : ℕ) (at : Option ℕ) → until ≤ length l.registered → at ≡ first_on l.registered w.node from
+    → first_between pool w from until l ≡ rest until (fits pool w l) at
+start pool w l from until at h e =
+    sym (ap (rest until (fits pool w l)) e ∙ skip (length l.registered - from) from until (fits pool w l) (is_on l.registered w.node) (weak pool w l) (omega (arith, h)))
+
+pub step : (pool : Texts) (w : Wanted) (l : Listed) (until n : ℕ) (at next : Option ℕ) → until ≤ length l.registered → at ≡ Some n → fits pool w l n ≡ false → (listener_at l.registered n).node ≡ w.node
+    → next ≡ first_on l.registered (listener_at l.registered n).node (n + 1) → rest until (fits pool w l) at ≡ rest until (fits pool w l) next
+step pool w l until n at next h s f on e =
+    let k : n + 1 ≡ suc n = omega arith in
+    ap (rest until (fits pool w l)) s ∙ past until n (fits pool w l) f
+    ∙ start pool w l (suc n) until next h (e ∙ ap (λ p. first_on l.registered p (n + 1)) on ∙ ap (λ k. first_on l.registered w.node k) k)
+
+pub ends : (pool : Texts) (w : Wanted) (l : Listed) (until n : ℕ) (at : Option ℕ) → at ≡ Some n → until ≤ n → rest until (fits pool w l) at ≡ None
+ends pool w l until n at s h = ap (rest until (fits pool w l)) s ∙ beyond until n (fits pool w l) h
+
+pub finds : (pool : Texts) (w : Wanted) (l : Listed) (until n : ℕ) (at : Option ℕ) → at ≡ Some n → n < until → fits pool w l n ≡ true → rest until (fits pool w l) at ≡ Some n
+finds pool w l until n at s h f = ap (rest until (fits pool w l)) s ∙ here until n (fits pool w l) h f
+
+pub runs-out : (pool : Texts) (w : Wanted) (l : Listed) (until i : ℕ) (at : Option ℕ) → length l.registered ≤ i → IsAhead l.registered w.node i at → rest until (fits pool w l) at ≡ None
+runs-out pool w l until i None h a = refl
+runs-out pool w l until i (Some n) h a = absurd (omega (arith, h, a.0, a.1))

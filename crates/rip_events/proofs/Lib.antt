@@ -1,0 +1,5 @@
+mod Chains
+mod Climbs
+mod Finds
+mod Pushed
+mod Steps

@@ -1,0 +1,30 @@
+//! The listeners of a session, and the flow of an event along them (DOM Level 2 Events 1.2 and 1.3).
+//!
+//! Listeners are numbered in the order of registration, and no number comes twice. A flow goes along stations, which
+//! are fixed when it begins; a station takes the listeners whose numbers are below the count that there was when it was
+//! reached, each if it still stands at its turn. So nothing need be known of what a listener does to the others.
+//!
+//! | what | its definition in `specs/` |
+//! |---|---|
+//! | [`Listeners`] | contracts see `Listed.Listed`: all that were ever registered, and which of them stand |
+//! | [`Listeners::add`] | `Listed.registered`, which is charged as `Listed.cost_of_listener`; `Listed.Registers` says what each answer leaves |
+//! | [`Listeners::remove`] | `Listed.without_listener` of the one that is `Listed.found` |
+//! | [`Listeners::first_between`] | `Listed.first_between`, the first that stands and is wanted |
+//! | [`Cursor`] | contracts see `Flow.Course`, a flow under way |
+//! | [`Cursor::begin`] | `Flow.begun`, along `Flow.stations` |
+//! | [`Cursor::next`] | `Flow.next_call` |
+//!
+//! A layer above may rest on this: `next` is the next call of the flow whatever was done to the document and to the
+//! listeners since the last one; no call but the makers takes memory; a station costs the listeners of its node.
+#![tactic(auto)]
+
+mod calls;
+mod cursor;
+mod listener;
+mod listeners;
+mod station;
+
+pub use cursor::Cursor;
+pub use listener::{Listener, Wanted};
+pub use listeners::Listeners;
+pub use station::{Phase, Place, Station};
