@@ -12,3 +12,4 @@ pub mod Paths
 pub mod RemovalLemmas
 pub mod TreeLemmas
 pub mod WalkLemmas
+pub mod WritingLemmas

@@ -11,3 +11,4 @@ pub mod Order
 pub mod Tree
 pub mod Walks
 pub mod Way
+pub mod Writing

@@ -274,7 +274,7 @@ impl Dom {
         self.children.insert(parent, child, at);
     }
 
-    fn take_out(&mut self, child: u32)
+    pub(crate) fn take_out(&mut self, child: u32)
         requires { child < length self.old.nodes }
         ensures { self.new ≡ taken_out self.old child }
     {

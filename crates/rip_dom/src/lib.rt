@@ -17,6 +17,7 @@
 //! | [`Dom::create_text`] | `Tree.new_node` |
 //! | [`Dom::create_element`] | `Creation.element_made`, refused as `Creation.element_refusal` says |
 //! | [`Dom::set_attribute`] | `Attributes.attribute_set`, refused as `Attributes.attribute_refusal` says |
+//! | [`Dom::write_text`] | `Writing.written`, refused as `Writing.is_past` says |
 //! | [`Dom::insert_before`], [`Dom::replace`], [`Dom::remove`] | `Tree.inserted`, `Tree.replaced`, `Tree.taken_out` |
 //! | the codes of refusals and their order | `Tree.insert_code`, `Tree.replace_code`, `Tree.remove_code`; what bars a node, `Tree.is_barred` |
 //! | what a call answers of its step | `Answers.Makes`, `Answers.Moves` |
@@ -42,6 +43,7 @@ mod order;
 #[cfg(test)]
 mod tests;
 mod walks;
+mod writing;
 
 pub use creation::{DomRefused, INVALID_CHARACTER};
 pub use dom::{Dom, HIERARCHY_REQUEST, NOT_FOUND};
