@@ -1,6 +1,8 @@
 -- The inner scopes around a node that bind a name.
 use Rattle.std.proofs.Common.{◌≡◌, ℕ, suc, List, [], ◌∷◌, ◌++◌, Option, Some, None, option_map, is_some, Bool, true, false, ◌||◌, refl, sym, ap, ◌∙◌}
 use Rattle.std.specs.List.{flat_map}
+use Rattle.rip_values.specs.declared.global.Global.{Global as GlobalName}
+use Rattle.rip_values.specs.Globals.{global_named}
 use Rattle.rip_tree.specs.declared.form.Form.{Form}
 use Rattle.rip_tree.specs.declared.form.Form.TheVariants as F
 use Rattle.rip_tree.specs.declared.program.Resolved.TheVariants.{Binding, Global}
@@ -9,13 +11,13 @@ use Rattle.rip_early.specs.declared.meaning.Meaning.{Meaning}
 use Rattle.rip_early.specs.Around.{form_of, around}
 use Rattle.rip_early.specs.Looking.{is_binding}
 use Rattle.rip_early.specs.Mistakes.{is_bound_in}
-use Rattle.rip_early.specs.Names.{Name, place_in, globals}
+use Rattle.rip_early.specs.Names.{Name, place_in}
 use Rattle.rip_early.specs.Scopes.{Scope, inner_made, inner_scopes, meaning_in, scopes_made, scopes_among, scopes_around}
 
 -- a global is no binding
-global-unbound : (o : Option ℕ) → is_binding (option_map Global o) ≡ false
+global-unbound : (o : Option GlobalName) → is_binding (option_map Global o) ≡ false
 global-unbound None = refl
-global-unbound (Some place) = refl
+global-unbound (Some global) = refl
 
 meaning-found : (o : Option ℕ) (up : ℕ) (is_own rest : Bool) (otherwise : Meaning) → is_binding otherwise.resolved ≡ rest
     → is_binding (elim o as (λ _. Meaning) [ Some place ↦ record { resolved = Some (Binding up place); is_own = is_own } | None ↦ otherwise ]).resolved ≡ is_some o || rest
@@ -24,7 +26,7 @@ meaning-found (Some place) up is_own rest otherwise same = refl
 
 -- a name means a binding where one of the scopes binds it
 binding-bound : (ss : List Scope) (up : ℕ) (name : Name) → is_binding (meaning_in up ss name).resolved ≡ is_bound_in ss name
-binding-bound [] up name = global-unbound (place_in globals name)
+binding-bound [] up name = global-unbound (global_named name)
 binding-bound (s ∷ ss) up name = meaning-found (place_in s.names name) up s.is_own (is_bound_in ss name) (meaning_in (suc up) ss name) (binding-bound ss (suc up) name)
 
 bound-append : (xs ys : List Scope) (name : Name) → is_bound_in (xs ++ ys) name ≡ is_bound_in xs name || is_bound_in ys name

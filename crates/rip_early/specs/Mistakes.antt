@@ -12,6 +12,7 @@ use Rattle.rip_tree.specs.declared.form.Key.TheVariants as K
 use Rattle.rip_tree.specs.declared.node.Node.{Node}
 use Rattle.rip_tree.specs.declared.node.Piece.{Piece}
 use Rattle.rip_tree.specs.Branches.{Plant, child_of, node_of, units_at}
+use Rattle.rip_values.specs.Globals.{global_named}
 use Rattle.rip_early.specs.Around.{numbers, children_of, forms_around, is_function}
 use Rattle.rip_early.specs.declared.duplicates.Placed.{Placed}
 use Rattle.rip_early.specs.declared.mistake.Mistake.{Mistake}
@@ -19,7 +20,7 @@ use Rattle.rip_early.specs.declared.refusal.EarlyKind.{EarlyKind}
 use Rattle.rip_early.specs.declared.refusal.EarlyKind.TheVariants.{NotStrict, Duplicate, BadBinding, BadDelete, UnknownGlobal, NoGlobalObject, BadJump}
 use Rattle.rip_early.specs.declared.refusal.EarlyRefusal.{EarlyRefusal}
 use Rattle.rip_early.specs.declared.refusal.EarlyRefusal.TheVariants.{At, Memory}
-use Rattle.rip_early.specs.Names.{Name, place_in, top_scope, globals}
+use Rattle.rip_early.specs.Names.{Name, place_in, top_scope}
 use Rattle.rip_early.specs.Scopes.{Scope, inner_scopes, meaning_at}
 
 -- an early error: where it stands in its script, and its kind
@@ -132,7 +133,7 @@ is_restricted name = bytes_eq name (codes "eval") || bytes_eq name (codes "argum
 
 -- the name is that of a global of the profile
 abbrev pub is_global : Name → Bool
-is_global name = is_some (place_in globals name)
+is_global name = is_some (global_named name)
 
 -- the name that a node binds
 abbrev pub bound_name : Form → Option Piece

@@ -1,5 +1,5 @@
 -- The names that functions and scripts bind (ECMA-262 10.5, 13, 14). A name is its units.
-use Rattle.std.specs.Prelude.{ℕ, Bool, false, ◌==◌, if◌then◌else◌, List, [], ◌∷◌, ◌++◌, filter_map, fold, codes, Option, None, Some, option_map, position}
+use Rattle.std.specs.Prelude.{ℕ, Bool, false, ◌==◌, if◌then◌else◌, List, [], ◌∷◌, ◌++◌, filter_map, fold, Option, None, Some, option_map, position}
 use Rattle.std.specs.List.{flat_map}
 use Rattle.std.specs.Str.{bytes_eq}
 use Rattle.rip_tree.specs.declared.form.Form.{Form}
@@ -75,7 +75,3 @@ function_scope t id = distinct (parameter_names t id ++ function_names t id ++ v
 -- the names that the one top scope of all scripts binds: of each script its functions and then its `var` names
 unfoldable pub top_scope : List Plant → List Name
 top_scope trees = distinct (flat_map (λ t. function_names t 0 ++ var_names t 0) trees)
-
--- the globals of the profile, by number
-unfoldable pub globals : List Name
-globals = codes "document" ∷ codes "ripley" ∷ codes "Math" ∷ codes "parseInt" ∷ codes "isNaN" ∷ codes "String" ∷ codes "Number" ∷ codes "Error" ∷ codes "TypeError" ∷ codes "RangeError" ∷ codes "undefined" ∷ codes "NaN" ∷ []

@@ -4,12 +4,13 @@ use Rattle.std.specs.List.{flat_map}
 use Rattle.rip_tree.specs.declared.form.Form.{Form}
 use Rattle.rip_tree.specs.declared.form.Form.TheVariants as F
 use Rattle.rip_tree.specs.declared.node.Piece.{Piece}
+use Rattle.rip_values.specs.Globals.{global_named}
 use Rattle.rip_tree.specs.declared.program.Resolved.TheVariants.{Binding, Global}
 use Rattle.rip_tree.specs.declared.program.Scoping.{Scoping}
 use Rattle.rip_tree.specs.Branches.{Plant, units_at}
 use Rattle.rip_early.specs.declared.meaning.Meaning.{Meaning}
 use Rattle.rip_early.specs.Around.{form_of, around}
-use Rattle.rip_early.specs.Names.{Name, place_in, function_scope, globals}
+use Rattle.rip_early.specs.Names.{Name, place_in, function_scope}
 
 -- SCOPES
 
@@ -57,7 +58,7 @@ inner_scopes t id = flat_map (λ a. inner_made t a (form_of t a)) (around t id)
 
 -- a global, or nothing
 abbrev pub global_meaning : Name → Meaning
-global_meaning name = record { resolved = option_map Global (place_in globals name); is_own = false }
+global_meaning name = record { resolved = option_map Global (global_named name); is_own = false }
 
 -- the name means what the first scope that binds it says, or else a global (10.2.2.1)
 abbrev pub meaning_in : ℕ → List Scope → Name → Meaning

@@ -13,7 +13,6 @@
 //! | the nodes around a node, and the script or function that it is code of | `Around.around`, `Around.home_of` |
 //! | the nodes of a script in the order of its text | `Around.in_text` |
 //! | the names that a function and the one top scope bind | `Names.function_scope`, `Names.top_scope` |
-//! | the globals of the profile | `Names.globals` |
 //! | what a name means where it stands | `Scopes.meaning_at`: the first scope around it that binds it, or else a global |
 //! | the early errors of a script: of its directive, and of each node by its form | `Mistakes.mistakes`, `Mistakes.is_strict`, `Mistakes.mistakes_of` |
 //! | [`check`]: no script has an early error | `Mistakes.AreClean` |
@@ -45,6 +44,5 @@ mod strict;
 mod tests;
 mod uses;
 
-pub use globals::GLOBALS;
 pub use program::{check, refusals_are_one};
 pub use refusal::{EarlyKind, EarlyRefusal};

@@ -1,6 +1,6 @@
 use crate::{EarlyKind, EarlyRefusal, check};
 use rip_tree::{Form, Node, Piece, Resolved, TextLiteral, Tree, TreeMaker, Trees};
-use rip_values::{NoMemory, Whole};
+use rip_values::{Global as GlobalName, NoMemory, Whole};
 use std::alloc::Global;
 use std::test::Fail;
 
@@ -170,7 +170,7 @@ fn scripts_without_an_early_error_are_a_program(rt: HostRuntime) -> Result<(), F
     let trees = Trees::from_vec(vec![in rt.alloc(); script]?);
     let program = check(rt.alloc(), &trees)?;
     assert_eq!(rt; (program.count(), program.top_names()), (5, 0));
-    assert_eq!(rt; program.resolved(4), Some(Resolved::Global(11)));
+    assert_eq!(rt; program.resolved(4), Some(Resolved::Global(GlobalName::NaN)));
     Ok(())
 }
 

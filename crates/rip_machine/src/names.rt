@@ -2,14 +2,14 @@ ghost use Rattle.std.specs.Prelude.{◌≡◌, [], Ok, Err, IfOk, OnErr, MatchRe
 ghost use Rattle.rip_heap.specs.Growth.{Grows};
 ghost use Rattle.rip_frames.specs.Rest.{as_row};
 ghost use Rattle.rip_machine.specs.Nesting.{Nests};
-ghost use Rattle.rip_machine.specs.Rows.Names.{bound, found, global_value, outer, scope_up, throws, written, written_to};
+ghost use Rattle.rip_machine.specs.Rows.Names.{bound, found, outer, scope_up, throws, written, written_to};
 ghost use Rattle.rip_machine.specs.Table.{table};
 
 use crate::source::Source;
 use rip_frames::{Completion, Next, Stop};
 use rip_heap::{Class, Heap};
 use rip_tree::{Resolved, Scoping};
-use rip_values::{Builtin, FIRST_NODE, Limit, NoMemory, Refused, Value};
+use rip_values::{Limit, NoMemory, Refused, Value};
 use std::alloc::Global;
 
 /// Throws a new error of this class.
@@ -31,26 +31,6 @@ pub(crate) fn throw(
     }
 }
 
-/// The value of a global, by its number (ECMA-262 15.1).
-fn global_value(n: u32) -> Value
-    ensures { result ≡ global_value n }
-{
-    match n {
-        0 => Value::Object(FIRST_NODE),
-        1 => Value::Object(Builtin::Ripley.number()),
-        2 => Value::Object(Builtin::Math.number()),
-        3 => Value::Object(Builtin::ParseInt.number()),
-        4 => Value::Object(Builtin::IsNaN.number()),
-        5 => Value::Object(Builtin::String.number()),
-        6 => Value::Object(Builtin::Number.number()),
-        7 => Value::Object(Builtin::Error.number()),
-        8 => Value::Object(Builtin::TypeError.number()),
-        9 => Value::Object(Builtin::RangeError.number()),
-        11 => Value::NaN,
-        _ => Value::Undefined,
-    }
-}
-
 /// The scope so many scopes further out.
 #[tactic(auto, using(crate::proofs::Scopes::scope_up_none, crate::proofs::Scopes::scope_up_more))]
 fn scope_up(heap: &Heap, scope: u32, up: u32) -> u32
@@ -69,7 +49,7 @@ pub(crate) fn found(heap: &Heap, scope: u32, name: Option<Resolved>) -> Option<V
 {
     match name {
         Some(Resolved::Binding { up, place }) => heap.binding(scope_up(heap, scope, up), place),
-        Some(Resolved::Global(n)) => Some(global_value(n)),
+        Some(Resolved::Global(global)) => Some(global.value()),
         None => Some(Value::Undefined),
     }
 }

@@ -5,7 +5,7 @@ ghost use Rattle.rip_tree.specs.Program.{joined, root_of, scoping_of, vars_of};
 use crate::joined::Joined;
 use crate::node::{Node, Piece};
 use crate::tree::Tree;
-use rip_values::{List, NoMemory, Units};
+use rip_values::{Global as GlobalName, List, NoMemory, Units};
 use std::alloc::Global;
 use std::marker::Model;
 
@@ -15,8 +15,7 @@ pub enum Resolved {
     /// A binding: how many scopes further out, and its place in that scope. The scope of a function expression's own
     /// name counts as one.
     Binding { up: u32, place: u32 },
-    /// A global, by its number.
-    Global(u32),
+    Global(GlobalName),
 }
 
 /// What the rules of scope say of a node.

@@ -1,5 +1,5 @@
 use crate::{Form, Node, Piece, Program, Resolved, Scoping, Tree, TreeMaker};
-use rip_values::{BinaryOperator, List, Units, Whole};
+use rip_values::{BinaryOperator, GLOBALS, Global as GlobalName, List, Units, Whole};
 use std::alloc::{AllocError, Global};
 use std::test::Fail;
 
@@ -127,7 +127,7 @@ fn a_program_is_read(rt: HostRuntime) -> Result<(), Fail> {
     for place in 0..6 {
         scoping.push(Scoping {
             names: place,
-            resolved: Some(Resolved::Global(place)),
+            resolved: Some(Resolved::Global(GLOBALS[place as usize])),
             is_own: place == 5,
         })?;
     }
@@ -164,7 +164,7 @@ fn a_program_is_read(rt: HostRuntime) -> Result<(), Fail> {
     assert!(rt; program.node_at(6).is_none());
     assert_eq!(rt; program.units(name), [98].as_slice());
     assert_eq!(rt; (program.names(5), program.names(6)), (5, 0));
-    assert_eq!(rt; program.resolved(5), Some(Resolved::Global(5)));
+    assert_eq!(rt; program.resolved(5), Some(Resolved::Global(GlobalName::String)));
     assert!(rt; program.resolved(6).is_none());
     assert!(rt; program.is_own_name(5));
     Ok(())

@@ -2,6 +2,7 @@ pub mod Blank
 pub mod Builtins
 pub mod FixedSearch
 pub mod FixedTexts
+pub mod Globals
 pub mod Limits
 pub mod NumberScan
 pub mod Numbers

@@ -154,7 +154,7 @@ fn of_length(length: usize) -> &'static [FixedText]
 }
 
 // Whether the units spell the ASCII text.
-fn is_spelled(spelling: &str, text: &[u16]) -> bool
+pub(crate) fn is_spelled(spelling: &str, text: &[u16]) -> bool
     ensures { result ≡ pointwise nat_eq spelling.now text.now }
 {
     spelling.len() == text.len() && are_alike(spelling.as_bytes(), text)

@@ -14,6 +14,7 @@
 //! | [`text_of_whole`] | std's `signed_decimal` |
 //! | [`FixedText`] | `FixedTexts.text_of`, its table, and `FixedTexts.fixed_span`, its places |
 //! | [`Builtin`] | `Builtins.number_of`, `Builtins.name_of`, `Builtins.home_of` |
+//! | [`Global`] | `Globals.global_name`, `Globals.global_named`, `Globals.global_value` |
 //! | [`Pool`] | contracts see `Pool.Texts`; a span stands for `Pool.text_at` |
 //! | [`Limits`] | `Limits.AreInRange` |
 //! | [`Report`], [`EventKind`], [`BadReport`] | contracts see their variants and fields |
@@ -28,6 +29,7 @@ mod blank;
 mod builtin;
 mod fixed;
 mod fixed_lookup;
+mod global;
 mod limits;
 mod list;
 mod memory;
@@ -46,6 +48,7 @@ mod writer;
 pub use blank::{is_line_end, is_white_space};
 pub use builtin::{BUILTINS, Builtin, BuiltinHome, FIRST_HEAP_OBJECT, FIRST_NODE};
 pub use fixed::{FIXED_TEXTS, FixedText};
+pub use global::{GLOBALS, Global};
 pub use limits::{LONGEST_INPUT, LONGEST_TEXT, Limits, MOST_REPLIES};
 pub use list::{Bytes, List, NumberList, Units};
 pub use memory::NoMemory;

@@ -289,3 +289,21 @@ fn built_ins_by_number(rt: HostRuntime) {
     assert!(rt; Builtin::ParseInt.is_function() && !Builtin::Math.is_function());
     assert!(rt; Limits::DEFAULT.are_in_range() && Limits::GREATEST.are_in_range());
 }
+
+#[test]
+fn globals_by_name(rt: HostRuntime) -> Result<(), Fail> {
+    for global in &GLOBALS {
+        let name = Units::from_utf8(rt.alloc(), global.name().as_bytes())?;
+        assert_eq!(rt; Global::named(name.as_slice()), Some(*global));
+    }
+    for name in ["window", "Infinity", "nan", "Mat", "Maths", ""] {
+        let name = Units::from_utf8(rt.alloc(), name.as_bytes())?;
+        assert_eq!(rt; Global::named(name.as_slice()), None);
+    }
+    assert_eq!(rt; Global::Document.value(), Value::Object(FIRST_NODE));
+    assert_eq!(rt; Global::Math.value(), Value::Object(0));
+    assert_eq!(rt; Global::RangeError.value(), Value::Object(8));
+    assert_eq!(rt; Global::Undefined.value(), Value::Undefined);
+    assert_eq!(rt; Global::NaN.value(), Value::NaN);
+    Ok(())
+}

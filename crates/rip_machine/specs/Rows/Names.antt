@@ -1,15 +1,14 @@
 -- Names: what a name is bound to, and how it is written (ECMA-262 8.7, 10.2, 10.3).
-use Rattle.std.specs.Prelude.{ℕ, zero, suc, ◌==◌, if◌then◌else◌, Option, None, Some, Result, Ok, Err, unwrap_or}
-use Rattle.rip_values.specs.declared.builtin.Builtin.TheVariants.{Ripley, Math, ParseInt, IsNaN, String, Number, Error, TypeError, RangeError}
+use Rattle.std.specs.Prelude.{ℕ, zero, suc, if◌then◌else◌, Option, None, Some, Result, Ok, Err, unwrap_or}
 use Rattle.rip_values.specs.declared.value.Value.{Value}
-use Rattle.rip_values.specs.Builtins.{number_of}
-use Rattle.rip_values.specs.declared.value.Value.TheVariants.{Undefined, NaN, Object}
+use Rattle.rip_values.specs.Globals.{global_value}
+use Rattle.rip_values.specs.declared.value.Value.TheVariants.{Undefined, Object}
 use Rattle.rip_values.specs.declared.value.Limit.TheVariants.{Cells}
 use Rattle.rip_heap.specs.declared.class.Class.{Class}
 use Rattle.rip_heap.specs.declared.class.Class.TheVariants.{ThrownTypeError, ThrownReferenceError}
 use Rattle.rip_heap.specs.Objects.{new_of}
 use Rattle.rip_heap.specs.Scopes.{binding, parent_of, with_binding}
-use Rattle.rip_heap.specs.World.{World, first_node, scope_at}
+use Rattle.rip_heap.specs.World.{World, scope_at}
 use Rattle.rip_tree.specs.declared.program.Resolved.{Resolved}
 use Rattle.rip_tree.specs.declared.program.Resolved.TheVariants.{Binding, Global}
 use Rattle.rip_tree.specs.declared.program.Scoping.{Scoping}
@@ -40,27 +39,10 @@ scope_up w scope (suc up) = outer w (scope_up w scope up)
 
 -- READING
 
--- the value of the global of this number (15.1): the document, `ripley`, the built-in objects and functions, `undefined`
--- and `NaN`
-abbrev pub global_value : ℕ → Value
-global_value n =
-    if n == 0 then Object first_node
-    else if n == 1 then Object (number_of Ripley)
-    else if n == 2 then Object (number_of Math)
-    else if n == 3 then Object (number_of ParseInt)
-    else if n == 4 then Object (number_of IsNaN)
-    else if n == 5 then Object (number_of String)
-    else if n == 6 then Object (number_of Number)
-    else if n == 7 then Object (number_of Error)
-    else if n == 8 then Object (number_of TypeError)
-    else if n == 9 then Object (number_of RangeError)
-    else if n == 11 then NaN
-    else Undefined
-
 -- what a name means from this scope on, or none where it is not bound yet (10.2.1.1)
 abbrev pub found : World → ℕ → Option Resolved → Option Value
 found w scope None = Some Undefined
-found w scope (Some (Global n)) = Some (global_value n)
+found w scope (Some (Global g)) = Some (global_value g)
 found w scope (Some (Binding up place)) = binding w (scope_up w scope up) place
 
 -- goes on with what a name means; a name that is not bound yet is a ReferenceError (8.7.1)
@@ -77,7 +59,7 @@ rebound w scope place v (Some old) = Ok (with_binding w scope place v)
 
 abbrev pub written_to : World → ℕ → Value → Option Resolved → Result World Class
 written_to w scope v None = Ok w
-written_to w scope v (Some (Global n)) = Ok w
+written_to w scope v (Some (Global g)) = Ok w
 written_to w scope v (Some (Binding up place)) = rebound w (scope_up w scope up) place v (binding w (scope_up w scope up) place)
 
 -- the world with v in what a name means from this scope on; a function expression's own name is never written (8.7.2, 13)
@@ -92,5 +74,5 @@ with_written (Err class) w go = throws class w
 -- the world with v in a binding, whether it has a value or not (10.5)
 abbrev pub bound : World → ℕ → Option Resolved → Value → World
 bound w scope None v = w
-bound w scope (Some (Global n)) v = w
+bound w scope (Some (Global g)) v = w
 bound w scope (Some (Binding up place)) v = with_binding w (scope_up w scope up) place v
