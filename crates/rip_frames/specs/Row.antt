@@ -1,9 +1,9 @@
 -- Rows: what a part of a run does, as a program that asks for its parts. A row never sees units, fuel or a cut.
-use Rattle.std.specs.Prelude.{ℕ, ◌==◌, if◌then◌else◌, List}
-use Rattle.rip_values.specs.declared.value.Span.{Span}
+use Rattle.std.specs.Prelude.{◌==◌, if◌then◌else◌}
 use Rattle.rip_values.specs.declared.value.Value.{Value}
 use Rattle.rip_values.specs.declared.value.Limit.TheVariants.{Depth}
 use Rattle.rip_heap.specs.declared.host.HostDone.{HostDone}
+use Rattle.rip_heap.specs.Host.{Request}
 use Rattle.rip_heap.specs.World.{World}
 use Rattle.rip_frames.specs.declared.completion.Completion.{Completion}
 use Rattle.rip_frames.specs.declared.completion.Completion.TheVariants.{Normal, Thrown, Returned, Broken, Continued, Referred, Method}
@@ -11,12 +11,6 @@ use Rattle.rip_frames.specs.declared.completion.Stop.{Stop}
 use Rattle.rip_frames.specs.declared.completion.Stop.TheVariants.{Limit as AtLimit}
 use Rattle.rip_frames.specs.declared.part.Part.{Part}
 use Rattle.rip_frames.specs.Stack.{Open}
-
--- what a row asks of the host
-pub data Request : Type 0 where
-  Reads : ℕ → Span → Request
-  Writes : ℕ → Span → Value → Request
-  Calls : ℕ → Value → List Value → Request
 
 -- a row ends with a completion; or stops the run; or asks for a part, and goes on with its completion and the world
 -- after it; or asks for a part of a turn of a loop, after which the row of an open frame goes on; or asks the host

@@ -6,7 +6,8 @@ use Rattle.rip_heap.specs.World.{World}
 use Rattle.rip_frames.specs.declared.completion.Completion.{Completion}
 use Rattle.rip_frames.specs.declared.completion.Stop.{Stop}
 use Rattle.rip_frames.specs.declared.part.Part.{Part}
-use Rattle.rip_frames.specs.Row.{Row, Ends, Halts, Asks, Again, AsksHost, Request, Table, entered}
+use Rattle.rip_heap.specs.Host.{Request}
+use Rattle.rip_frames.specs.Row.{Row, Ends, Halts, Asks, Again, AsksHost, Table, entered}
 
 -- how a run comes out, where S is the host's type: with a completion, or stopped, each with the units left; or cut where
 -- no unit was left for a part. Where it is stopped or cut, so much depth is left: what is open there has taken the rest

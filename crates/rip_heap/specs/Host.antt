@@ -1,8 +1,16 @@
-use Rattle.std.specs.Prelude.{◌≡◌}
+use Rattle.std.specs.Prelude.{◌≡◌, ℕ, List}
+use Rattle.rip_values.specs.declared.value.Span.{Span}
+use Rattle.rip_values.specs.declared.value.Value.{Value as ScriptValue}
 use Rattle.rip_heap.specs.declared.host.HostDone.{HostDone}
 use Rattle.rip_heap.specs.declared.host.HostDone.TheVariants.{Value, TypeFault, Dom, Fault, Limit, Memory}
 use Rattle.rip_heap.specs.Growth.{Grows, MakesNoFunction, Belongs}
 use Rattle.rip_heap.specs.World.{World}
+
+-- what is asked of a host: the value of a member of an object, to write it, or the call of a built-in function on `this`
+pub data Request : Type 0 where
+  Reads : ℕ → Span → Request
+  Writes : ℕ → Span → ScriptValue → Request
+  Calls : ℕ → ScriptValue → List ScriptValue → Request
 
 -- the call answers and leaves what it means; at want of memory nothing is said
 abbrev pub Gives : {S : Type 0} → HostDone × World × S → HostDone → World → S → Type 0

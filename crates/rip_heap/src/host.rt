@@ -20,23 +20,17 @@ pub enum HostDone {
 /// work on them. Each call is a function of the heap and the host, its charges included. A fault, a limit and want of
 /// memory leave both as they were.
 pub trait Host {
-    ghost use Rattle.std.specs.Prelude.{◌≡◌, ℕ, Bool, IsTrue, List};
-    ghost use Rattle.rip_values.specs.declared.value.Span.{Span};
-    ghost use Rattle.rip_values.specs.declared.value.Value.{Value as ScriptValue};
+    ghost use Rattle.std.specs.Prelude.{◌≡◌, Bool, IsTrue};
     ghost use Rattle.rip_heap.specs.declared.host.HostDone.{HostDone};
     ghost use Rattle.rip_heap.specs.World.{World};
     ghost use Rattle.rip_heap.specs.Growth.{Grows};
-    ghost use Rattle.rip_heap.specs.Host.{Gives, Keeps, AnswerBelongs, LeavesOnRefusal};
+    ghost use Rattle.rip_heap.specs.Host.{Request, Reads, Writes, Calls, Gives, Keeps, AnswerBelongs, LeavesOnRefusal};
 
     // The host goes with a heap of this world: each span and object that it keeps stands there.
     ghost fits: { Self → World → Type 0 };
 
-    // What each call answers, and the world and the host that it leaves.
-    ghost read_gives: { Self → World → ℕ → Span → HostDone × World × Self };
-
-    ghost write_gives: { Self → World → ℕ → Span → ScriptValue → HostDone × World × Self };
-
-    ghost call_gives: { Self → World → ℕ → ScriptValue → List ScriptValue → HostDone × World × Self };
+    // What is answered to a request, and the world and the host that are left.
+    ghost answers: { Self → World → Request → HostDone × World × Self };
 
     // Whether a call may answer want of memory.
     ghost may_want_memory: { Bool };
@@ -44,7 +38,7 @@ pub trait Host {
     /// The value of this member of the object.
     fn read(&mut self, heap: &mut Heap, object: u32, name: Span) -> HostDone
         requires { fits self.old heap.old }
-        ensures gives { Gives (read_gives self.old heap.old object name) result heap.new self.new }
+        ensures gives { Gives (answers self.old heap.old (Reads object name)) result heap.new self.new }
         ensures memory { result ≡ HostDone.Memory → IsTrue may_want_memory }
         ensures fits { fits self.new heap.new }
         ensures keeps { Keeps heap.old heap.new }
@@ -54,7 +48,7 @@ pub trait Host {
     /// Writes this member of the object. The value that is answered counts for nothing.
     fn write(&mut self, heap: &mut Heap, object: u32, name: Span, v: Value) -> HostDone
         requires { fits self.old heap.old }
-        ensures gives { Gives (write_gives self.old heap.old object name v) result heap.new self.new }
+        ensures gives { Gives (answers self.old heap.old (Writes object name v)) result heap.new self.new }
         ensures memory { result ≡ HostDone.Memory → IsTrue may_want_memory }
         ensures fits { fits self.new heap.new }
         ensures keeps { Keeps heap.old heap.new }
@@ -64,7 +58,7 @@ pub trait Host {
     /// The call of the built-in function `which` on `this`.
     fn call(&mut self, heap: &mut Heap, which: u32, this: Value, args: &[Value]) -> HostDone
         requires { fits self.old heap.old }
-        ensures gives { Gives (call_gives self.old heap.old which this args.now) result heap.new self.new }
+        ensures gives { Gives (answers self.old heap.old (Calls which this args.now)) result heap.new self.new }
         ensures memory { result ≡ HostDone.Memory → IsTrue may_want_memory }
         ensures fits { fits self.new heap.new }
         ensures keeps { Keeps heap.old heap.new }
@@ -86,11 +80,7 @@ impl Host for EmptyHost {
 
     ghost fits = { λ _ _. ⊤ };
 
-    ghost read_gives = { λ host w _ _. (Fault NotInProfile, w, host) };
-
-    ghost write_gives = { λ host w _ _ _. (Fault NotInProfile, w, host) };
-
-    ghost call_gives = { λ host w _ _ _. (Fault NotInProfile, w, host) };
+    ghost answers = { λ host w _. (Fault NotInProfile, w, host) };
 
     ghost may_want_memory = { false };
 

@@ -6,7 +6,6 @@ use Rattle.rip_values.specs.declared.value.Refused.TheVariants.{Limit as At, Mem
 use Rattle.rip_values.specs.declared.value.Span.{Span}
 use Rattle.rip_values.specs.declared.value.Value.{Value}
 use Rattle.rip_values.specs.declared.value.Value.TheVariants.{Undefined}
-use Rattle.rip_heap.specs.declared.host.HostDone.{HostDone}
 use Rattle.rip_heap.specs.World.{World}
 use Rattle.rip_frames.specs.declared.completion.Completion.{Completion}
 use Rattle.rip_frames.specs.declared.completion.Completion.TheVariants.{Normal, Thrown as ThrownCompletion, Returned, Broken, Continued, Referred, Method}
@@ -18,7 +17,7 @@ use Rattle.rip_frames.specs.declared.next.Next.{Next}
 use Rattle.rip_frames.specs.Cut.{rest_of}
 use Rattle.rip_frames.specs.Frame.{part_of}
 use Rattle.rip_frames.specs.Rest.{PassesDepth, as_row, control_of, frame_of, room_in}
-use Rattle.rip_frames.specs.Row.{Reads, Writes, Calls, Row, Table}
+use Rattle.rip_frames.specs.Row.{Row, Table}
 use Rattle.rip_frames.specs.Run.{Answer, Completes, Stops, Cuts, Calling}
 use Rattle.rip_frames.specs.Stack.{Open}
 use Rattle.rip_tree.specs.Program.{Code}
@@ -28,12 +27,6 @@ use Rattle.rip_machine.specs.declared.outcome.Outcome.{Outcome}
 use Rattle.rip_machine.specs.declared.outcome.Outcome.TheVariants.{Value as Gives, Thrown, Fault, Limit, Memory}
 use Rattle.rip_machine.specs.declared.outcome.Turned.{Turned}
 use Rattle.rip_machine.specs.declared.outcome.Turned.TheVariants.{More, Done}
-
--- what a host answers to the requests of rows
-abbrev pub host_calls : {S : Type 0} → (S → World → ℕ → Span → HostDone × World × S) → (S → World → ℕ → Span → Value → HostDone × World × S) → (S → World → ℕ → Value → List Value → HostDone × World × S) → Calling S
-host_calls read write call s w (Reads object name) = read s w object name
-host_calls read write call s w (Writes object name v) = write s w object name v
-host_calls read write call s w (Calls which this args) = call s w which this args
 
 -- a run that stands: what it goes on with, the open frames, the fuel that is left, and the units that were entered; and
 -- of the program the greatest depth, of each node the span of the text that it is or names, and how many values beside

@@ -5,7 +5,6 @@ ghost use Rattle.rip_heap.specs.World.{World};
 ghost use Rattle.rip_frames.specs.Rest.{as_row};
 ghost use Rattle.rip_frames.specs.Row.{Ends, Halts, Row};
 ghost use Rattle.rip_frames.specs.Settle.{settle};
-ghost use Rattle.rip_machine.specs.Law.{host_calls};
 ghost use Rattle.rip_machine.specs.Nesting.{Nests};
 ghost use Rattle.rip_machine.specs.Reading.{children_from};
 ghost use Rattle.rip_values.specs.Builtins.{number_of};
@@ -212,7 +211,7 @@ fn answer_builtin<H: Host>(
     args: &Arguments,
 ) -> Result<Next, NoMemory>
     requires { H.fits host.old heap.old }
-    ensures row { IfOk result (λ next. (values : List ScriptValue) → (as_row (table p.now) next values heap.new, host.new) ≡ settle (host_calls H.read_gives H.write_gives H.call_gives) (answered_by p.now at.now (answerer_of b) b this.now args.now heap.old) host.old) }
+    ensures row { IfOk result (λ next. (values : List ScriptValue) → (as_row (table p.now) next values heap.new, host.new) ≡ settle H.answers (answered_by p.now at.now (answerer_of b) b this.now args.now heap.old) host.old) }
     ensures nests { IfOk result (Nests at.now.room) }
     ensures fits { H.fits host.new heap.new }
     ensures grows { Grows heap.old heap.new }
@@ -236,7 +235,7 @@ fn call_builtin<H: Host>(
     args: &Arguments,
 ) -> Result<Next, NoMemory>
     requires { H.fits host.old heap.old }
-    ensures row { IfOk result (λ next. (values : List ScriptValue) → (as_row (table p.now) next values heap.new, host.new) ≡ settle (host_calls H.read_gives H.write_gives H.call_gives) (builtin_called p.now at.now b this.now args.now heap.old) host.old) }
+    ensures row { IfOk result (λ next. (values : List ScriptValue) → (as_row (table p.now) next values heap.new, host.new) ≡ settle H.answers (builtin_called p.now at.now b this.now args.now heap.old) host.old) }
     ensures nests { IfOk result (Nests at.now.room) }
     ensures fits { H.fits host.new heap.new }
     ensures grows { Grows heap.old heap.new }
@@ -259,7 +258,7 @@ pub(crate) fn after_called<H: Host>(
     values: &[Value],
 ) -> Result<Next, NoMemory>
     requires { H.fits host.old heap.old }
-    ensures row { IfOk result (λ next. (c : Completion) → (as_row (table p.now) next values.now heap.new, host.new) ≡ settle (host_calls H.read_gives H.write_gives H.call_gives) (rest_by p.now (Frame.Called at.now function this.now) values.now c heap.old) host.old) }
+    ensures row { IfOk result (λ next. (c : Completion) → (as_row (table p.now) next values.now heap.new, host.new) ≡ settle H.answers (rest_by p.now (Frame.Called at.now function this.now) values.now c heap.old) host.old) }
     ensures nests { IfOk result (Nests at.now.room) }
     ensures fits { H.fits host.new heap.new }
     ensures grows { Grows heap.old heap.new }
@@ -279,7 +278,7 @@ fn call_host<H: Host>(
     args: &Arguments,
 ) -> Result<Next, NoMemory>
     requires { H.fits host.old heap.old }
-    ensures row { IfOk result (λ next. (values : List ScriptValue) → (as_row (table p.now) next values heap.new, host.new) ≡ settle (host_calls H.read_gives H.write_gives H.call_gives) (asks_call (number_of b) this.now args.now heap.old gives) host.old) }
+    ensures row { IfOk result (λ next. (values : List ScriptValue) → (as_row (table p.now) next values heap.new, host.new) ≡ settle H.answers (asks_call (number_of b) this.now args.now heap.old gives) host.old) }
     ensures nests { (room : ℕ) → IfOk result (Nests room) }
     ensures fits { H.fits host.new heap.new }
     ensures grows { Grows heap.old heap.new }
@@ -305,7 +304,7 @@ fn called<H: Host>(
     args: &Arguments,
 ) -> Result<Next, NoMemory>
     requires { H.fits host.old heap.old }
-    ensures row { IfOk result (λ next. (values : List ScriptValue) → (as_row (table p.now) next values heap.new, host.new) ≡ settle (host_calls H.read_gives H.write_gives H.call_gives) (called p.now at.now callee.now this.now args.now heap.old) host.old) }
+    ensures row { IfOk result (λ next. (values : List ScriptValue) → (as_row (table p.now) next values heap.new, host.new) ≡ settle H.answers (called p.now at.now callee.now this.now args.now heap.old) host.old) }
     ensures nests { IfOk result (Nests at.now.room) }
     ensures fits { H.fits host.new heap.new }
     ensures grows { Grows heap.old heap.new }
@@ -371,7 +370,7 @@ pub(crate) fn after_callee<H: Host>(
     c: &Completion,
 ) -> Result<Next, NoMemory>
     requires { H.fits host.old heap.old }
-    ensures row { IfOk result (λ next. (values : List ScriptValue) → (as_row (table p.now) next values heap.new, host.new) ≡ settle (host_calls H.read_gives H.write_gives H.call_gives) (rest_by p.now (Frame.Callee at.now) [] c.now heap.old) host.old) }
+    ensures row { IfOk result (λ next. (values : List ScriptValue) → (as_row (table p.now) next values heap.new, host.new) ≡ settle H.answers (rest_by p.now (Frame.Callee at.now) [] c.now heap.old) host.old) }
     ensures nests { IfOk result (Nests at.now.room) }
     ensures fits { H.fits host.new heap.new }
     ensures grows { Grows heap.old heap.new }
@@ -423,7 +422,7 @@ pub(crate) fn after_argument<H: Host>(
     c: &Completion,
 ) -> Result<Next, NoMemory>
     requires { H.fits host.old heap.old }
-    ensures row { IfOk result (λ next. (as_row (table p.now) next values.now heap.new, host.new) ≡ settle (host_calls H.read_gives H.write_gives H.call_gives) (rest_by p.now (Frame.Argument at.now place callee.now this.now) values.now c.now heap.old) host.old) }
+    ensures row { IfOk result (λ next. (as_row (table p.now) next values.now heap.new, host.new) ≡ settle H.answers (rest_by p.now (Frame.Argument at.now place callee.now this.now) values.now c.now heap.old) host.old) }
     ensures nests { IfOk result (Nests at.now.room) }
     ensures fits { H.fits host.new heap.new }
     ensures grows { Grows heap.old heap.new }

@@ -4,7 +4,6 @@ ghost use Rattle.rip_frames.specs.Frame.{part_of};
 ghost use Rattle.rip_frames.specs.Rest.{as_row};
 ghost use Rattle.rip_frames.specs.Row.{entered};
 ghost use Rattle.rip_frames.specs.Settle.{settle};
-ghost use Rattle.rip_machine.specs.Law.{host_calls};
 ghost use Rattle.rip_machine.specs.Nesting.{Nests};
 ghost use Rattle.rip_machine.specs.Table.{rest_by, row_by, table};
 
@@ -114,7 +113,7 @@ pub(crate) fn finish<H: Host>(
     c: &Completion,
 ) -> Result<Next, NoMemory>
     requires { H.fits host.old heap.old }
-    ensures row { IfOk result (λ next. (as_row (table p.now) next values.now heap.new, host.new) ≡ settle (host_calls H.read_gives H.write_gives H.call_gives) (rest_by p.now frame.now values.now c.now heap.old) host.old) }
+    ensures row { IfOk result (λ next. (as_row (table p.now) next values.now heap.new, host.new) ≡ settle H.answers (rest_by p.now frame.now values.now c.now heap.old) host.old) }
     ensures nests { IfOk result (Nests (part_of frame.now).room) }
     ensures fits { H.fits host.new heap.new }
     ensures grows { Grows heap.old heap.new }

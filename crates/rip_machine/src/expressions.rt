@@ -10,7 +10,6 @@ ghost use Rattle.rip_machine.specs.Reading.{part_at};
 ghost use Rattle.rip_frames.specs.Rest.{as_row};
 ghost use Rattle.rip_frames.specs.Row.{Asks, Row, Ends, with_value};
 ghost use Rattle.rip_frames.specs.Settle.{settle};
-ghost use Rattle.rip_machine.specs.Law.{host_calls};
 ghost use Rattle.rip_machine.specs.Rows.Expressions.{assign_row, binary_row, comma_row, compound_row, compound_value, conditional_row, gives, is_built_in_function, is_decided, is_delete, is_deleted, is_member, is_name, is_type_of, is_unread, kind_of, kind_of_found, kind_text, logical_row, name_row, numbers_of_step, operand, operand_end, operated, read_target, step_by, step_row, stepped, target_found, unary_row, with_outcome, writes};
 ghost use Rattle.rip_machine.specs.Table.{rest_by, table};
 
@@ -443,7 +442,7 @@ fn writes<H: Host>(
     given: &Value,
 ) -> Result<Next, NoMemory>
     requires { H.fits host.old heap.old }
-    ensures row { IfOk result (λ next. (values : List ScriptValue) → (as_row (table p.now) next values heap.new, host.new) ≡ settle (host_calls H.read_gives H.write_gives H.call_gives) (writes p.now at.now target.now v.now given.now heap.old) host.old) }
+    ensures row { IfOk result (λ next. (values : List ScriptValue) → (as_row (table p.now) next values heap.new, host.new) ≡ settle H.answers (writes p.now at.now target.now v.now given.now heap.old) host.old) }
     ensures nests { IfOk result (Nests at.now.room) }
     ensures fits { H.fits host.new heap.new }
     ensures grows { Grows heap.old heap.new }
@@ -466,7 +465,7 @@ fn writes_member<H: Host>(
     given: &Value,
 ) -> Result<Next, NoMemory>
     requires { H.fits host.old heap.old }
-    ensures row { IfOk result (λ next. (values : List ScriptValue) → (as_row (table p.now) next values heap.new, host.new) ≡ settle (host_calls H.read_gives H.write_gives H.call_gives) (writes p.now at.now (Some member.now) v.now given.now heap.old) host.old) }
+    ensures row { IfOk result (λ next. (values : List ScriptValue) → (as_row (table p.now) next values heap.new, host.new) ≡ settle H.answers (writes p.now at.now (Some member.now) v.now given.now heap.old) host.old) }
     ensures nests { IfOk result (Nests at.now.room) }
     ensures fits { H.fits host.new heap.new }
     ensures grows { Grows heap.old heap.new }
@@ -524,7 +523,7 @@ pub(crate) fn after_assign_value<H: Host>(
     c: &Completion,
 ) -> Result<Next, NoMemory>
     requires { H.fits host.old heap.old }
-    ensures row { IfOk result (λ next. (values : List ScriptValue) → (as_row (table p.now) next values heap.new, host.new) ≡ settle (host_calls H.read_gives H.write_gives H.call_gives) (rest_by p.now (Frame.AssignValue at.now target.now) [] c.now heap.old) host.old) }
+    ensures row { IfOk result (λ next. (values : List ScriptValue) → (as_row (table p.now) next values heap.new, host.new) ≡ settle H.answers (rest_by p.now (Frame.AssignValue at.now target.now) [] c.now heap.old) host.old) }
     ensures nests { IfOk result (Nests at.now.room) }
     ensures fits { H.fits host.new heap.new }
     ensures grows { Grows heap.old heap.new }
@@ -552,7 +551,7 @@ pub(crate) fn after_compound_target<H: Host>(
     c: &Completion,
 ) -> Result<Next, NoMemory>
     requires { H.fits host.old heap.old }
-    ensures row { IfOk result (λ next. (values : List ScriptValue) → (as_row (table p.now) next values heap.new, host.new) ≡ settle (host_calls H.read_gives H.write_gives H.call_gives) (rest_by p.now (Frame.CompoundTarget at.now) [] c.now heap.old) host.old) }
+    ensures row { IfOk result (λ next. (values : List ScriptValue) → (as_row (table p.now) next values heap.new, host.new) ≡ settle H.answers (rest_by p.now (Frame.CompoundTarget at.now) [] c.now heap.old) host.old) }
     ensures nests { IfOk result (Nests at.now.room) }
     ensures fits { H.fits host.new heap.new }
     ensures grows { Grows heap.old heap.new }
@@ -574,7 +573,7 @@ fn compound_read<H: Host>(
     target: &Option<Reference>,
 ) -> Result<Next, NoMemory>
     requires { H.fits host.old heap.old }
-    ensures row { IfOk result (λ next. (values : List ScriptValue) → (as_row (table p.now) next values heap.new, host.new) ≡ settle (host_calls H.read_gives H.write_gives H.call_gives) (read_target p.now at.now target.now heap.old (λ old x. Asks (part_at p.now at.now 1) x (compound_value p.now at.now target.now old))) host.old) }
+    ensures row { IfOk result (λ next. (values : List ScriptValue) → (as_row (table p.now) next values heap.new, host.new) ≡ settle H.answers (read_target p.now at.now target.now heap.old (λ old x. Asks (part_at p.now at.now 1) x (compound_value p.now at.now target.now old))) host.old) }
     ensures nests { IfOk result (Nests at.now.room) }
     ensures fits { H.fits host.new heap.new }
     ensures grows { Grows heap.old heap.new }
@@ -598,7 +597,7 @@ fn compound_member<H: Host>(
     member: &Reference,
 ) -> Result<Next, NoMemory>
     requires { H.fits host.old heap.old }
-    ensures row { IfOk result (λ next. (values : List ScriptValue) → (as_row (table p.now) next values heap.new, host.new) ≡ settle (host_calls H.read_gives H.write_gives H.call_gives) (read_target p.now at.now (Some member.now) heap.old (λ old x. Asks (part_at p.now at.now 1) x (compound_value p.now at.now (Some member.now) old))) host.old) }
+    ensures row { IfOk result (λ next. (values : List ScriptValue) → (as_row (table p.now) next values heap.new, host.new) ≡ settle H.answers (read_target p.now at.now (Some member.now) heap.old (λ old x. Asks (part_at p.now at.now 1) x (compound_value p.now at.now (Some member.now) old))) host.old) }
     ensures nests { IfOk result (Nests at.now.room) }
     ensures fits { H.fits host.new heap.new }
     ensures grows { Grows heap.old heap.new }
@@ -639,7 +638,7 @@ pub(crate) fn after_compound_value<H: Host>(
     c: &Completion,
 ) -> Result<Next, NoMemory>
     requires { H.fits host.old heap.old }
-    ensures row { IfOk result (λ next. (values : List ScriptValue) → (as_row (table p.now) next values heap.new, host.new) ≡ settle (host_calls H.read_gives H.write_gives H.call_gives) (rest_by p.now (Frame.CompoundValue at.now target.now old.now) [] c.now heap.old) host.old) }
+    ensures row { IfOk result (λ next. (values : List ScriptValue) → (as_row (table p.now) next values heap.new, host.new) ≡ settle H.answers (rest_by p.now (Frame.CompoundValue at.now target.now old.now) [] c.now heap.old) host.old) }
     ensures nests { IfOk result (Nests at.now.room) }
     ensures fits { H.fits host.new heap.new }
     ensures grows { Grows heap.old heap.new }
@@ -673,7 +672,7 @@ pub(crate) fn after_step_target<H: Host>(
     c: &Completion,
 ) -> Result<Next, NoMemory>
     requires { H.fits host.old heap.old }
-    ensures row { IfOk result (λ next. (values : List ScriptValue) → (as_row (table p.now) next values heap.new, host.new) ≡ settle (host_calls H.read_gives H.write_gives H.call_gives) (rest_by p.now (Frame.StepTarget at.now) [] c.now heap.old) host.old) }
+    ensures row { IfOk result (λ next. (values : List ScriptValue) → (as_row (table p.now) next values heap.new, host.new) ≡ settle H.answers (rest_by p.now (Frame.StepTarget at.now) [] c.now heap.old) host.old) }
     ensures nests { IfOk result (Nests at.now.room) }
     ensures fits { H.fits host.new heap.new }
     ensures grows { Grows heap.old heap.new }
@@ -695,7 +694,7 @@ fn step_read<H: Host>(
     target: &Option<Reference>,
 ) -> Result<Next, NoMemory>
     requires { H.fits host.old heap.old }
-    ensures row { IfOk result (λ next. (values : List ScriptValue) → (as_row (table p.now) next values heap.new, host.new) ≡ settle (host_calls H.read_gives H.write_gives H.call_gives) (read_target p.now at.now target.now heap.old (λ v x. stepped p.now at.now target.now v x)) host.old) }
+    ensures row { IfOk result (λ next. (values : List ScriptValue) → (as_row (table p.now) next values heap.new, host.new) ≡ settle H.answers (read_target p.now at.now target.now heap.old (λ v x. stepped p.now at.now target.now v x)) host.old) }
     ensures nests { IfOk result (Nests at.now.room) }
     ensures fits { H.fits host.new heap.new }
     ensures grows { Grows heap.old heap.new }
@@ -719,7 +718,7 @@ fn step_member<H: Host>(
     member: &Reference,
 ) -> Result<Next, NoMemory>
     requires { H.fits host.old heap.old }
-    ensures row { IfOk result (λ next. (values : List ScriptValue) → (as_row (table p.now) next values heap.new, host.new) ≡ settle (host_calls H.read_gives H.write_gives H.call_gives) (read_target p.now at.now (Some member.now) heap.old (λ v x. stepped p.now at.now (Some member.now) v x)) host.old) }
+    ensures row { IfOk result (λ next. (values : List ScriptValue) → (as_row (table p.now) next values heap.new, host.new) ≡ settle H.answers (read_target p.now at.now (Some member.now) heap.old (λ v x. stepped p.now at.now (Some member.now) v x)) host.old) }
     ensures nests { IfOk result (Nests at.now.room) }
     ensures fits { H.fits host.new heap.new }
     ensures grows { Grows heap.old heap.new }
@@ -742,7 +741,7 @@ fn stepped<H: Host>(
     v: Value,
 ) -> Result<Next, NoMemory>
     requires { H.fits host.old heap.old }
-    ensures row { IfOk result (λ next. (values : List ScriptValue) → (as_row (table p.now) next values heap.new, host.new) ≡ settle (host_calls H.read_gives H.write_gives H.call_gives) (stepped p.now at.now target.now v heap.old) host.old) }
+    ensures row { IfOk result (λ next. (values : List ScriptValue) → (as_row (table p.now) next values heap.new, host.new) ≡ settle H.answers (stepped p.now at.now target.now v heap.old) host.old) }
     ensures nests { IfOk result (Nests at.now.room) }
     ensures fits { H.fits host.new heap.new }
     ensures grows { Grows heap.old heap.new }

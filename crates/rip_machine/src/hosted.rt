@@ -5,7 +5,6 @@ ghost use Rattle.rip_heap.specs.World.{World};
 ghost use Rattle.rip_frames.specs.Rest.{as_row};
 ghost use Rattle.rip_frames.specs.Row.{Row};
 ghost use Rattle.rip_frames.specs.Settle.{settle};
-ghost use Rattle.rip_machine.specs.Law.{host_calls};
 ghost use Rattle.rip_machine.specs.Nesting.{Nests};
 ghost use Rattle.rip_machine.specs.Rows.Host.{asks_call, asks_read, asks_write, throws_code, with_reply};
 ghost use Rattle.rip_machine.specs.Table.{table};
@@ -27,7 +26,7 @@ pub(crate) fn ask_read<H: Host>(
     name: Span,
 ) -> Result<Result<Value, Next>, NoMemory>
     requires { H.fits host.old heap.old }
-    ensures asked { IfOk result (λ answer. MatchResult answer (λ v. (go : ScriptValue → World → Row) → settle (host_calls H.read_gives H.write_gives H.call_gives) (asks_read object name heap.old go) host.old ≡ settle (host_calls H.read_gives H.write_gives H.call_gives) (go v heap.new) host.new) (λ next. (go : ScriptValue → World → Row) (values : List ScriptValue) → settle (host_calls H.read_gives H.write_gives H.call_gives) (asks_read object name heap.old go) host.old ≡ (as_row (table p.now) next values heap.new, host.new))) }
+    ensures asked { IfOk result (λ answer. MatchResult answer (λ v. (go : ScriptValue → World → Row) → settle H.answers (asks_read object name heap.old go) host.old ≡ settle H.answers (go v heap.new) host.new) (λ next. (go : ScriptValue → World → Row) (values : List ScriptValue) → settle H.answers (asks_read object name heap.old go) host.old ≡ (as_row (table p.now) next values heap.new, host.new))) }
     ensures nests { (room : ℕ) → IfOk result (λ answer. IfErr answer (Nests room)) }
     ensures fits { H.fits host.new heap.new }
     ensures grows { Grows heap.old heap.new }
@@ -47,7 +46,7 @@ pub(crate) fn ask_write<H: Host>(
     v: &Value,
 ) -> Result<Result<(), Next>, NoMemory>
     requires { H.fits host.old heap.old }
-    ensures asked { IfOk result (λ answer. MatchResult answer (λ _. (go : World → Row) → settle (host_calls H.read_gives H.write_gives H.call_gives) (asks_write object name v.now heap.old go) host.old ≡ settle (host_calls H.read_gives H.write_gives H.call_gives) (go heap.new) host.new) (λ next. (go : World → Row) (values : List ScriptValue) → settle (host_calls H.read_gives H.write_gives H.call_gives) (asks_write object name v.now heap.old go) host.old ≡ (as_row (table p.now) next values heap.new, host.new))) }
+    ensures asked { IfOk result (λ answer. MatchResult answer (λ _. (go : World → Row) → settle H.answers (asks_write object name v.now heap.old go) host.old ≡ settle H.answers (go heap.new) host.new) (λ next. (go : World → Row) (values : List ScriptValue) → settle H.answers (asks_write object name v.now heap.old go) host.old ≡ (as_row (table p.now) next values heap.new, host.new))) }
     ensures nests { (room : ℕ) → IfOk result (λ answer. IfErr answer (Nests room)) }
     ensures fits { H.fits host.new heap.new }
     ensures grows { Grows heap.old heap.new }
@@ -70,7 +69,7 @@ pub(crate) fn ask_call<H: Host>(
     args: &[Value],
 ) -> Result<Result<Value, Next>, NoMemory>
     requires { H.fits host.old heap.old }
-    ensures asked { IfOk result (λ answer. MatchResult answer (λ v. (go : ScriptValue → World → Row) → settle (host_calls H.read_gives H.write_gives H.call_gives) (asks_call which this args.now heap.old go) host.old ≡ settle (host_calls H.read_gives H.write_gives H.call_gives) (go v heap.new) host.new) (λ next. (go : ScriptValue → World → Row) (values : List ScriptValue) → settle (host_calls H.read_gives H.write_gives H.call_gives) (asks_call which this args.now heap.old go) host.old ≡ (as_row (table p.now) next values heap.new, host.new))) }
+    ensures asked { IfOk result (λ answer. MatchResult answer (λ v. (go : ScriptValue → World → Row) → settle H.answers (asks_call which this args.now heap.old go) host.old ≡ settle H.answers (go v heap.new) host.new) (λ next. (go : ScriptValue → World → Row) (values : List ScriptValue) → settle H.answers (asks_call which this args.now heap.old go) host.old ≡ (as_row (table p.now) next values heap.new, host.new))) }
     ensures nests { (room : ℕ) → IfOk result (λ answer. IfErr answer (Nests room)) }
     ensures fits { H.fits host.new heap.new }
     ensures grows { Grows heap.old heap.new }

@@ -3,7 +3,7 @@ ghost use Rattle.rip_heap.specs.World.{World};
 ghost use Rattle.rip_frames.specs.Cut.{run_of};
 ghost use Rattle.rip_frames.specs.Row.{Row};
 ghost use Rattle.rip_frames.specs.Started.{Started};
-ghost use Rattle.rip_machine.specs.Law.{Begins, host_calls, left, loaded};
+ghost use Rattle.rip_machine.specs.Law.{Begins, left, loaded};
 ghost use Rattle.rip_machine.specs.Run.{RunsOn};
 ghost use Rattle.rip_machine.specs.Table.{table};
 ghost use Rattle.rip_machine.specs.Turns.{LoopsAreTheirRows};
@@ -22,7 +22,7 @@ pub fn begun_is_whole<H: Host>(
     host: &H,
     fuel: u64,
 )
-    ensures { (row : Row) → Begins (table (loaded program.now machine.now)) row fuel heap.now machine.now → (k : ℕ) → left (host_calls H.read_gives H.write_gives H.call_gives) (table (loaded program.now machine.now)) machine.now heap.now host.now k ≡ run_of (host_calls H.read_gives H.write_gives H.call_gives) (table (loaded program.now machine.now)) machine.now.depth row host.now fuel k }
+    ensures { (row : Row) → Begins (table (loaded program.now machine.now)) row fuel heap.now machine.now → (k : ℕ) → left H.answers (table (loaded program.now machine.now)) machine.now heap.now host.now k ≡ run_of H.answers (table (loaded program.now machine.now)) machine.now.depth row host.now fuel k }
 {
     let _ = machine;
     let _ = program;
@@ -40,7 +40,7 @@ pub fn started_runs_on<H: Host>(
     host: &H,
     fuel: u64,
 )
-    ensures { (start : Started) (w : World) (depth : ℕ) → RunsOn (host_calls H.read_gives H.write_gives H.call_gives) (loaded program.now machine.now) depth start w host.now fuel heap.now machine.now }
+    ensures { (start : Started) (w : World) (depth : ℕ) → RunsOn H.answers (loaded program.now machine.now) depth start w host.now fuel heap.now machine.now }
 {
     let _ = machine;
     let _ = program;
@@ -58,7 +58,7 @@ pub fn loops_are_their_rows<H: Host>(
     host: &H,
     at: Part,
 )
-    ensures { LoopsAreTheirRows (host_calls H.read_gives H.write_gives H.call_gives) (loaded program.now machine.now) at heap.now host.now }
+    ensures { LoopsAreTheirRows H.answers (loaded program.now machine.now) at heap.now host.now }
 {
     let _ = machine;
     let _ = program;

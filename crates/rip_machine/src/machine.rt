@@ -5,7 +5,7 @@ ghost use Rattle.rip_heap.specs.Growth.{Grows};
 ghost use Rattle.rip_heap.specs.World.{World, charging};
 ghost use Rattle.rip_tree.specs.Program.{root_of};
 ghost use Rattle.rip_frames.specs.Run.{world_at};
-ghost use Rattle.rip_machine.specs.Law.{Begins, Resumes, Starts, host_calls, loaded, open_depth, outcome_of, stop_outcome, turned_of};
+ghost use Rattle.rip_machine.specs.Law.{Begins, Resumes, Starts, loaded, open_depth, outcome_of, stop_outcome, turned_of};
 ghost use Rattle.rip_machine.specs.Loading.{Loads, TextsStand};
 ghost use Rattle.rip_machine.specs.Nesting.{IsInside};
 ghost use Rattle.rip_machine.specs.Reading.{Loaded, children_from};
@@ -428,7 +428,7 @@ impl Machine {
         ensures counted { self.new.spent + self.new.fuel ≡ self.old.spent + self.old.fuel }
         ensures later { self.old.spent ≤ self.new.spent }
         ensures grows { Grows heap.old heap.new }
-        ensures law { Resumes (host_calls H.read_gives H.write_gives H.call_gives) (table (loaded program.now self.old)) self.old heap.old host.old n self.new heap.new host.new result }
+        ensures law { Resumes H.answers (table (loaded program.now self.old)) self.old heap.old host.old n self.new heap.new host.new result }
     {
         let budget = n.min(self.fuel);
         let p = Source {

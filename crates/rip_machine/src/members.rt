@@ -8,7 +8,6 @@ ghost use Rattle.rip_members.specs.Writing.{write};
 ghost use Rattle.rip_frames.specs.Rest.{as_row};
 ghost use Rattle.rip_frames.specs.Row.{Ends, Row};
 ghost use Rattle.rip_frames.specs.Settle.{settle};
-ghost use Rattle.rip_machine.specs.Law.{host_calls};
 ghost use Rattle.rip_machine.specs.Nesting.{Nests};
 ghost use Rattle.rip_machine.specs.Reading.{literal};
 ghost use Rattle.rip_machine.specs.Rows.Host.{asks_read};
@@ -38,7 +37,7 @@ pub(crate) fn read_value<H: Host>(
     key: Key,
 ) -> Result<Result<Value, Next>, NoMemory>
     requires { H.fits host.old heap.old }
-    ensures read { IfOk result (λ answer. MatchResult answer (λ v. (go : ScriptValue → World → Row) → settle (host_calls H.read_gives H.write_gives H.call_gives) (with_read (read heap.old base.now key) heap.old go) host.old ≡ settle (host_calls H.read_gives H.write_gives H.call_gives) (go v heap.new) host.new) (λ next. (go : ScriptValue → World → Row) (values : List ScriptValue) → settle (host_calls H.read_gives H.write_gives H.call_gives) (with_read (read heap.old base.now key) heap.old go) host.old ≡ (as_row (table p.now) next values heap.new, host.new))) }
+    ensures read { IfOk result (λ answer. MatchResult answer (λ v. (go : ScriptValue → World → Row) → settle H.answers (with_read (read heap.old base.now key) heap.old go) host.old ≡ settle H.answers (go v heap.new) host.new) (λ next. (go : ScriptValue → World → Row) (values : List ScriptValue) → settle H.answers (with_read (read heap.old base.now key) heap.old go) host.old ≡ (as_row (table p.now) next values heap.new, host.new))) }
     ensures nests { (room : ℕ) → IfOk result (λ answer. IfErr answer (Nests room)) }
     ensures fits { H.fits host.new heap.new }
     ensures grows { Grows heap.old heap.new }
@@ -63,7 +62,7 @@ pub(crate) fn write_value<H: Host>(
     v: &Value,
 ) -> Result<Result<(), Next>, NoMemory>
     requires { H.fits host.old heap.old }
-    ensures written { IfOk result (λ answer. MatchResult answer (λ _. (go : World → Row) → settle (host_calls H.read_gives H.write_gives H.call_gives) (with_writing (write heap.old base.now key v.now) v.now heap.old go) host.old ≡ settle (host_calls H.read_gives H.write_gives H.call_gives) (go heap.new) host.new) (λ next. (go : World → Row) (values : List ScriptValue) → settle (host_calls H.read_gives H.write_gives H.call_gives) (with_writing (write heap.old base.now key v.now) v.now heap.old go) host.old ≡ (as_row (table p.now) next values heap.new, host.new))) }
+    ensures written { IfOk result (λ answer. MatchResult answer (λ _. (go : World → Row) → settle H.answers (with_writing (write heap.old base.now key v.now) v.now heap.old go) host.old ≡ settle H.answers (go heap.new) host.new) (λ next. (go : World → Row) (values : List ScriptValue) → settle H.answers (with_writing (write heap.old base.now key v.now) v.now heap.old go) host.old ≡ (as_row (table p.now) next values heap.new, host.new))) }
     ensures nests { (room : ℕ) → IfOk result (λ answer. IfErr answer (Nests room)) }
     ensures fits { H.fits host.new heap.new }
     ensures grows { Grows heap.old heap.new }
@@ -89,7 +88,7 @@ fn member_for<H: Host>(
     key: Key,
 ) -> Result<Next, NoMemory>
     requires { H.fits host.old heap.old }
-    ensures row { IfOk result (λ next. (values : List ScriptValue) → (as_row (table p.now) next values heap.new, host.new) ≡ settle (host_calls H.read_gives H.write_gives H.call_gives) (member_for at.now.role base.now key heap.old) host.old) }
+    ensures row { IfOk result (λ next. (values : List ScriptValue) → (as_row (table p.now) next values heap.new, host.new) ≡ settle H.answers (member_for at.now.role base.now key heap.old) host.old) }
     ensures nests { IfOk result (Nests at.now.room) }
     ensures fits { H.fits host.new heap.new }
     ensures grows { Grows heap.old heap.new }
@@ -115,7 +114,7 @@ fn member_value<H: Host>(
     key: Key,
 ) -> Result<Next, NoMemory>
     requires { H.fits host.old heap.old }
-    ensures row { IfOk result (λ next. (values : List ScriptValue) → (as_row (table p.now) next values heap.new, host.new) ≡ settle (host_calls H.read_gives H.write_gives H.call_gives) (member_for Role.Value base.now key heap.old) host.old) }
+    ensures row { IfOk result (λ next. (values : List ScriptValue) → (as_row (table p.now) next values heap.new, host.new) ≡ settle H.answers (member_for Role.Value base.now key heap.old) host.old) }
     ensures nests { (room : ℕ) → IfOk result (Nests room) }
     ensures fits { H.fits host.new heap.new }
     ensures grows { Grows heap.old heap.new }
@@ -138,7 +137,7 @@ fn host_value<H: Host>(
     name: Span,
 ) -> Result<Next, NoMemory>
     requires { H.fits host.old heap.old }
-    ensures row { IfOk result (λ next. (values : List ScriptValue) → (as_row (table p.now) next values heap.new, host.new) ≡ settle (host_calls H.read_gives H.write_gives H.call_gives) (asks_read object name heap.old (λ v x. Ends (Completion.Normal v) x)) host.old) }
+    ensures row { IfOk result (λ next. (values : List ScriptValue) → (as_row (table p.now) next values heap.new, host.new) ≡ settle H.answers (asks_read object name heap.old (λ v x. Ends (Completion.Normal v) x)) host.old) }
     ensures nests { (room : ℕ) → IfOk result (Nests room) }
     ensures fits { H.fits host.new heap.new }
     ensures grows { Grows heap.old heap.new }
@@ -160,7 +159,7 @@ fn method<H: Host>(
     key: Key,
 ) -> Result<Next, NoMemory>
     requires { H.fits host.old heap.old }
-    ensures row { IfOk result (λ next. (values : List ScriptValue) → (as_row (table p.now) next values heap.new, host.new) ≡ settle (host_calls H.read_gives H.write_gives H.call_gives) (member_for Role.Callee base.now key heap.old) host.old) }
+    ensures row { IfOk result (λ next. (values : List ScriptValue) → (as_row (table p.now) next values heap.new, host.new) ≡ settle H.answers (member_for Role.Callee base.now key heap.old) host.old) }
     ensures nests { (room : ℕ) → IfOk result (Nests room) }
     ensures fits { H.fits host.new heap.new }
     ensures grows { Grows heap.old heap.new }
@@ -184,7 +183,7 @@ fn host_method<H: Host>(
     name: Span,
 ) -> Result<Next, NoMemory>
     requires { H.fits host.old heap.old }
-    ensures row { IfOk result (λ next. (values : List ScriptValue) → (as_row (table p.now) next values heap.new, host.new) ≡ settle (host_calls H.read_gives H.write_gives H.call_gives) (asks_read object name heap.old (λ f x. Ends (Completion.Method f base.now) x)) host.old) }
+    ensures row { IfOk result (λ next. (values : List ScriptValue) → (as_row (table p.now) next values heap.new, host.new) ≡ settle H.answers (asks_read object name heap.old (λ f x. Ends (Completion.Method f base.now) x)) host.old) }
     ensures nests { (room : ℕ) → IfOk result (Nests room) }
     ensures fits { H.fits host.new heap.new }
     ensures grows { Grows heap.old heap.new }
@@ -224,7 +223,7 @@ pub(crate) fn after_member_base<H: Host>(
     c: &Completion,
 ) -> Result<Next, NoMemory>
     requires { H.fits host.old heap.old }
-    ensures row { IfOk result (λ next. (values : List ScriptValue) → (as_row (table p.now) next values heap.new, host.new) ≡ settle (host_calls H.read_gives H.write_gives H.call_gives) (rest_by p.now (Frame.MemberBase at.now) [] c.now heap.old) host.old) }
+    ensures row { IfOk result (λ next. (values : List ScriptValue) → (as_row (table p.now) next values heap.new, host.new) ≡ settle H.answers (rest_by p.now (Frame.MemberBase at.now) [] c.now heap.old) host.old) }
     ensures nests { IfOk result (Nests at.now.room) }
     ensures fits { H.fits host.new heap.new }
     ensures grows { Grows heap.old heap.new }
@@ -246,7 +245,7 @@ fn named_member<H: Host>(
     base: &Value,
 ) -> Result<Next, NoMemory>
     requires { H.fits host.old heap.old }
-    ensures row { IfOk result (λ next. (values : List ScriptValue) → (as_row (table p.now) next values heap.new, host.new) ≡ settle (host_calls H.read_gives H.write_gives H.call_gives) (with_base base.now heap.old (member_for at.now.role base.now (Key.Name (literal p.now at.now.node)) heap.old)) host.old) }
+    ensures row { IfOk result (λ next. (values : List ScriptValue) → (as_row (table p.now) next values heap.new, host.new) ≡ settle H.answers (with_base base.now heap.old (member_for at.now.role base.now (Key.Name (literal p.now at.now.node)) heap.old)) host.old) }
     ensures nests { IfOk result (Nests at.now.room) }
     ensures fits { H.fits host.new heap.new }
     ensures grows { Grows heap.old heap.new }
@@ -288,7 +287,7 @@ pub(crate) fn after_subscript<H: Host>(
     c: &Completion,
 ) -> Result<Next, NoMemory>
     requires { H.fits host.old heap.old }
-    ensures row { IfOk result (λ next. (values : List ScriptValue) → (as_row (table p.now) next values heap.new, host.new) ≡ settle (host_calls H.read_gives H.write_gives H.call_gives) (rest_by p.now (Frame.Subscript at.now base.now) [] c.now heap.old) host.old) }
+    ensures row { IfOk result (λ next. (values : List ScriptValue) → (as_row (table p.now) next values heap.new, host.new) ≡ settle H.answers (rest_by p.now (Frame.Subscript at.now base.now) [] c.now heap.old) host.old) }
     ensures nests { IfOk result (Nests at.now.room) }
     ensures fits { H.fits host.new heap.new }
     ensures grows { Grows heap.old heap.new }

@@ -5,7 +5,7 @@ ghost use Rattle.rip_heap.specs.World.{World};
 ghost use Rattle.rip_frames.specs.Rest.{control_of, frame_of, rest};
 ghost use Rattle.rip_frames.specs.Run.{world_at};
 ghost use Rattle.rip_frames.specs.Stack.{framed, last_values, without_last};
-ghost use Rattle.rip_machine.specs.Law.{GoesOn, Stands, host_calls, weight};
+ghost use Rattle.rip_machine.specs.Law.{GoesOn, Stands, weight};
 ghost use Rattle.rip_machine.specs.Nesting.{IsInside};
 ghost use Rattle.rip_heap.specs.declared.class.Class.TheVariants.{ThrownTypeError};
 ghost use Rattle.rip_machine.specs.Reading.{children_from};
@@ -213,7 +213,7 @@ fn enter<H: Host>(
     control: &mut Control,
 ) -> Result<(), NoMemory>
     requires { IsInside stack.old.most (Control.Enter part.now) stack.old.frames }
-    ensures rest { OnOk result ((u : ℕ) → rest (host_calls H.read_gives H.write_gives H.call_gives) (table p.now) control.new stack.new.frames u heap.new host.now ≡ rest (host_calls H.read_gives H.write_gives H.call_gives) (table p.now) (Control.Enter part.now) stack.old.frames (u + 1) heap.old host.now) }
+    ensures rest { OnOk result ((u : ℕ) → rest H.answers (table p.now) control.new stack.new.frames u heap.new host.now ≡ rest H.answers (table p.now) (Control.Enter part.now) stack.old.frames (u + 1) heap.old host.now) }
     ensures weight { OnOk result (weight control.new stack.new.frames ≤ 2 * length stack.old.frames + 2) }
     ensures inside { OnOk result (IsInside stack.new.most control.new stack.new.frames) }
     ensures kept { OnErr result ((stack.new ≡ stack.old) × (control.new ≡ control.old)) }
@@ -240,7 +240,7 @@ fn enter_row<H: Host>(
     control: &mut Control,
 ) -> Result<(), NoMemory>
     requires { IsInside stack.old.most (Control.Enter part.now) stack.old.frames }
-    ensures rest { OnOk result ((u : ℕ) → rest (host_calls H.read_gives H.write_gives H.call_gives) (table p.now) control.new stack.new.frames u heap.new host.now ≡ rest (host_calls H.read_gives H.write_gives H.call_gives) (table p.now) (Control.Enter part.now) stack.old.frames (u + 1) heap.old host.now) }
+    ensures rest { OnOk result ((u : ℕ) → rest H.answers (table p.now) control.new stack.new.frames u heap.new host.now ≡ rest H.answers (table p.now) (Control.Enter part.now) stack.old.frames (u + 1) heap.old host.now) }
     ensures weight { OnOk result (weight control.new stack.new.frames ≤ 2 * length stack.old.frames + 2) }
     ensures inside { OnOk result (IsInside stack.new.most control.new stack.new.frames) }
     ensures kept { OnErr result ((stack.new ≡ stack.old) × (control.new ≡ control.old)) }
@@ -266,7 +266,7 @@ fn give<H: Host>(
 ) -> Result<bool, NoMemory>
     requires fits { H.fits host.old heap.old }
     requires inside { IsInside stack.old.most (Control.Give c) stack.old.frames }
-    ensures rest { IfOk result (λ given. MatchBool given ((u : ℕ) → rest (host_calls H.read_gives H.write_gives H.call_gives) (table p.now) control.new stack.new.frames u heap.new host.new ≡ rest (host_calls H.read_gives H.write_gives H.call_gives) (table p.now) (Control.Give c) stack.old.frames u heap.old host.old) ((stack.old.frames ≡ []) × (control.new ≡ control.old) × (stack.new ≡ stack.old) × (heap.new ≡ heap.old) × (host.new ≡ host.old))) }
+    ensures rest { IfOk result (λ given. MatchBool given ((u : ℕ) → rest H.answers (table p.now) control.new stack.new.frames u heap.new host.new ≡ rest H.answers (table p.now) (Control.Give c) stack.old.frames u heap.old host.old) ((stack.old.frames ≡ []) × (control.new ≡ control.old) × (stack.new ≡ stack.old) × (heap.new ≡ heap.old) × (host.new ≡ host.old))) }
     ensures weight { IfOk result (λ given. MatchBool given (weight control.new stack.new.frames < weight (Control.Give c) stack.old.frames) ⊤) }
     ensures inside { IfOk result (λ given. MatchBool given (IsInside stack.new.most control.new stack.new.frames) ⊤) }
     ensures kept { OnErr result ((stack.new ≡ stack.old) × (control.new ≡ control.old)) }
@@ -300,7 +300,7 @@ fn step<H: Host>(
 ) -> Result<bool, NoMemory>
     requires fits { H.fits host.old heap.old }
     requires inside { IsInside stack.old.most control.old stack.old.frames }
-    ensures rest { OnOk result ((k : ℕ) → rest (host_calls H.read_gives H.write_gives H.call_gives) (table p.now) control.new stack.new.frames (left.new + k) heap.new host.new ≡ rest (host_calls H.read_gives H.write_gives H.call_gives) (table p.now) control.old stack.old.frames (left.old + k) heap.old host.old) }
+    ensures rest { OnOk result ((k : ℕ) → rest H.answers (table p.now) control.new stack.new.frames (left.new + k) heap.new host.new ≡ rest H.answers (table p.now) control.old stack.old.frames (left.old + k) heap.old host.old) }
     ensures stands { IfOk result (λ stepped. MatchBool stepped ⊤ (Stands control.new stack.new.frames left.new)) }
     ensures weight { IfOk result (λ stepped. MatchBool stepped (3 * left.new + weight control.new stack.new.frames < 3 * left.old + weight control.old stack.old.frames) ⊤) }
     ensures within { left.new ≤ left.old }
@@ -339,7 +339,7 @@ pub(crate) fn steps<H: Host>(
 ) -> Result<u64, NoMemory>
     requires fits { H.fits host.old heap.old }
     requires inside { IsInside stack.old.most control.old stack.old.frames }
-    ensures rest { IfOk result (λ left. (k : ℕ) → rest (host_calls H.read_gives H.write_gives H.call_gives) (table p.now) control.new stack.new.frames (left + k) heap.new host.new ≡ rest (host_calls H.read_gives H.write_gives H.call_gives) (table p.now) control.old stack.old.frames (budget + k) heap.old host.old) }
+    ensures rest { IfOk result (λ left. (k : ℕ) → rest H.answers (table p.now) control.new stack.new.frames (left + k) heap.new host.new ≡ rest H.answers (table p.now) control.old stack.old.frames (budget + k) heap.old host.old) }
     ensures stands { IfOk result (Stands control.new stack.new.frames) }
     ensures within { IfOk result (λ left. left ≤ budget) }
     ensures inside { IsInside stack.new.most control.new stack.new.frames }

@@ -1,5 +1,5 @@
 ghost use Rattle.rip_heap.specs.Growth.{Grows};
-ghost use Rattle.rip_machine.specs.Law.{host_calls, loaded};
+ghost use Rattle.rip_machine.specs.Law.{loaded};
 ghost use Rattle.rip_machine.specs.Run.{Ran};
 ghost use Rattle.rip_machine.specs.Starting.{started_of};
 
@@ -23,7 +23,7 @@ impl Machine {
     ) -> Result<Outcome, Refused>
         requires { H.fits host.old heap.old }
         ensures fits { H.fits host.new heap.new }
-        ensures runs { Ran (host_calls H.read_gives H.write_gives H.call_gives) (loaded program.now self.old) self.old.depth (started_of s.now) heap.old host.old fuel self.new heap.new host.new result }
+        ensures runs { Ran H.answers (loaded program.now self.old) self.old.depth (started_of s.now) heap.old host.old fuel self.new heap.new host.new result }
         ensures grows { Grows heap.old heap.new }
     {
         self.start(alloc, program, heap, s, fuel)?;

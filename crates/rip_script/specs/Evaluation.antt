@@ -13,7 +13,7 @@ use Rattle.rip_values.specs.declared.value.Fault.TheVariants.{NotInProfile}
 use Rattle.rip_frames.specs.declared.completion.Completion.TheVariants.{Normal}
 use Rattle.rip_frames.specs.declared.next.Control.TheVariants.{Give}
 use Rattle.rip_frames.specs.Run.{Calling}
-use Rattle.rip_machine.specs.Law.{Resumes, Standing, Starts, host_calls, loaded}
+use Rattle.rip_machine.specs.Law.{Resumes, Standing, Starts, loaded}
 use Rattle.rip_machine.specs.Loading.{Loads}
 use Rattle.rip_machine.specs.Starting.{Beginning, begun}
 use Rattle.rip_machine.specs.Table.{table}
@@ -47,7 +47,7 @@ script_begins code m w = begun (loaded code m) m.depth (Script 1) w
 
 -- nothing stands behind the objects of the host
 abbrev pub no_host : Calling EmptyHost
-no_host = host_calls (λ host w object name. (Fault NotInProfile, w, host)) (λ host w object name v. (Fault NotInProfile, w, host)) (λ host w which this args. (Fault NotInProfile, w, host))
+no_host = λ host w request. (Fault NotInProfile, w, host)
 
 -- the host that has nothing
 abbrev pub empty_host : EmptyHost

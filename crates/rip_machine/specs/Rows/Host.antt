@@ -13,7 +13,8 @@ use Rattle.rip_heap.specs.Objects.{new_of, put}
 use Rattle.rip_heap.specs.World.{World}
 use Rattle.rip_frames.specs.declared.completion.Completion.TheVariants.{Thrown}
 use Rattle.rip_frames.specs.declared.completion.Stop.TheVariants.{Fault as AtFault, Limit as AtLimit}
-use Rattle.rip_frames.specs.Row.{Row, Ends, Halts, AsksHost, Reads, Writes, Calls}
+use Rattle.rip_heap.specs.Host.{Reads, Writes, Calls}
+use Rattle.rip_frames.specs.Row.{Row, Ends, Halts, AsksHost}
 use Rattle.rip_machine.specs.Rows.Names.{throws}
 
 -- CODES OF THE DOCUMENT (DOM Level 2 Core 1.2)

@@ -3,7 +3,6 @@ use Rattle.rip_values.specs.declared.value.Value.{Value}
 use Rattle.rip_frames.specs.Rest.{as_row}
 use Rattle.rip_frames.specs.Row.{Row}
 use Rattle.rip_frames.specs.Settle.{settle}
-use Rattle.rip_machine.specs.Law.{host_calls}
 use Rattle.rip_machine.specs.Reading.{child_at, children_from}
 use Rattle.rip_machine.specs.Rows.Calls.{arguments, called, callee_end}
 use Rattle.rip_machine.specs.Table.{table}
@@ -13,7 +12,7 @@ use Rattle.rip_machine.proofs.calls.after_callee.Goals as goal
 pub returns-in-None-child_at-clause-row : goal.returns-in-None-child_at-clause-row
 returns-in-None-child_at-clause-row g c =
     let a : child_at c.args.p.now c.args.at.now.node 1 ≡ None = search rules in
-    let h = host_calls g.H.Host.read_gives g.H.Host.write_gives g.H.Host.call_gives in
+    let h = g.H.Host.answers in
     let e : callee_end c.args.p.now c.args.at.now c.args.c.now c.args.heap.now ≡ called c.args.p.now c.args.at.now c.in-Some.method.function c.in-Some.method.this [] c.args.heap.now =
     c.in-Some.ensures c.args.heap.now (λ f this. arguments c.args.p.now c.args.at.now f this [] (children_from c.args.p.now c.args.at.now.node 1) c.args.heap.now)
     ∙ ap (λ l. arguments c.args.p.now c.args.at.now c.in-Some.method.function c.in-Some.method.this [] l c.args.heap.now) (children_none c.args.p.now c.args.at.now.node 1 a) in

@@ -2,7 +2,6 @@ use Rattle.std.proofs.Common.{◌≡◌, ℕ, ◌+◌, ◌-◌, [], ◌++◌, le
 use Rattle.rip_frames.specs.declared.next.Control.TheVariants.{Enter}
 use Rattle.rip_frames.specs.Rest.{control_of, frame_of, rest}
 use Rattle.rip_frames.specs.Stack.{Frames}
-use Rattle.rip_machine.specs.Law.{host_calls}
 use Rattle.rip_machine.specs.Nesting.{IsInside}
 use Rattle.rip_machine.specs.Table.{table}
 use Rattle.rip_machine.proofs.Nested.{entered_fits, went_inside}
@@ -18,7 +17,7 @@ pub returns-in-Ok-clause-rest : goal.returns-in-Ok-clause-rest
 returns-in-Ok-clause-rest g c =
     let row = rw c.in-Ok.is at c.begin.ensures.row in
     let nests = rw c.in-Ok.is at c.begin.ensures.nests in
-    let h = host_calls g.H.Host.read_gives g.H.Host.write_gives g.H.Host.call_gives in
+    let h = g.H.Host.answers in
     let stack : Frames = record c.args.stack.now { frames = c.args.stack.now.frames ++ frame_of c.in-Ok.next [] } in
     let inside : c.saturating_sub.result ≡ c.args.part.now.room - 1 = search rules in
     ok_both c.open.result (c.open.new.control ≡ control_of c.saturating_sub.result c.in-Ok.next) (c.open.new.stack ≡ stack)

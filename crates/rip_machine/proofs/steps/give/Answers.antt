@@ -4,7 +4,6 @@ use Rattle.rip_frames.specs.Frame.{part_of}
 use Rattle.rip_frames.specs.Rest.{as_row, frame_of, room_in}
 use Rattle.rip_frames.specs.Settle.{settle}
 use Rattle.rip_frames.specs.Stack.{Frames, framed, last_values, without_last}
-use Rattle.rip_machine.specs.Law.{host_calls}
 use Rattle.rip_machine.specs.Table.{rest_by, table}
 use Rattle.rip_machine.proofs.Nested.{at_last, one_frame, went_inside}
 use Rattle.rip_machine.proofs.StepLaws.{give_rest, passes}
@@ -12,7 +11,7 @@ use Rattle.rip_machine.proofs.steps.give.Goals as goal
 
 pub returns-in_ok-reopen-in-Ok-clause-rest : goal.returns-in_ok-reopen-in-Ok-clause-rest
 returns-in_ok-reopen-in-Ok-clause-rest g c u =
-    let h = host_calls g.H.Host.read_gives g.H.Host.write_gives g.H.Host.call_gives in
+    let h = g.H.Host.answers in
     let os = c.args.stack.now.frames in
     let P : List Value → Type 0 = λ vs. (as_row (table c.args.p.now) c.in-Ok.next vs c.finish.new.heap, c.finish.new.host) ≡ settle h (rest_by c.args.p.now c.in-Some.frame.now vs c.args.c c.args.heap.now) c.args.host.now in
     let inside : c.saturating_sub-room.result ≡ room_in c.in-Some.frame.now = search rules in

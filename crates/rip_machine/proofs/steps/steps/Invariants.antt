@@ -1,7 +1,7 @@
 use Rattle.std.proofs.Common.{◌≡◌, ℕ, ◌+◌, ◌*◌, ◌≤◌}
 use Rattle.rip_heap.specs.Growth.{Grows}
 use Rattle.rip_frames.specs.Rest.{rest}
-use Rattle.rip_machine.specs.Law.{host_calls, weight}
+use Rattle.rip_machine.specs.Law.{weight}
 use Rattle.rip_machine.specs.Nesting.{IsInside}
 use Rattle.rip_machine.specs.Table.{table}
 use Rattle.rip_machine.proofs.steps.steps.Given as goal
@@ -9,7 +9,7 @@ use Rattle.rip_machine.proofs.steps.steps.Given as goal
 abbrev pub invariant-loop : goal.invariant-loop
 invariant-loop g l = record {
   fits : g.H.Host.fits l.host l.heap;
-  rest : (k : ℕ) → rest (host_calls g.H.Host.read_gives g.H.Host.write_gives g.H.Host.call_gives) (table l.p) l.control l.stack.frames (l.left + k) l.heap l.host ≡ rest (host_calls g.H.Host.read_gives g.H.Host.write_gives g.H.Host.call_gives) (table l.p) l.fn.control l.fn.stack.frames (l.fn.budget + k) l.fn.heap l.fn.host;
+  rest : (k : ℕ) → rest g.H.Host.answers (table l.p) l.control l.stack.frames (l.left + k) l.heap l.host ≡ rest g.H.Host.answers (table l.p) l.fn.control l.fn.stack.frames (l.fn.budget + k) l.fn.heap l.fn.host;
   within : l.left ≤ l.fn.budget;
   inside : IsInside l.stack.most l.control l.stack.frames;
   most : l.stack.most ≡ l.fn.stack.most;

@@ -1,14 +1,14 @@
 use Rattle.std.proofs.Common.{◌≡◌, ℕ, ◌+◌, ◌-◌, ◌≤◌, min, nat_lt, List, refl, ap, ◌∙◌, subst}
 use Rattle.rip_values.specs.declared.value.Span.{Span}
 use Rattle.rip_frames.specs.Rest.{rest}
-use Rattle.rip_machine.specs.Law.{Standing, Resumes, host_calls}
+use Rattle.rip_machine.specs.Law.{Standing, Resumes}
 use Rattle.rip_machine.specs.Table.{table}
 use Rattle.rip_machine.proofs.Resumes.{resumes}
 use Rattle.rip_machine.proofs.machine.Machine.resume.Goals as goal
 
 pub returns-in-Ok-clause-law : goal.returns-in-Ok-clause-law
 returns-in-Ok-clause-law g c =
-    let h = host_calls g.H.Host.read_gives g.H.Host.write_gives g.H.Host.call_gives in
+    let h = g.H.Host.answers in
     let t = table (record { code = c.args.program.now; literals = c.as_slice.result.now }) in
     let u : ℕ = c.in-Ok.left in
     let old : Standing = record { control = c.self.inside.control; frames = c.self.inside.stack.frames; fuel = c.self.inside.fuel; spent = c.self.inside.spent; depth = c.self.inside.depth; literals = c.self.inside.literals.items; value_room = c.self.inside.stack.room } in

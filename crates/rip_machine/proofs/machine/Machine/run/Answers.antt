@@ -1,7 +1,7 @@
 use Rattle.std.proofs.Common.{List, ap, subst}
 use Rattle.rip_values.specs.declared.value.Span.{Span}
 use Rattle.rip_machine.specs.declared.outcome.Turned.TheVariants.{Done}
-use Rattle.rip_machine.specs.Law.{Resumes, host_calls, loaded}
+use Rattle.rip_machine.specs.Law.{Resumes, loaded}
 use Rattle.rip_machine.specs.Run.{IsStarted}
 use Rattle.rip_machine.specs.Starting.{started_of}
 use Rattle.rip_machine.specs.Table.{table}
@@ -10,7 +10,7 @@ use Rattle.rip_machine.proofs.machine.Machine.run.Goals as goal
 
 pub returns-clause-runs : goal.returns-clause-runs
 returns-clause-runs g c =
-    let h = host_calls g.H.Host.read_gives g.H.Host.write_gives g.H.Host.call_gives in
+    let h = g.H.Host.answers in
     let m = c.args.self.now in
     let p = loaded c.args.program.now m in
     let n = c.start.new.self in
