@@ -73,8 +73,8 @@ fn put_value(pairs: &mut Vec<(Span, Span)>, number: u32, value: Span)
     pairs[number as usize] = (found.0, value);
 }
 
-// Whether the name of an attribute is legal.
-fn is_attribute_name(name: &[u16]) -> bool
+/// Whether the name of an attribute is legal, as pages have them.
+pub fn is_attribute_name(name: &[u16]) -> bool
     ensures { result ≡ is_attribute_name name.now }
 {
     match name.split_first() {

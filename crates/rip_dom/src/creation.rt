@@ -48,7 +48,8 @@ impl Dom {
         }
     }
 
-    pub(crate) fn limit(&self) -> u32
+    /// How many nodes and attributes may be made.
+    pub fn limit(&self) -> u32
         ensures { result ≡ self.now.limit }
     {
         self.limit
@@ -123,8 +124,8 @@ fn unit_at(pool: &Pool, text: Span, place: u32) -> u16
     }
 }
 
-// Whether the name of an element is legal.
-fn is_element_name(name: &[u16]) -> bool
+/// Whether the name of an element is legal, as pages have them.
+pub fn is_element_name(name: &[u16]) -> bool
     ensures { result ≡ is_element_name name.now }
 {
     match name.split_first() {

@@ -65,7 +65,8 @@ impl Dom {
 
     /// How many nodes were made.
     pub fn made(&self) -> u32
-        ensures { result ≡ length self.now.nodes }
+        ensures made { result ≡ length self.now.nodes }
+        ensures within { length self.now.nodes ≤ self.now.limit }
     {
         self.nodes.len() as u32
     }

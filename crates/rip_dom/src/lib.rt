@@ -45,6 +45,8 @@ mod tests;
 mod walks;
 mod writing;
 
-pub use creation::{DomRefused, INVALID_CHARACTER};
+pub use attributes::is_attribute_name;
+pub use creation::{DomRefused, INVALID_CHARACTER, is_element_name};
 pub use dom::{Dom, HIERARCHY_REQUEST, NOT_FOUND};
 pub use laws::{numbers_are_new, puts_are_read, puts_leave_others};
+pub use names::{is_small, small_unit};

@@ -64,8 +64,8 @@ fn is_named(pairs: &Vec<(Span, Span)>, pool: &Pool, n: u32, name: &[u16]) -> boo
     is_small(pool.get(pair_at(pairs, n).0), name)
 }
 
-// Whether the text is the name in small letters.
-pub(crate) fn is_small(text: &[u16], name: &[u16]) -> bool
+/// Whether the text is the name in small letters.
+pub fn is_small(text: &[u16], name: &[u16]) -> bool
     ensures { result ≡ is_small text.now name.now }
 {
     if text.len() != name.len() {
@@ -79,7 +79,8 @@ pub(crate) fn is_small(text: &[u16], name: &[u16]) -> bool
     true
 }
 
-pub(crate) fn small_unit(unit: u16) -> u16
+/// The unit in small letters.
+pub fn small_unit(unit: u16) -> u16
     ensures { result ≡ small_unit unit }
 {
     if 65 <= unit && unit <= 90 {

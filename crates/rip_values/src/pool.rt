@@ -84,6 +84,17 @@ impl Pool {
         self.limit - self.used
     }
 
+    /// How many units all texts have: where the next one will stand. All that may still be charged can be named by a
+    /// span.
+    pub fn end(&self) -> u32
+        ensures end { result ≡ length self.now.units }
+        ensures room { result + (self.now.limit - self.now.used) < 2 ^ 32 }
+        ensures within { self.now.used ≤ self.now.limit }
+    {
+        let _left = self.limit - self.used;
+        self.units.len() as u32
+    }
+
     /// A span of this pool that stands for the same text: what lies in the pool is itself, and of what does not it is
     /// the part that is there. Who keeps a text that is handed to it keeps this.
     pub fn held(&self, s: Span) -> Span

@@ -3,7 +3,7 @@ use Rattle.rip_dom.proofs.WritingLemmas.{clears-none, clears-more, clears-all, c
 use Rattle.rip_dom.proofs.dom.Dom.clear.Goals as goal
 
 pub loop-i-init : goal.loop-i-init
-loop-i-init c = clears-none c.args.self.now c.args.n c.made-i-end.result c.grows.ensures c.made-i-end.ensures
+loop-i-init c = clears-none c.args.self.now c.args.n c.made-i-end.result c.grows.ensures c.made-i-end.ensures.made
 
 pub take_out-requires : goal.take_out-requires
 take_out-requires c = child-known c.loop-i.self c.args.n c.in-Some.child c.grows-in-Some.ensures (sym c.in-Some.ensures)
