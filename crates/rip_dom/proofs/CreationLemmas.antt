@@ -1,5 +1,5 @@
 -- Texts that are put behind all others piece by piece.
-use Rattle.std.proofs.Common.{◌≡◌, ℕ, zero, suc, ◌+◌, ◌-◌, ◌<◌, ◌≤◌, List, [], ◌∷◌, ◌++◌, length, map, take, get_or, refl, sym, ap, ap₂, ◌∙◌, subst, arith}
+use Rattle.std.proofs.Common.{◌≡◌, ℕ, zero, suc, ◌+◌, ◌<◌, ◌≤◌, List, [], ◌∷◌, ◌++◌, length, take, get_or, refl, sym, ap, ap₂, ◌∙◌, arith}
 use Rattle.std.specs.Prelude.{slice_range}
 use Rattle.std.proofs.Math.Seq.{take-append_seam}
 use Rattle.std.proofs.lemmas.List.{append_assoc, length-append, length-map}
@@ -16,7 +16,7 @@ stands-still old now more s e h =
     ∙ sym (range_within (old.units ++ more) s.start (s.start + s.count) (length old.units) h)
     ∙ ap (λ us. slice_range us s.start (s.start + s.count)) (take-append_seam old.units more)
 
-take-none : (xs : List ℕ) → take 0 xs ≡ []
+pub take-none : (xs : List ℕ) → take 0 xs ≡ []
 take-none [] = refl
 take-none (x ∷ xs) = refl
 
@@ -112,10 +112,10 @@ lowered-room old now held text i l h =
     let g : i < length text = omega (arith, h, l.count) in
     omega (arith, take-few text i g, l.used, l.limit, l.room)
 
-abbrev texts : List ℕ → ℕ → ℕ → ℕ → Texts
+abbrev pub texts : List ℕ → ℕ → ℕ → ℕ → Texts
 texts units used limit text_limit = record { units = units; used = used; limit = limit; text_limit = text_limit }
 
-same-texts : (now : Texts) (units : List ℕ) (used limit text_limit : ℕ) → now.units ≡ units → now.used ≡ used → now.limit ≡ limit → now.text_limit ≡ text_limit → now ≡ texts units used limit text_limit
+pub same-texts : (now : Texts) (units : List ℕ) (used limit text_limit : ℕ) → now.units ≡ units → now.used ≡ used → now.limit ≡ limit → now.text_limit ≡ text_limit → now ≡ texts units used limit text_limit
 same-texts now units used limit text_limit e f g h = ap₂ (λ us n. texts us n now.limit now.text_limit) e f ∙ ap₂ (texts units used) g h
 
 pub lowered-all : (old now : Texts) (held : Span) (text : List ℕ) (i : ℕ) → Lowered old now held text i → held.count ≤ i → now ≡ with_text old (small_text text) (length text)

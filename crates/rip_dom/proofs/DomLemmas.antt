@@ -1,19 +1,19 @@
 -- What the calls of a document leave of its records and lists.
-use Rattle.std.proofs.Common.{◌≡◌, ℕ, zero, suc, ◌+◌, ◌^◌, ◌<◌, ◌≤◌, Bool, true, false, cond, List, [], ◌∷◌, ◌++◌, length, map, Option, None, Some, refl, sym, ap, ap₂, ◌∙◌, subst, arith, length-set, get_or, get_or-set_same, get_or-set_other, ◌⊎◌, inl, inr, ◌||◌, ◌==◌}
-use Rattle.std.specs.Prelude.{IfSome, slice_set, nat_lt}
+use Rattle.std.proofs.Common.{◌≡◌, ℕ, zero, suc, ◌+◌, ◌^◌, ◌<◌, ◌≤◌, Bool, false, List, [], ◌∷◌, ◌++◌, length, map, Option, None, Some, refl, sym, ap, ap₂, ◌∙◌, subst, arith, length-set, get_or, get_or-set_same, get_or-set_other, inl, inr, ◌||◌, ◌==◌}
+use Rattle.std.specs.Prelude.{slice_set, nat_lt}
 use Rattle.std.specs.List.{list_any}
-use Rattle.std.proofs.lemmas.Bool.{cases_eq, or_parts, ne_eqb, cond-true, cond-false, lt-ltb, le-ltb}
+use Rattle.std.proofs.lemmas.Bool.{cases_eq, or_parts, ne_eqb, cond-false, le-ltb}
 use Rattle.std.proofs.lemmas.Option.{same_Some, none-some}
 use Rattle.std.proofs.lemmas.List.{length-map, length_push}
 use Rattle.rip_values.specs.declared.value.Span.{Span}
 use Rattle.rip_dom.specs.declared.dom.NodeRecord.{NodeRecord}
-use Rattle.rip_dom.specs.Lists.{Lists, list_at, owner_at, without, with_item, is_place}
-use Rattle.rip_dom.specs.Tree.{Tree, new_node, with_node, taken_out, put_in, is_child, is_above, is_barred, parent_of, way_up, with_attribute}
+use Rattle.rip_dom.specs.Lists.{Lists, list_at, owner_at, without, with_item}
+use Rattle.rip_dom.specs.Tree.{Tree, new_node, with_node, taken_out, put_in, is_above, is_barred, parent_of, way_up, with_attribute}
 use Rattle.rip_dom.specs.Linked.{Has, Differ, AreKnown, AreListed}
 use Rattle.rip_dom.specs.Laws.{Agree, HasNoCycle}
 use Rattle.rip_dom.specs.Document.{tree_of, IsDocument, IsDeep}
 use Rattle.rip_dom.proofs.DepthLemmas.{rooted-out, rooted-in, not-above, above-is}
-use Rattle.rip_dom.proofs.TreeLemmas.{Fits, fits, fits-more, parent-is, children-are, fits-without, made, without_item, with_item_in, one_more, list_more, node-more, taken-out, put-in, attribute-more}
+use Rattle.rip_dom.proofs.TreeLemmas.{Fits, fits, fits-more, parent-is, children-are, made, without_item, with_item_in, one_more, list_more, node-more, taken-out, put-in, attribute-more}
 
 pub node-pushed : (lim : ℕ) (R S : List NodeRecord) (C D A B : Lists) (P : List (Span × Span)) (r : NodeRecord) → Fits R C A
     → S ≡ R ++ r ∷ [] → D ≡ one_more C → B ≡ list_more A → tree_of lim S D B P ≡ with_node (tree_of lim R C A P) r.kind r.name r.text

@@ -1,5 +1,5 @@
 -- Laws of moves and of numbers.
-use Rattle.std.proofs.Common.{◌≡◌, ℕ, zero, suc, ◌+◌, ◌<◌, ◌≤◌, ◌⊎◌, inl, inr, Bool, true, false, cond, ◌==◌, List, [], ◌∷◌, ◌++◌, length, Option, None, Some, refl, sym, ap, ◌∙◌, subst, arith}
+use Rattle.std.proofs.Common.{◌≡◌, ℕ, ◌+◌, ◌<◌, inl, inr, cond, ◌==◌, length, Option, None, Some, sym, ap, ◌∙◌}
 use Rattle.std.specs.Prelude.{nat_lt}
 use Rattle.std.proofs.lemmas.Bool.{cases_Bool, cond-true, cond-false, eq-eqb, ne_eqb}
 use Rattle.std.proofs.lemmas.Option.{same_Some, none-some}
@@ -8,7 +8,7 @@ use Rattle.rip_values.specs.declared.page.NodeKind.{NodeKind}
 use Rattle.rip_values.specs.declared.value.Span.{Span}
 use Rattle.rip_dom.specs.Laws.{NumbersAreNew, PutsLeaveOthers}
 use Rattle.rip_dom.specs.Lists.{without, with_item}
-use Rattle.rip_dom.specs.Tree.{Tree, Node, node_at, parent_of, children_of, new_node, with_node, bare_node, put_in, taken_out}
+use Rattle.rip_dom.specs.Tree.{Tree, Node, node_at, parent_of, children_of, new_node, with_node, bare_node, put_in}
 use Rattle.rip_dom.proofs.TreeLemmas.{length-nodes, length-put_in, nodes-at}
 
 made-new : (t u : Tree) (kind : NodeKind) (name text : Option Span) (n : ℕ) → new_node t kind name text ≡ Some (n, u) → (n ≡ length t.nodes) × (length u.nodes ≡ n + 1)

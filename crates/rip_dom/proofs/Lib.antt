@@ -9,6 +9,7 @@ pub mod NameLemmas
 pub mod OpeningLemmas
 pub mod OrderLemmas
 pub mod Paths
+pub mod ReadingLemmas
 pub mod RemovalLemmas
 pub mod TreeLemmas
 pub mod WalkLemmas

@@ -1,14 +1,14 @@
 -- What an item taken out or put in leaves of all lists.
-use Rattle.std.proofs.Common.{◌≡◌, ◌≢◌, ℕ, zero, suc, ◌+◌, ◌<◌, ◌≤◌, Bool, true, false, cond, ◌==◌, ◌⊎◌, inl, inr, List, [], ◌∷◌, ◌++◌, length, map, get_or, set, Option, None, Some, refl, sym, ap, ◌∙◌, subst, arith, rules, length-set, get_or-set_same, get_or-set_other}
-use Rattle.std.specs.Prelude.{IfSome, slice_set, slice_index_or, option_and_then}
+use Rattle.std.proofs.Common.{◌≡◌, ◌≢◌, ℕ, zero, suc, ◌<◌, ◌≤◌, inl, inr, List, [], ◌∷◌, length, map, get_or, set, Option, None, Some, refl, sym, ap, ◌∙◌, subst, arith, length-set, get_or-set_same, get_or-set_other}
+use Rattle.std.specs.Prelude.{IfSome}
 use Rattle.std.proofs.lemmas.Bool.{cases_eq, cases_lt}
 use Rattle.std.proofs.lemmas.Option.{same_Some, none-some}
-use Rattle.std.proofs.lemmas.List.{length-map, ext_get_or, get_or-map, get_or_past, set_past, get_or_append_left, get_or_push, length_push, map_push, map-set, set-get_or}
+use Rattle.std.proofs.lemmas.List.{length-map, ext_get_or, get_or-map, get_or_past}
 use Rattle.rip_dom.specs.declared.lists.Ends.{Ends}
 use Rattle.rip_dom.specs.declared.lists.Item.{Item}
-use Rattle.rip_dom.specs.Lists.{list_at, owner_at, without, with_item, first_of, last_or, item_behind, item_in_front}
-use Rattle.rip_dom.specs.Linked.{no_ends, no_item, ends_at, item_at, forward, backward, owner_of, walk, lists_of, ends_forward, ends_backward, items_forward, items_backward, ends_joined, items_joined, Has, Apart, Path, Linked, AreLinked}
-use Rattle.rip_dom.proofs.Paths.{Links, IsAt, Skips, Enters, path-apart, path-same, path-without, path-with, path-first, path-last, path-behind, path-front, path-differ, few-below, front-cases, behind-cases, has-without, has-without-from, has-with_item, has-with_item-from, without-absent}
+use Rattle.rip_dom.specs.Lists.{list_at, owner_at, without, with_item}
+use Rattle.rip_dom.specs.Linked.{no_ends, no_item, ends_at, item_at, forward, backward, owner_of, walk, lists_of, ends_forward, ends_backward, items_forward, items_backward, ends_joined, items_joined, Has, Path, Linked, AreLinked}
+use Rattle.rip_dom.proofs.Paths.{Links, IsAt, path-same, path-without, path-with, path-differ, few-below, front-cases, behind-cases, has-without, has-without-from, has-with_item, has-with_item-from, without-absent}
 
 -- what a change at one place leaves of a part that it does not change
 kept : {A C : Type 0} (f : A → C) (l : List A) (i : ℕ) (v d : A) → i < length l → f v ≡ f (get_or l i d) → (k : ℕ) → f (get_or (set l i v) k d) ≡ f (get_or l k d)

@@ -1,7 +1,7 @@
 -- Names in small letters, and the first attribute that has one.
-use Rattle.std.proofs.Common.{◌≡◌, ℕ, zero, suc, ◌+◌, ◌-◌, ◌<◌, ◌≤◌, Bool, true, false, cond, ◌==◌, ◌&&◌, List, [], ◌∷◌, length, map, drop, get_or, Option, None, Some, refl, sym, ap, ap₂, ◌∙◌, subst, arith}
+use Rattle.std.proofs.Common.{◌≡◌, ℕ, zero, suc, ◌+◌, ◌-◌, ◌<◌, ◌≤◌, Bool, true, false, cond, ◌==◌, ◌&&◌, List, [], ◌∷◌, length, map, drop, get_or, Option, None, Some, refl, sym, ap, ap₂, ◌∙◌, arith}
 use Rattle.std.specs.Prelude.{find, option_map}
-use Rattle.std.proofs.lemmas.Bool.{eq-eqb, ne_eqb, and_left}
+use Rattle.std.proofs.lemmas.Bool.{eq-eqb, ne_eqb}
 use Rattle.std.proofs.lemmas.List.{drop_more, drop_all}
 use Rattle.rip_values.specs.declared.value.Span.{Span}
 use Rattle.rip_values.specs.Pool.{Texts}
@@ -10,7 +10,7 @@ use Rattle.rip_dom.specs.declared.lists.Ends.{Ends}
 use Rattle.rip_dom.specs.declared.lists.Item.{Item}
 use Rattle.rip_dom.specs.Lists.{Lists, list_at}
 use Rattle.rip_dom.specs.Linked.{ends_at, item_at, walk, lists_of}
-use Rattle.rip_dom.specs.Tree.{Node, Tree, node_at}
+use Rattle.rip_dom.specs.Tree.{Node}
 use Rattle.rip_dom.specs.Document.{pair_at, tree_of}
 use Rattle.rip_dom.specs.Names.{small_unit, is_small, has_name, attribute_of, is_named}
 use Rattle.rip_dom.proofs.TreeLemmas.{Fits, node-at}

@@ -1,8 +1,7 @@
 -- How a page is made into a document, one node and one attribute at a time.
-use Rattle.std.proofs.Common.{◌≡◌, ℕ, zero, suc, ◌+◌, ◌-◌, ◌<◌, ◌≤◌, ◌⊎◌, inl, inr, Bool, true, false, cond, List, [], ◌∷◌, ◌++◌, length, map, drop, get_or, Option, None, Some, refl, sym, ap, ap₂, ◌∙◌, subst, arith}
-use Rattle.std.specs.Prelude.{is_some, is_ok, unwrap_or, nat_lt, slice_get, Result, Ok, Err}
-use Rattle.std.specs.List.{range_with_len}
-use Rattle.std.proofs.lemmas.Bool.{true≢false, cases_lt, cond-true, cond-false, lt-ltb, le-ltb}
+use Rattle.std.proofs.Common.{◌≡◌, ℕ, suc, ◌+◌, ◌-◌, ◌<◌, ◌≤◌, inl, inr, Bool, true, false, cond, List, [], ◌∷◌, length, drop, get_or, Option, None, Some, refl, sym, ap, ap₂, ◌∙◌, subst, arith}
+use Rattle.std.specs.Prelude.{is_some, is_ok, nat_lt, slice_get, Result, Ok, Err}
+use Rattle.std.proofs.lemmas.Bool.{true≢false, cases_lt}
 use Rattle.std.proofs.lemmas.List.{drop_more, drop_all, length_push}
 use Rattle.std.proofs.lemmas.Option.{slice_get_within, get_or_from_slice_get}
 use Rattle.rip_values.specs.declared.page.NodeKind.{NodeKind}
@@ -14,9 +13,9 @@ use Rattle.rip_values.specs.declared.page.Attribute.{Attribute}
 use Rattle.rip_values.specs.declared.value.Span.{Span}
 use Rattle.rip_values.specs.FixedTexts.{fixed_span}
 use Rattle.rip_values.specs.Pool.{Texts, span_behind, with_text}
-use Rattle.rip_dom.specs.Tree.{Tree, Node, with_node, bare_node, put_in, with_attribute, node_at}
+use Rattle.rip_dom.specs.Tree.{Tree, with_node, bare_node, put_in, with_attribute}
 use Rattle.rip_dom.specs.Opening.{Opening, name_span, with_name, with_value, name_of, text_of, placed, attribute_step, attributes_in, node_step, nodes_in, no_tree, count_of_nodes, count_of_values, count_of_units, IsShort, Opens}
-use Rattle.rip_dom.proofs.TreeLemmas.{length-nodes, length-put_in, length-with_attribute}
+use Rattle.rip_dom.proofs.TreeLemmas.{length-put_in, length-with_attribute}
 
 abbrev pub at : Texts → Tree → Opening
 at pool tree = record { pool = pool; tree = tree }

@@ -1,5 +1,5 @@
 -- The way through a document, step by step, is its document order.
-use Rattle.std.proofs.Common.{◌≡◌, ℕ, zero, suc, ◌+◌, ◌-◌, ◌<◌, ◌≤◌, ◌⊎◌, inl, inr, Bool, true, false, cond, ◌==◌, List, [], ◌∷◌, ◌++◌, length, find, flat_map, Option, None, Some, refl, sym, ap, ap₂, ◌∙◌, subst, arith}
+use Rattle.std.proofs.Common.{◌≡◌, ℕ, zero, suc, ◌+◌, ◌-◌, ◌<◌, ◌≤◌, ◌⊎◌, inl, inr, Bool, true, false, ◌==◌, List, [], ◌∷◌, ◌++◌, length, find, flat_map, Option, None, Some, refl, sym, ap, ◌∙◌, subst, arith}
 use Rattle.std.proofs.lemmas.Bool.{both_ways, cases_Bool, cases_lt, cond-true, cond-false, eq-eqb, ne_eqb}
 use Rattle.std.proofs.lemmas.Option.{same_Some, none-some}
 use Rattle.std.proofs.lemmas.List.{append_assoc, append-nil, length-append, get_or_past}
@@ -7,12 +7,12 @@ use Rattle.rip_values.specs.declared.value.Span.{Span}
 use Rattle.rip_dom.specs.declared.dom.NodeRecord.{NodeRecord}
 use Rattle.rip_dom.specs.declared.order.Step.{Step}
 use Rattle.rip_dom.specs.declared.order.Step.TheVariants.{Enter, Leave, End}
-use Rattle.rip_dom.specs.Document.{IsDeep, IsRooted, IsDocument, tree_of}
+use Rattle.rip_dom.specs.Document.{IsDeep, IsDocument, tree_of}
 use Rattle.rip_dom.specs.Linked.{Has, Differ, AreListed}
 use Rattle.rip_dom.specs.Lists.{Lists, first_of, item_behind, owner_at}
 use Rattle.rip_dom.specs.Order.{levels, in_order}
-use Rattle.rip_dom.specs.Tree.{Tree, children_of, next_of, parent_of}
-use Rattle.rip_dom.specs.Way.{Grows, behind, entered, found_at, is_end, step}
+use Rattle.rip_dom.specs.Tree.{Node, Tree, children_of, next_of, no_node, parent_of}
+use Rattle.rip_dom.specs.Way.{Grows, behind, entered, found_at, is_end, step, way_on}
 use Rattle.rip_dom.proofs.DepthLemmas.{deep-within}
 use Rattle.rip_dom.proofs.DomLemmas.{agree}
 use Rattle.rip_dom.proofs.Paths.{few-below}
@@ -144,13 +144,6 @@ levels-few t g d n h =
 
 -- STEPS
 
--- the nodes that are entered from this step on, in so many steps
-abbrev pub way_on : Tree → ℕ → ℕ → Step → List ℕ
-way_on t r zero s = []
-way_on t r (suc k) (Enter n) = n ∷ way_on t r k (step t r (Enter n))
-way_on t r (suc k) (Leave n) = way_on t r k (step t r (Leave n))
-way_on t r (suc k) End = []
-
 -- from the entrance of a node to its end, all that is below it is entered, in two steps for each node
 abbrev Goes : Tree → ℕ → ℕ → ℕ → Type 0
 Goes t r d n = (j k : ℕ) → suc j ≡ length (levels d t n) + length (levels d t n) + k → way_on t r j (Enter n) ≡ levels d t n ++ way_on t r k (Leave n)
@@ -210,7 +203,7 @@ node-goes t r rd g rr (suc d) n e h le b big (suc i) k s =
     (λ c m. node-goes t r rd g rr d c (suc e) (child-deep t g e n c h m) (omega (arith, le)) (g.mine c n (g.owned n c m)) (omega (arith, big)))
     i k f)
 
-at-end : (t : Tree) (r k : ℕ) → way_on t r k End ≡ []
+pub at-end : (t : Tree) (r k : ℕ) → way_on t r k End ≡ []
 at-end t r zero = refl
 at-end t r (suc k) = refl
 
@@ -223,7 +216,7 @@ deep-some up zero n d = absurd d
 deep-some up (suc k) n d = omega arith
 
 -- twice as many steps as there are nodes go through all that is below the root
-pub way-is : (t : Tree) (r : ℕ) → Grows t → r < length t.nodes → way_on t r (length t.nodes + length t.nodes) (Enter r) ≡ in_order t r
+way-is : (t : Tree) (r : ℕ) → Grows t → r < length t.nodes → way_on t r (length t.nodes + length t.nodes) (Enter r) ≡ in_order t r
 way-is t r g h =
     node-goes t r (g.deep r).0 g (g.deep r).1 (length t.nodes) r (g.deep r).0 (g.deep r).1 (omega arith) h big (length t.nodes + length t.nodes) (suc (length t.nodes + length t.nodes) - (length (in_order t r) + length (in_order t r))) s
     ∙ ap (λ l. in_order t r ++ l) (ended t r (suc (length t.nodes + length t.nodes) - (length (in_order t r) + length (in_order t r))))
@@ -238,19 +231,26 @@ way-is t r g h =
     s : suc (length t.nodes + length t.nodes) ≡ length (in_order t r) + length (in_order t r) + (suc (length t.nodes + length t.nodes) - (length (in_order t r) + length (in_order t r)))
     s = omega (arith, few)
 
--- the same from the first node on, also where there is none
-pub way-from-first : (t : Tree) → Grows t → way_on t 0 (length t.nodes + length t.nodes) (Enter 0) ≡ in_order t 0
-way-from-first t g =
-    elim (cases_lt 0 (length t.nodes)) [
-      | inl h ↦ way-is t 0 g h
-      | inr z ↦
-          let e : length t.nodes ≡ 0 = omega (arith, z) in
-          ap (λ c. way_on t 0 (c + c) (Enter 0)) e ∙ sym (ap (λ c. levels c t 0) e)
+-- a node that is not there has nothing below it
+alone : (t : Tree) (r c : ℕ) → children_of t r ≡ [] → way_on t r (c + c) (Enter r) ≡ levels c t r
+alone t r zero none = let z : zero + zero ≡ zero = omega arith in ap (λ k. way_on t r k (Enter r)) z
+alone t r (suc k) none =
+    let two : suc k + suc k ≡ suc (suc (k + k)) = omega arith in
+    ap (λ j. way_on t r j (Enter r)) two
+    ∙ ap (λ l. r ∷ l) (ap (λ cs. way_on t r (suc (k + k)) (entered r (first_of cs))) none ∙ ended t r (suc (k + k)))
+    ∙ sym (ap (λ cs. r ∷ flat_map (levels k t) cs) none)
+
+-- the same from each number on, also where no node has it
+pub way-from : (t : Tree) (r : ℕ) → Grows t → way_on t r (length t.nodes + length t.nodes) (Enter r) ≡ in_order t r
+way-from t r g =
+    elim (cases_lt r (length t.nodes)) [
+      | inl h ↦ way-is t r g h
+      | inr z ↦ alone t r (length t.nodes) (ap (λ (x : Node). x.children) (get_or_past t.nodes r no_node z))
     ]
 
 -- WHAT IS LOOKED FOR ON THE WAY
 
-one-left : (e i : ℕ) → i < e → e - i ≡ suc (e - (i + 1))
+pub one-left : (e i : ℕ) → i < e → e - i ≡ suc (e - (i + 1))
 one-left e i h = omega (arith, h)
 
 found-here : (f : ℕ → Bool) (t : Tree) (r k n : ℕ) (s : Step) → found_at f s ≡ Some n → find f (way_on t r (suc k) s) ≡ Some n
@@ -274,7 +274,7 @@ not-here f t r k End e = sym (ap (find f) (at-end t r k))
 pub find-first : (f : ℕ → Bool) (t : Tree) (e : ℕ) → Grows t → e ≡ length t.nodes + length t.nodes → find f (way_on t 0 (e - 0) (Enter 0)) ≡ find f (in_order t 0)
 find-first f t e g h =
     let z : e - 0 ≡ length t.nodes + length t.nodes = omega (arith, h) in
-    ap (λ k. find f (way_on t 0 k (Enter 0))) z ∙ ap (find f) (way-from-first t g)
+    ap (λ k. find f (way_on t 0 k (Enter 0))) z ∙ ap (find f) (way-from t 0 g)
 
 pub find-found : (f : ℕ → Bool) (t : Tree) (r e i n : ℕ) (s : Step) → i < e → found_at f s ≡ Some n → find f (way_on t r (e - i) s) ≡ Some n
 find-found f t r e i n s h w = ap (λ k. find f (way_on t r k s)) (one-left e i h) ∙ found-here f t r (e - (i + 1)) n s w
@@ -282,7 +282,7 @@ find-found f t r e i n s h w = ap (λ k. find f (way_on t r k s)) (one-left e i 
 pub find-more : (f : ℕ → Bool) (t : Tree) (r e i : ℕ) (s : Step) → i < e → found_at f s ≡ None → find f (way_on t r (e - i) s) ≡ find f (way_on t r (e - (i + 1)) (step t r s))
 find-more f t r e i s h w = ap (λ k. find f (way_on t r k s)) (one-left e i h) ∙ not-here f t r (e - (i + 1)) s w
 
-way-at-end : (t : Tree) (r k : ℕ) (s : Step) → is_end s ≡ true → way_on t r k s ≡ []
+pub way-at-end : (t : Tree) (r k : ℕ) (s : Step) → is_end s ≡ true → way_on t r k s ≡ []
 way-at-end t r k (Enter n) e = absurd (both_ways false refl e)
 way-at-end t r k (Leave n) e = absurd (both_ways false refl e)
 way-at-end t r k End e = at-end t r k

@@ -1,6 +1,6 @@
 -- An attribute taken away.
-use Rattle.std.proofs.Common.{◌≡◌, ℕ, zero, suc, ◌+◌, ◌<◌, ◌≤◌, ◌⊎◌, inl, inr, Bool, true, false, cond, ◌==◌, List, [], ◌∷◌, length, map, Option, None, Some, refl, sym, ap, ap₂, ◌∙◌, subst, length-set}
-use Rattle.std.specs.Prelude.{find, slice_set}
+use Rattle.std.proofs.Common.{◌≡◌, ℕ, inl, inr, Bool, cond, ◌==◌, List, [], ◌∷◌, map, None, Some, refl, sym, ap, ◌∙◌, subst, length-set}
+use Rattle.std.specs.Prelude.{find}
 use Rattle.std.proofs.lemmas.Bool.{cases_eq, cases_Bool, cond-true, cond-false, eq-eqb, ne_eqb}
 use Rattle.std.proofs.lemmas.Option.{same_Some, none-some}
 use Rattle.std.proofs.lemmas.List.{length-map}
@@ -9,8 +9,8 @@ use Rattle.rip_values.specs.Pool.{Texts}
 use Rattle.rip_dom.specs.declared.dom.NodeRecord.{NodeRecord}
 use Rattle.rip_dom.specs.Lists.{Lists, list_at, owner_at, without}
 use Rattle.rip_dom.specs.Linked.{Has, Differ, AreListed}
-use Rattle.rip_dom.specs.Tree.{Node, Tree}
-use Rattle.rip_dom.specs.Document.{record_at, pair_at, node_of, tree_of, IsDocument}
+use Rattle.rip_dom.specs.Tree.{Node}
+use Rattle.rip_dom.specs.Document.{record_at, pair_at, tree_of, IsDocument}
 use Rattle.rip_dom.specs.Names.{has_name, is_named, without_first, without_attribute}
 use Rattle.rip_dom.proofs.Paths.{without-same, without-other, without-absent}
 use Rattle.rip_dom.proofs.TreeLemmas.{Fits, without_item, list-without, same-node, changed}

@@ -1,12 +1,10 @@
 -- The tree that records and linked lists stand for, and what each change of them leaves of it.
-use Rattle.std.proofs.Common.{◌≡◌, ◌≢◌, ℕ, zero, suc, ◌+◌, ◌<◌, ◌≤◌, Bool, true, false, cond, ◌==◌, ◌⊎◌, inl, inr, List, [], ◌∷◌, ◌++◌, length, map, get_or, set, Option, None, Some, refl, sym, ap, ap₂, ◌∙◌, subst, arith, rules, length-set, get_or-set_same, get_or-set_other}
-use Rattle.std.specs.Prelude.{IfSome, slice_index_or, option_and_then, slice_set}
+use Rattle.std.proofs.Common.{◌≡◌, ℕ, zero, suc, ◌+◌, ◌<◌, ◌≤◌, true, false, cond, ◌==◌, inl, inr, List, [], ◌∷◌, ◌++◌, length, map, get_or, set, Option, None, Some, refl, sym, ap, ap₂, ◌∙◌, subst, arith, length-set, get_or-set_same, get_or-set_other}
+use Rattle.std.specs.Prelude.{IfSome, option_and_then, slice_set}
 use Rattle.std.specs.List.{range_with_len}
 use Rattle.std.proofs.lemmas.Bool.{both_ways, cases_eq, cases_lt, cond-true, cond-false, eq-eqb, ne_eqb}
-use Rattle.std.proofs.lemmas.Option.{same_Some, none-some}
-use Rattle.std.proofs.lemmas.List.{length-map, ext_get_or, get_or-map, get_or_past, get_or_append_left, get_or_push, length_push, map_push}
+use Rattle.std.proofs.lemmas.List.{length-map, get_or-map, get_or_past, get_or_append_left, get_or_push, length_push, map_push}
 use Rattle.std.proofs.lemmas.List.FromFn.{length-range_with_len, get_or-map-range_with_len}
-use Rattle.rip_values.specs.declared.page.NodeKind.{NodeKind}
 use Rattle.rip_values.specs.declared.value.Span.{Span}
 use Rattle.rip_dom.specs.declared.dom.NodeRecord.{NodeRecord}
 use Rattle.rip_dom.specs.Lists.{Lists, list_at, owner_at, without, with_item, is_place, item_behind, item_in_front}

@@ -1,6 +1,6 @@
 -- Ways along links, one step and at their end: the tests of a list that a loop makes.
-use Rattle.std.proofs.Common.{◌≡◌, ◌≢◌, ℕ, zero, suc, ◌+◌, ◌-◌, ◌<◌, ◌≤◌, Bool, true, false, cond, ◌==◌, ◌||◌, ◌&&◌, not, ◌⊎◌, inl, inr, List, [], ◌∷◌, length, map, get_or, Option, None, Some, refl, sym, ap, ap₂, ◌∙◌, subst, arith}
-use Rattle.std.specs.Prelude.{slice_index_or, slice_get, option_map}
+use Rattle.std.proofs.Common.{◌≡◌, ℕ, zero, suc, ◌+◌, ◌-◌, ◌<◌, ◌≤◌, Bool, true, false, ◌==◌, ◌||◌, ◌&&◌, not, inl, inr, List, [], ◌∷◌, length, Option, None, Some, refl, sym, ap, ap₂, ◌∙◌, subst, arith}
+use Rattle.std.specs.Prelude.{slice_get, option_map}
 use Rattle.std.specs.List.{list_any}
 use Rattle.rip_values.specs.declared.value.Span.{Span}
 use Rattle.std.proofs.lemmas.Bool.{cases_lt, eq-eqb, ne_eqb}
@@ -11,8 +11,8 @@ use Rattle.rip_dom.specs.declared.lists.Ends.{Ends}
 use Rattle.rip_dom.specs.declared.lists.Item.{Item}
 use Rattle.rip_dom.specs.Lists.{Lists, list_at, is_place}
 use Rattle.rip_dom.specs.Linked.{no_ends, ends_at, item_at, forward, backward, walk, lists_of, Path, AreLinked}
-use Rattle.rip_dom.specs.Tree.{Node, Tree, way_up, parent_of, node_at, children_of, is_element, has_other_element}
-use Rattle.rip_dom.specs.Document.{record_at, pair_at, tree_of}
+use Rattle.rip_dom.specs.Tree.{Node, Tree, way_up, parent_of, node_at, is_element, has_other_element}
+use Rattle.rip_dom.specs.Document.{pair_at, tree_of}
 use Rattle.rip_dom.specs.Walks.{is_other_element}
 use Rattle.rip_dom.proofs.TreeLemmas.{Fits, node-at, children-are}
 

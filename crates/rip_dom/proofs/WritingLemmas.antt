@@ -1,5 +1,5 @@
 -- Children that leave, and texts that are written.
-use Rattle.std.proofs.Common.{◌≡◌, ℕ, zero, suc, ◌+◌, ◌<◌, ◌≤◌, ◌⊎◌, inl, inr, Bool, true, false, cond, ◌==◌, List, [], ◌∷◌, length, map, set, Option, None, Some, refl, sym, ap, ap₂, ◌∙◌, subst, arith, length-set, get_or-set_same, get_or-set_other}
+use Rattle.std.proofs.Common.{◌≡◌, ℕ, suc, ◌+◌, ◌<◌, ◌≤◌, inl, inr, false, cond, ◌==◌, List, [], ◌∷◌, length, map, set, None, Some, refl, sym, ap, ap₂, ◌∙◌, subst, arith, length-set, get_or-set_same, get_or-set_other}
 use Rattle.std.specs.Prelude.{slice_set}
 use Rattle.std.specs.List.{range_with_len}
 use Rattle.std.proofs.lemmas.Bool.{cases_eq, cases_lt, cond-true, cond-false, eq-eqb, ne_eqb}
@@ -11,11 +11,11 @@ use Rattle.rip_dom.specs.declared.dom.NodeRecord.{NodeRecord}
 use Rattle.rip_dom.specs.Document.{no_record, record_at, pair_at, node_of, tree_of, IsDocument}
 use Rattle.rip_dom.specs.Linked.{Has, Differ}
 use Rattle.rip_dom.specs.Lists.{Lists, first_of, list_at, owner_at, without}
-use Rattle.rip_dom.specs.Tree.{Node, Tree, children_of, each, node_at, no_node, parent_of, put_in, taken_out, with_node}
+use Rattle.rip_dom.specs.Tree.{Node, Tree, children_of, node_at, no_node, put_in, taken_out, with_node}
 use Rattle.rip_dom.specs.Way.{Grows}
 use Rattle.rip_dom.specs.Writing.{emptied, filled, is_empty, with_text_of, without_nodes}
 use Rattle.rip_dom.proofs.Paths.{few-below, without-same, without-absent}
-use Rattle.rip_dom.proofs.TreeLemmas.{Fits, made, make, node-at, nodes-at, length-nodes, same-node}
+use Rattle.rip_dom.proofs.TreeLemmas.{Fits, made, make, node-at, nodes-at, length-nodes}
 
 -- CHILDREN LEAVE
 

@@ -10,7 +10,7 @@ use Rattle.rip_dom.specs.declared.creation.DomRefused.{DomRefused}
 use Rattle.rip_dom.specs.declared.creation.DomRefused.TheVariants.{Code, Refused}
 use Rattle.rip_dom.specs.Names.{small_unit, is_small}
 use Rattle.rip_dom.specs.Opening.{Opening}
-use Rattle.rip_dom.specs.Tree.{Tree, with_node}
+use Rattle.rip_dom.specs.Tree.{with_node}
 
 -- a letter from A to Z, small or not
 abbrev pub is_letter : ℕ → Bool

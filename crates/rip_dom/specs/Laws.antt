@@ -1,5 +1,5 @@
 -- Laws of trees, in words that no step uses.
-use Rattle.std.specs.Prelude.{◌≡◌, ◌≢◌, ◌↔◌, ℕ, ◌+◌, ◌<◌, false, Option, None, Some, List, length, IfSome}
+use Rattle.std.specs.Prelude.{◌≡◌, ◌↔◌, ℕ, ◌+◌, ◌<◌, false, Option, Some, List, length}
 use Rattle.rip_values.specs.declared.page.NodeKind.{NodeKind}
 use Rattle.rip_values.specs.declared.value.Span.{Span}
 use Rattle.rip_dom.specs.Linked.{Has, Differ}

@@ -8,6 +8,7 @@ pub mod Lists
 pub mod Names
 pub mod Opening
 pub mod Order
+pub mod Reading
 pub mod Tree
 pub mod Walks
 pub mod Way

@@ -1,5 +1,5 @@
 -- Lists of numbered items, of which each stands in one list at most.
-use Rattle.std.specs.Prelude.{ℕ, suc, Bool, true, false, ◌==◌, if◌then◌else◌, Option, None, Some, List, [], ◌∷◌, slice_get, slice_index_or, length, ◌-◌}
+use Rattle.std.specs.Prelude.{ℕ, Bool, false, ◌==◌, if◌then◌else◌, Option, None, Some, List, [], ◌∷◌, slice_index_or}
 
 -- the lists, each by its number, and of each item the list in which it stands
 pub record Lists : Type 0 where

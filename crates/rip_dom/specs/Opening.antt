@@ -1,5 +1,5 @@
 -- The document that a page is made into, node by node in document order.
-use Rattle.std.specs.Prelude.{ℕ, ◌+◌, ◌<◌, ◌≤◌, ◌≡◌, Bool, true, false, Option, None, Some, List, [], ◌∷◌, length, is_some, unwrap_or, nat_lt, if◌then◌else◌, Result, Ok, Err}
+use Rattle.std.specs.Prelude.{ℕ, ◌+◌, ◌<◌, ◌≤◌, ◌≡◌, Option, None, Some, List, [], ◌∷◌, length, is_some, unwrap_or, nat_lt, if◌then◌else◌, Result, Ok, Err}
 use Rattle.rip_values.specs.declared.page.NodeKind.{NodeKind}
 use Rattle.rip_values.specs.declared.page.NodeKind.TheVariants.{Document, Element, Text, Comment}
 use Rattle.rip_values.specs.declared.page.PageNode.{PageNode}

@@ -1,5 +1,5 @@
 -- Texts that are written (DOM Level 2 Core 1.2, nodeValue and its like for all that is below an element).
-use Rattle.std.specs.Prelude.{◌≡◌, ℕ, ◌==◌, ◌&&◌, not, nat_lt, Bool, true, false, if◌then◌else◌, Option, None, Some, List, [], ◌∷◌, length, Result, Ok, Err}
+use Rattle.std.specs.Prelude.{◌≡◌, ℕ, ◌==◌, ◌&&◌, not, nat_lt, Bool, true, false, if◌then◌else◌, None, Some, List, [], ◌∷◌, length, Result, Ok, Err}
 use Rattle.rip_values.specs.declared.page.NodeKind.TheVariants.{Text}
 use Rattle.rip_values.specs.declared.value.Limit.TheVariants.{Nodes}
 use Rattle.rip_values.specs.declared.value.Refused.{Refused}

@@ -98,7 +98,7 @@ fn push_small(alloc: Global, pool: &mut Pool, name: Span) -> Span
 }
 
 // The empty text behind all others.
-fn end_of(alloc: Global, pool: &mut Pool) -> Span
+pub(crate) fn end_of(alloc: Global, pool: &mut Pool) -> Span
     requires { pool.old.used ≤ pool.old.limit }
     ensures span { result ≡ span_behind pool.old [] }
     ensures added { pool.new ≡ with_text pool.old [] 0 }

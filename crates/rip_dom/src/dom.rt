@@ -303,7 +303,8 @@ impl Dom {
                 && (is_text(kind) || is_element(kind) && self.has_other_element(parent, child, old))
     }
 
-    fn is_above(&self, upper: u32, lower: u32) -> bool
+    /// Whether the first node is the second one, or stands above it.
+    pub fn is_above(&self, upper: u32, lower: u32) -> bool
         ensures { result ≡ is_above self.now upper lower }
     {
         let mut at = Some(lower);

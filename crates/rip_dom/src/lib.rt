@@ -14,9 +14,11 @@
 //! | [`Dom::attribute_at`] | the attributes of `Tree.node_at`, in the order of making |
 //! | [`Dom::attribute`], [`Dom::remove_attribute`] | `Names.attribute_of`, `Names.without_attribute` |
 //! | [`Dom::find_id`] | `Order.element_of_id`, the first in `Order.in_order` |
+//! | [`Step`], [`Dom::step`], [`Dom::steps`], [`Dom::is_above`] | `Way.step`, `Way.way_on`; `Tree.is_above` |
 //! | [`Dom::create_text`] | `Tree.new_node` |
 //! | [`Dom::create_element`] | `Creation.element_made`, refused as `Creation.element_refusal` says |
 //! | [`Dom::set_attribute`] | `Attributes.attribute_set`, refused as `Attributes.attribute_refusal` says |
+//! | [`Dom::read_text`] | `Reading.text_below`, answered as `Reading.Reads` says |
 //! | [`Dom::write_text`] | `Writing.written`, refused as `Writing.is_past` says |
 //! | [`Dom::insert_before`], [`Dom::replace`], [`Dom::remove`] | `Tree.inserted`, `Tree.replaced`, `Tree.taken_out` |
 //! | the codes of refusals and their order | `Tree.insert_code`, `Tree.replace_code`, `Tree.remove_code`; what bars a node, `Tree.is_barred` |
@@ -25,7 +27,7 @@
 //! Laws stand in `Laws`, each the contract of a function: parent and children agree
 //! ([`Dom::parents_and_children_agree`]), no node is its own ancestor ([`Dom::has_no_cycle`]), and what is put before a
 //! place is read before it ([`puts_are_read`]), and other lists stay but where the node left ([`puts_leave_others`]); a
-//! number never comes again ([`numbers_are_new`]).
+//! number never comes again ([`numbers_are_new`]); steps go in document order ([`Dom::steps_go_in_order`]).
 //!
 //! A layer above may rest on this: a refused call changes nothing; a node that was taken out keeps its number and its
 //! children; a number that is no node's has no parent, no children and no siblings.
@@ -40,6 +42,7 @@ mod lists;
 mod names;
 mod opening;
 mod order;
+mod reading;
 #[cfg(test)]
 mod tests;
 mod walks;
@@ -50,3 +53,5 @@ pub use creation::{DomRefused, INVALID_CHARACTER, is_element_name};
 pub use dom::{Dom, HIERARCHY_REQUEST, NOT_FOUND};
 pub use laws::{numbers_are_new, puts_are_read, puts_leave_others};
 pub use names::{is_small, small_unit};
+pub use order::{Step, is_end};
+pub use reading::TextRefused;

@@ -1,6 +1,6 @@
 ghost use Rattle.std.specs.Prelude.{◌≡◌, ◌+◌, length};
 ghost use Rattle.rip_dom.specs.Order.{element_of_id, has_id, is_value};
-ghost use Rattle.rip_dom.specs.Way.{Grows, behind, entered, found_at, is_end, step};
+ghost use Rattle.rip_dom.specs.Way.{Grows, StepsGoInOrder, behind, entered, found_at, is_end, step};
 
 use crate::dom::Dom;
 use crate::kinds::is_element;
@@ -9,9 +9,9 @@ use rip_values::{Pool, Span};
 /// The name of the attribute by which an element is found.
 const ID: [u16; 2] = [105, 100];
 
-/// A step of the way through a document: a node is entered before its children, and left behind them.
+/// A step of the way through a document by links: a node is entered before its children, and left behind them.
 #[derive(Clone, Copy, Debug)]
-pub(crate) enum Step {
+pub enum Step {
     Enter(u32),
     Leave(u32),
     End,
@@ -53,11 +53,18 @@ impl Dom {
         }
     }
 
-    // More steps than the way through all nodes has.
-    pub(crate) fn steps(&self) -> u64
+    /// As many steps as go through all nodes and to the end of the way.
+    pub fn steps(&self) -> u64
         ensures { result ≡ length self.now.nodes + length self.now.nodes }
     {
         2 * u64::from(self.made())
+    }
+
+    /// The steps from the entrance of a node on enter it and all that is below it, in document order.
+    pub fn steps_go_in_order(&self)
+        ensures { StepsGoInOrder self.now }
+    {
+        self.grows();
     }
 
     // The way through the document comes to an end.
@@ -67,8 +74,8 @@ impl Dom {
         self.children.are_listed();
     }
 
-    // The step after this one, on the way through all that is below the root.
-    pub(crate) fn step(&self, root: u32, at: Step) -> Step
+    /// The step after this one, on the way through the root and all that is below it.
+    pub fn step(&self, root: u32, at: Step) -> Step
         ensures { result ≡ step self.now root at }
     {
         match at {
@@ -91,7 +98,8 @@ impl Dom {
     }
 }
 
-fn is_end(at: Step) -> bool
+/// Whether the way is at its end.
+pub fn is_end(at: Step) -> bool
     ensures { result ≡ is_end at }
 {
     match at {

@@ -1,4 +1,4 @@
-use Rattle.std.proofs.Common.{◌<◌, ◌∙◌, arith}
+use Rattle.std.proofs.Common.{arith}
 use Rattle.rip_dom.proofs.DomLemmas.{older-not-above}
 use Rattle.rip_dom.proofs.WritingLemmas.{filled-is}
 use Rattle.rip_dom.proofs.dom.Dom.fill.Goals as goal

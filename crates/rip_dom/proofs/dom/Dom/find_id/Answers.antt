@@ -1,6 +1,7 @@
 use Rattle.std.proofs.Common.{◌-◌, ◌+◌, ◌∙◌, sym, ap, find}
 use Rattle.rip_dom.specs.Order.{has_id}
-use Rattle.rip_dom.proofs.OrderLemmas.{way_on, find-first, find-found, find-more, find-end, find-over}
+use Rattle.rip_dom.specs.Way.{way_on}
+use Rattle.rip_dom.proofs.OrderLemmas.{find-first, find-found, find-more, find-end, find-over}
 use Rattle.rip_dom.proofs.dom.Dom.find_id.Goals as goal
 
 pub loop-i-init : goal.loop-i-init

@@ -1,6 +1,6 @@
 use Rattle.std.proofs.Common.{◌≡◌, ◌-◌, ◌+◌, length, find}
 use Rattle.rip_dom.specs.Order.{element_of_id, has_id}
-use Rattle.rip_dom.proofs.OrderLemmas.{way_on}
+use Rattle.rip_dom.specs.Way.{way_on}
 use Rattle.rip_dom.proofs.dom.Dom.find_id.Given as goal
 
 abbrev pub invariant-loop-i : goal.invariant-loop-i

@@ -1,4 +1,4 @@
-use Rattle.std.proofs.Common.{◌≡◌, ◌-◌, Some, length}
+use Rattle.std.proofs.Common.{◌≡◌, ◌-◌, length}
 use Rattle.rip_dom.specs.Tree.{way_up, is_above}
 use Rattle.rip_dom.proofs.WalkLemmas.{meets}
 use Rattle.rip_dom.proofs.dom.Dom.is_above.Given as goal

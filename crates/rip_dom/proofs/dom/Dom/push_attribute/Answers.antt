@@ -1,5 +1,5 @@
-use Rattle.std.proofs.Common.{◌≡◌, ◌<◌, ◌+◌, ◌∙◌, length, None, sym, ap, subst, arith, rules}
-use Rattle.rip_dom.specs.Lists.{Lists, owner_at}
+use Rattle.std.proofs.Common.{◌≡◌, ◌<◌, length, sym, subst, rules}
+use Rattle.rip_dom.specs.Lists.{Lists}
 use Rattle.rip_dom.proofs.TreeLemmas.{fits}
 use Rattle.rip_dom.proofs.DomLemmas.{made-below, attribute-pushed}
 use Rattle.rip_dom.proofs.dom.Dom.push_attribute.Goals as goal

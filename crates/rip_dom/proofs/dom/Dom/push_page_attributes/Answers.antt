@@ -1,4 +1,4 @@
-use Rattle.std.proofs.Common.{◌≡◌, ◌+◌, ◌<◌, ◌∙◌, sym, ap, subst, length, List, ℕ}
+use Rattle.std.proofs.Common.{◌+◌, ◌<◌, ◌∙◌, sym, ap, subst, length, List, ℕ}
 use Rattle.rip_values.specs.Pool.{span_behind, with_text}
 use Rattle.rip_dom.proofs.OpeningLemmas.{attribute-done, ok-err}
 use Rattle.rip_dom.proofs.dom.Dom.push_page_attributes.Goals as goal

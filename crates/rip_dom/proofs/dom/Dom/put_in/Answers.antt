@@ -1,9 +1,8 @@
-use Rattle.std.proofs.Common.{◌≡◌, ◌<◌, ◌∙◌, ap, sym, subst, length, None, Some, true, false, length-set}
+use Rattle.std.proofs.Common.{◌≡◌, ◌<◌, sym, subst, length, None, Some, true, false}
 use Rattle.std.specs.Prelude.{IfSome}
-use Rattle.std.proofs.lemmas.List.{length-map}
-use Rattle.rip_dom.specs.Lists.{Lists, owner_at, without}
+use Rattle.rip_dom.specs.Lists.{Lists, owner_at}
 use Rattle.rip_dom.specs.Tree.{Tree, is_child, is_above}
-use Rattle.rip_dom.proofs.TreeLemmas.{fits, fits-without, with_item_in, free, place-stands}
+use Rattle.rip_dom.proofs.TreeLemmas.{fits, fits-without, free, place-stands}
 use Rattle.rip_dom.proofs.DomLemmas.{made-below, document-with, into-tree}
 use Rattle.rip_dom.proofs.dom.Dom.put_in.Goals as goal
 

@@ -1,6 +1,6 @@
 use Rattle.rip_dom.proofs.DomLemmas.{not-barred}
-use Rattle.std.proofs.Common.{◌≡◌, ◌<◌, length, Some, sym, ◌∙◌, subst}
-use Rattle.rip_dom.specs.Tree.{Tree, put_in}
+use Rattle.std.proofs.Common.{◌<◌, length, Some, sym, ◌∙◌, subst}
+use Rattle.rip_dom.specs.Tree.{Tree}
 use Rattle.rip_dom.proofs.TreeLemmas.{length-put_in}
 use Rattle.rip_dom.proofs.dom.Dom.replace.Goals as goal
 

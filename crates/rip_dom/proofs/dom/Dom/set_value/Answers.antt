@@ -1,4 +1,4 @@
-use Rattle.std.proofs.Common.{sym, length, length-set, ◌≡◌, ◌∙◌, ap}
+use Rattle.std.proofs.Common.{sym, length, length-set, ◌∙◌, ap}
 use Rattle.rip_dom.specs.Document.{pair_at}
 use Rattle.rip_dom.proofs.TreeLemmas.{fits}
 use Rattle.rip_dom.proofs.AttributeLemmas.{document-valued, found-below, value-set, value-there, value-not-there}

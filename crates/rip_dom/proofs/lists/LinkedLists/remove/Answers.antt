@@ -1,5 +1,5 @@
 use Rattle.std.proofs.Common.{◌∙◌}
-use Rattle.rip_dom.proofs.Calls.{item-removed, item-not-removed, owner-list, owned-item, item-front, item-behind, same-view}
+use Rattle.rip_dom.proofs.Calls.{item-removed, item-not-removed, owner-list, item-front, item-behind, same-view}
 use Rattle.rip_dom.proofs.lists.LinkedLists.remove.Goals as goal
 
 pub join-requires-clause-list : goal.join-requires-clause-list
