@@ -1,13 +1,12 @@
 -- The first of some numbers for which a test is true, and the chains of listeners.
-use Rattle.std.proofs.Common.{◌≡◌, ◌≢◌, ℕ, zero, suc, ◌+◌, ◌-◌, ◌<◌, ◌≤◌, ◌⊎◌, inl, inr, Bool, true, false, cond, ◌==◌, List, [], ◌∷◌, ◌++◌, length, get_or, set, Option, None, Some, refl, sym, ap, ap₂, ◌∙◌, subst, arith, length-set, get_or-set_same, get_or-set_other}
-use Rattle.std.specs.Prelude.{slice_index_or, slice_set, IfSome}
-use Rattle.std.proofs.lemmas.Bool.{cond-true, cond-false, cases_Bool, cases_eq, cases_lt, both_ways, eq-eqb, ne_eqb, eqb-true, eqb-false}
+use Rattle.std.proofs.Common.{◌≡◌, ℕ, zero, suc, ◌+◌, ◌-◌, ◌<◌, ◌≤◌, ◌⊎◌, inl, inr, Bool, true, false, cond, List, [], ◌∷◌, ◌++◌, length, get_or, Option, None, Some, refl, sym, ap, ap₂, ◌∙◌, subst, arith}
+use Rattle.std.proofs.lemmas.Bool.{cond-true, cond-false, cases_Bool, cases_eq, cases_lt, ne_eqb, eqb-true}
 use Rattle.std.proofs.lemmas.Option.{none-some, same_Some}
 use Rattle.std.proofs.lemmas.List.{get_or_append_left, get_or_push, get_or_past, length_push}
 use Rattle.rip_events.specs.declared.listener.Listener.{Listener}
 use Rattle.rip_events.specs.declared.listeners.Ends.{Ends}
-use Rattle.rip_events.specs.Listed.{listener_at, no_listener, first_number}
-use Rattle.rip_events.specs.Chained.{no_ends, ends_at, ends_with, or_this, link_at, with_link, is_on, first_on, AreSameEnds, IsChained}
+use Rattle.rip_events.specs.Listed.{listener_at, first_number}
+use Rattle.rip_events.specs.Chained.{no_ends, ends_at, or_this, is_on, first_on, AreSameEnds}
 
 one-left : (e n : ℕ) → n < e → e - n ≡ suc (e - suc n)
 one-left e n h = omega (arith, h)
@@ -32,10 +31,15 @@ abbrev pub rest : ℕ → (ℕ → Bool) → Option ℕ → Option ℕ
 rest e Q None = None
 rest e Q (Some n) = first_number (e - n) n Q
 
--- numbers at which a weaker test fails can be left out
-pub skip : (j n e : ℕ) (Q On : ℕ → Bool) → ((m : ℕ) → On m ≡ false → Q m ≡ false) → e ≤ n + j → rest e Q (first_number j n On) ≡ first_number (e - n) n Q
-skip zero n e Q On f h = sym (beyond e n Q (omega (arith, h)))
-skip (suc j) n e Q On f h = by (cases_Bool (On n)) (skip j (suc n) e Q On f (omega (arith, h)))
+-- where none passes from a number on, none is found
+pub none-from : (k n : ℕ) (Q : ℕ → Bool) → ((m : ℕ) → n ≤ m → Q m ≡ false) → first_number k n Q ≡ None
+none-from zero n Q f = refl
+none-from (suc k) n Q f = cond-false (Q n) (Some n) (first_number k (suc n) Q) (f n (omega arith)) ∙ none-from k (suc n) Q (λ m h. f m (omega (arith, h)))
+
+-- numbers at which a weaker test fails can be left out, and so can those behind which none passes
+pub skip : (j n e : ℕ) (Q On : ℕ → Bool) → ((m : ℕ) → On m ≡ false → Q m ≡ false) → ((m : ℕ) → n + j ≤ m → Q m ≡ false) → rest e Q (first_number j n On) ≡ first_number (e - n) n Q
+skip zero n e Q On f g = sym (none-from (e - n) n Q (λ m h. g m (omega (arith, h))))
+skip (suc j) n e Q On f g = by (cases_Bool (On n)) (skip j (suc n) e Q On f (λ m h. g m (omega (arith, h))))
   where
     by : (On n ≡ true) ⊎ (On n ≡ false) → rest e Q (first_number j (suc n) On) ≡ first_number (e - suc n) (suc n) Q → rest e Q (first_number (suc j) n On) ≡ first_number (e - n) n Q
     by (inl t) on = ap (rest e Q) (cond-true (On n) (Some n) (first_number j (suc n) On) t)

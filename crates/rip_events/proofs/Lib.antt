@@ -1,5 +1,6 @@
 mod Chains
 mod Climbs
 mod Finds
+mod LawLemmas
 mod Pushed
 mod Steps

@@ -1,5 +1,6 @@
-ghost use Rattle.std.specs.Prelude.{◌≡◌, ◌<◌, IfSome, length, drop};
-ghost use Rattle.rip_events.specs.Flow.{at_hand, is_capturing, lesser, called_at, call_at, next_here, next_ahead, next_call};
+ghost use Rattle.std.specs.Prelude.{◌≡◌, ◌<◌, IfSome, length};
+ghost use Rattle.rip_events.specs.Flow.{is_capturing, called_at, called_here, call_at, next_call};
+ghost use Rattle.rip_events.specs.Reached.{last_of, IsArrival};
 
 use crate::cursor::Cursor;
 use crate::listener::Wanted;
@@ -24,7 +25,7 @@ impl Cursor {
             None => {}
         }
         if !stopped {
-            match self.next_ahead(heap.pool(), all) {
+            match arrival(&self.stations, self.reached, heap.pool(), self.kind, all) {
                 Some((i, station, n)) => {
                     self.reached = i + 1;
                     self.next = n + 1;
@@ -34,46 +35,54 @@ impl Cursor {
                 None => {}
             }
         }
-        self.reached = self.stations.len();
+        self.stations.clear();
+        self.reached = 0;
         self.next = 0;
         self.mark = 0;
         None
     }
 
     fn next_here(&self, pool: &Pool, all: &Listeners) -> Option<(Station, u32)>
-        ensures next { result ≡ next_here pool.now all.now self.now }
+        ensures next { result ≡ called_here pool.now self.now.kind all.now self.now.next self.now.mark
+            self.now.here }
         ensures within { IfSome result (λ r. r.1 < length all.now.registered) }
     {
-        let station = self.at_hand()?;
+        let station = last_of(&self.stations, self.reached)?;
         let n = called_at(pool, self.kind, all, self.next, self.mark, station)?;
         Some((station, n))
     }
+}
 
-    fn at_hand(&self) -> Option<Station>
-        ensures { result ≡ at_hand self.now }
-    {
-        if self.reached == 0 {
-            return None;
-        }
-        self.stations.get(self.reached - 1).copied()
+// The last of the stations that were reached.
+fn last_of(stations: &Vec<Station>, reached: usize) -> Option<Station>
+    ensures { result ≡ last_of stations.now.items reached }
+{
+    if reached == 0 {
+        return None;
     }
+    stations.get(reached - 1).copied()
+}
 
-    fn next_ahead(&self, pool: &Pool, all: &Listeners) -> Option<(usize, Station, u32)>
-        ensures next { result ≡ next_ahead pool.now self.now.kind all.now self.now.reached
-            (drop self.now.reached self.now.stations) }
-        ensures within { IfSome result (λ r. r.2 < length all.now.registered) }
-        ensures ahead { IfSome result (λ r. r.0 < length self.now.stations) }
-    {
-        let count = all.count();
-        for i in self.reached..self.stations.len() {
-            let station = self.stations[i];
-            match called_at(pool, self.kind, all, 0, count, station) {
-                Some(n) => return Some((i, station, n)),
-                None => {}
-            }
+// The first station from this place on at which a listener is called, its place, and the listener.
+fn arrival(
+    stations: &Vec<Station>,
+    from: usize,
+    pool: &Pool,
+    kind: Span,
+    all: &Listeners,
+) -> Option<(usize, Station, u32)>
+    ensures next { IsArrival pool.now kind all.now stations.now.items from result }
+    ensures within { IfSome result (λ r. r.2 < length all.now.registered) }
+{
+    let count = all.count();
+    for i in from..stations.len() {
+        let station = stations[i];
+        match called_at(pool, kind, all, 0, count, station) {
+            Some(n) => return Some((i, station, n)),
+            None => {}
         }
-        None
     }
+    None
 }
 
 fn call_at(all: &Listeners, station: Station, n: u32) -> Place
@@ -83,6 +92,7 @@ fn call_at(all: &Listeners, station: Station, n: u32) -> Place
         node: station.node,
         phase: station.phase,
         function: all.function(n),
+        listener: n,
     }
 }
 
@@ -104,13 +114,7 @@ fn called_at(
         function: None,
         capture: is_capturing(station.phase),
     };
-    all.first_between(pool, wanted, from, lesser(until, all.count()))
-}
-
-fn lesser(a: u32, b: u32) -> u32
-    ensures { result ≡ lesser a b }
-{
-    if a <= b { a } else { b }
+    all.first_between(pool, wanted, from, until)
 }
 
 fn is_capturing(phase: Phase) -> bool

@@ -1,4 +1,4 @@
-ghost use Rattle.std.specs.Prelude.{◌≡◌, ◌+◌, ◌-◌, ◌<◌, ◌≤◌, ◌++◌, [], IfOk, IfSome, length, drop, slice_get, vec_capacity};
+ghost use Rattle.std.specs.Prelude.{◌≡◌, ◌+◌, ◌≤◌, ◌++◌, [], IfOk, length, vec_capacity};
 ghost use Rattle.rip_events.specs.Flow.{above, in_phase, begun};
 
 use crate::station::{Phase, Station};
@@ -8,7 +8,7 @@ use std::alloc::Global;
 use std::marker::Model;
 
 /// The flow of one event at a time. The room for the longest is taken at once, so that no call but the maker takes
-/// memory.
+/// memory. Of its stations so many were reached, of which the last is at hand.
 #[derive(Debug, Drop)]
 pub struct Cursor {
     pub(crate) nodes: u32,
@@ -20,16 +20,17 @@ pub struct Cursor {
 }
 
 impl Model for Cursor {
-    ghost use Rattle.std.specs.Prelude.{◌+◌, ◌≤◌, length, vec_capacity};
+    ghost use Rattle.std.specs.Prelude.{◌+◌, ◌≤◌, length, drop, vec_capacity};
     ghost use Rattle.rip_events.specs.Flow.{Course};
+    ghost use Rattle.rip_events.specs.Reached.{last_of};
 
     ghost Value = { Course };
 
     ghost view = { λ c. record {
       nodes = c.nodes;
       kind = c.kind;
-      stations = c.stations.items;
-      reached = c.reached;
+      here = last_of c.stations.items c.reached;
+      ahead = drop c.reached c.stations.items;
       next = c.next;
       mark = c.mark;
     } };
@@ -44,8 +45,8 @@ impl Cursor {
         ensures { IfOk result (λ c. c ≡ record {
           nodes = nodes;
           kind = record { start = 0; count = 0 };
-          stations = [];
-          reached = 0;
+          here = None;
+          ahead = [];
           next = 0;
           mark = 0;
         }) }

@@ -10,9 +10,17 @@
 //! | [`Listeners::add`] | `Listed.registered`, which is charged as `Listed.cost_of_listener`; `Listed.Registers` says what each answer leaves |
 //! | [`Listeners::remove`] | `Listed.without_listener` of the one that is `Listed.found` |
 //! | [`Listeners::first_between`] | `Listed.first_between`, the first that stands and is wanted |
-//! | [`Cursor`] | contracts see `Flow.Course`, a flow under way |
+//! | [`Phase`], [`Phase::number`] | `Flow.number_of` |
+//! | [`Cursor`] | contracts see `Flow.Course`, a flow under way: the station at hand, and those ahead |
 //! | [`Cursor::begin`] | `Flow.begun`, along `Flow.stations` |
-//! | [`Cursor::next`] | `Flow.next_call` |
+//! | [`Cursor::next`] | `Flow.next_call`, for whatever listeners are there then |
+//!
+//! Laws of whole flows stand in `Laws`, over `Laws.calls_of`: all calls of a flow, whatever is done to the listeners
+//! between two of them. Each is the contract of a function: the calls come in the order of the stations and at each in
+//! that of registration, so that a listener is called at most once at a station ([`calls_are_in_order`]), and their
+//! phases in the order 1, 2, 3 ([`phases_are_in_order`]); what is called stands ([`removed_are_not_called`]), and was
+//! registered before its station was reached ([`added_are_not_called`]); a flow that was stopped calls nothing behind
+//! the station at hand ([`stopped_go_no_further`]).
 //!
 //! A layer above may rest on this: `next` is the next call of the flow whatever was done to the document and to the
 //! listeners since the last one; no call but the makers takes memory; a station costs the listeners of its node.
@@ -20,11 +28,18 @@
 
 mod calls;
 mod cursor;
+mod laws;
 mod listener;
 mod listeners;
 mod station;
+#[cfg(test)]
+mod tests;
 
 pub use cursor::Cursor;
+pub use laws::{
+    added_are_not_called, calls_are_in_order, phases_are_in_order, removed_are_not_called,
+    stopped_go_no_further,
+};
 pub use listener::{Listener, Wanted};
 pub use listeners::Listeners;
 pub use station::{Phase, Place, Station};

@@ -1,4 +1,5 @@
 ghost use Rattle.std.specs.Prelude.{◌≡◌, ◌+◌, ◌<◌, ◌≤◌, ◌↔◌, [], IfOk, IfSome, IsTrue, length, slice_set, vec_capacity};
+ghost use Rattle.rip_heap.specs.Growth.{Grows};
 ghost use Rattle.rip_events.specs.Listed.{fits, found, first_between, registered, same_as, with_listener, without_listener, listener_at, stands_at, HasRoom, Registers};
 ghost use Rattle.rip_events.specs.Chained.{ends_at, ends_with, link_at, with_link, first_on, AreSameEnds};
 
@@ -68,7 +69,8 @@ impl Listeners {
 
     /// How many listeners were ever registered.
     pub fn count(&self) -> u32
-        ensures { result ≡ length self.now.registered }
+        ensures registered { result ≡ length self.now.registered }
+        ensures standing { result ≡ length self.now.standing }
     {
         self.registered.len() as u32
     }
@@ -83,8 +85,8 @@ impl Listeners {
     /// The first listener that stands and is wanted, from the one number up to the other, without this one. It takes
     /// time in proportion to the listeners of the node where `from` is 0 or comes behind one of them.
     pub fn first_between(&self, pool: &Pool, wanted: Wanted, from: u32, until: u32) -> Option<u32>
-        requires { until ≤ length self.now.registered }
-        ensures { result ≡ first_between pool.now wanted from until self.now }
+        ensures first { result ≡ first_between pool.now wanted from until self.now }
+        ensures within { IfSome result (λ n. n < length self.now.registered) }
     {
         let mut at = self.first_on(wanted.node, from);
         for _i in 0..self.count() {
@@ -116,6 +118,7 @@ impl Listeners {
         ensures registers { Registers
             (registered (found heap.old.pool (same_as listener) self.old) listener self.old heap.old)
             listener.node self.old heap.old result self.new heap.new }
+        ensures grows { Grows heap.old heap.new }
     {
         if self.found(heap.pool(), listener).is_some() {
             return Ok(());

@@ -1,5 +1,5 @@
-use Rattle.std.proofs.Common.{◌≡◌, length, ◌-◌, ◌<◌, ◌≤◌, ℕ, Some}
-use Rattle.rip_events.specs.Listed.{first_between, listener_at, fits}
+use Rattle.std.proofs.Common.{◌≡◌, length}
+use Rattle.rip_events.specs.Listed.{first_between, fits}
 use Rattle.rip_events.proofs.Chains.{rest, IsAhead}
 use Rattle.rip_events.proofs.listeners.Listeners.first_between.Given as goal
 

@@ -1,0 +1,90 @@
+-- Laws of flows, in words that no step uses: what the calls of a whole flow are, whatever is done to the document and to
+-- the listeners between them.
+use Rattle.std.specs.Prelude.{◌≡◌, ℕ, ◌<◌, ◌≤◌, ◌⊎◌, Bool, true, Option, None, Some, List, [], ◌∷◌, length, All, AllPairs}
+use Rattle.rip_values.specs.declared.value.Span.{Span}
+use Rattle.rip_values.specs.Pool.{Texts}
+use Rattle.rip_dom.specs.Tree.{Tree}
+use Rattle.rip_events.specs.declared.station.Station.{Station}
+use Rattle.rip_events.specs.declared.station.Place.{Place}
+use Rattle.rip_events.specs.Listed.{Listed, listener_at, stands_at, is_wanted}
+use Rattle.rip_events.specs.Flow.{Course, begun, next_call, wanted_at, number_of}
+
+-- what a flow finds where it goes on: the texts, the listeners, and whether it was stopped
+pub record Moment : Type 0 where
+  pub pool : Texts
+  pub listeners : Listed
+  pub stopped : Bool
+
+-- a call that a flow made, where it went on at this moment; and how many stations were ahead of it then, which tells
+-- the stations of a flow apart
+pub record Called : Type 0 where
+  pub at : Moment
+  pub call : Place
+  pub ahead : ℕ
+
+abbrev pub with_call : Moment → Option Place → Course → List Called → List Called
+with_call m None c calls = calls
+with_call m (Some p) c calls = record { at = m; call = p; ahead = length c.ahead } ∷ calls
+
+abbrev pub go_on : Moment → Course → Option Place × Course
+go_on m c = next_call m.pool m.listeners m.stopped c
+
+-- the calls of a flow that goes on at each of these moments
+abbrev pub calls_of : Course → List Moment → List Called
+calls_of c [] = []
+calls_of c (m ∷ ms) = with_call m (go_on m c).0 (go_on m c).1 (calls_of (go_on m c).1 ms)
+
+abbrev pub station_of : Place → Station
+station_of p = record { node = p.node; phase = p.phase }
+
+-- the one call is of an earlier station than the other, or of an earlier listener at the same one
+abbrev pub IsBefore : Called → Called → Type 0
+IsBefore x y =
+    (y.ahead < x.ahead)
+    ⊎ ((y.ahead ≡ x.ahead) × (station_of x.call ≡ station_of y.call) × (x.call.listener < y.call.listener))
+
+-- the stations come in their order, and at each its listeners in the order of registration: so each listener is called
+-- at most once at a station
+abbrev pub CallsAreInOrder : Type 0
+CallsAreInOrder =
+    (t : Tree) (kind : Span) (target : ℕ) (bubbles : Bool) (c : Course) (ms : List Moment)
+    → AllPairs IsBefore (calls_of (begun t kind target bubbles c) ms)
+
+-- the phases come in their order: 1, 2, 3
+abbrev pub PhasesAreInOrder : Type 0
+PhasesAreInOrder =
+    (t : Tree) (kind : Span) (target : ℕ) (bubbles : Bool) (c : Course) (ms : List Moment)
+    → AllPairs (λ (x y : Called). number_of x.call.phase ≤ number_of y.call.phase) (calls_of (begun t kind target bubbles c) ms)
+
+-- the listener that is called stands when it is called, and it is one of the node, the phase and the type; its function
+-- is the one that is called
+pub record Stands (kind : Span) (x : Called) : Type 0 where
+  pub stands : stands_at x.at.listeners.standing x.call.listener ≡ true
+  pub wanted : is_wanted x.at.pool (wanted_at kind (station_of x.call)) (listener_at x.at.listeners.registered x.call.listener) ≡ true
+  pub function : x.call.function ≡ (listener_at x.at.listeners.registered x.call.listener).function
+
+-- a listener that was removed before its turn is not called
+abbrev pub RemovedAreNotCalled : Type 0
+RemovedAreNotCalled =
+    (t : Tree) (kind : Span) (target : ℕ) (bubbles : Bool) (c : Course) (ms : List Moment)
+    → All (Stands kind) (calls_of (begun t kind target bubbles c) ms)
+
+abbrev pub registrations : Moment → ℕ
+registrations m = length m.listeners.registered
+
+-- of two calls at one station the later one is of a listener that was registered before the earlier one
+abbrev pub IsOld : Called → Called → Type 0
+IsOld x y = y.ahead ≡ x.ahead → y.call.listener < registrations x.at
+
+-- a listener that is registered while a flow is at a station is not called at this visit of the station
+abbrev pub AddedAreNotCalled : Type 0
+AddedAreNotCalled =
+    (t : Tree) (kind : Span) (target : ℕ) (bubbles : Bool) (c : Course) (ms : List Moment)
+    → AllPairs (λ (m n : Moment). registrations m ≤ registrations n) ms
+    → AllPairs IsOld (calls_of (begun t kind target bubbles c) ms)
+
+-- a flow under way that was stopped goes on at the station at hand alone
+abbrev pub StoppedGoNoFurther : Type 0
+StoppedGoNoFurther =
+    (c : Course) (ms : List Moment) → All (λ (m : Moment). m.stopped ≡ true) ms
+    → All (λ (x : Called). Some (station_of x.call) ≡ c.here) (calls_of c ms)
