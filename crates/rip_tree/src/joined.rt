@@ -1,4 +1,4 @@
-ghost use Rattle.std.specs.Prelude.{◌≡◌, ◌<◌, length, Some, IfOk, OnOk};
+ghost use Rattle.std.specs.Prelude.{◌≡◌, ◌<◌, length, Some, IfOk, IfSome, OnOk};
 ghost use Rattle.rip_tree.specs.Branches.{child_of, node_of, units_at};
 ghost use Rattle.rip_tree.specs.Program.{joined, root_of, with_tree};
 ghost use Rattle.rip_tree.specs.Joining.{grove_of, IsJoined};
@@ -96,7 +96,8 @@ impl Joined {
 
     pub fn child(&self, id: u32, place: u32) -> Option<u32>
         requires { IsJoined self.now }
-        ensures { result ≡ child_of (grove_of self.now).branches id place }
+        ensures child { result ≡ child_of (grove_of self.now).branches id place }
+        ensures above { IfSome result (λ c. (id < c) × (c < length (grove_of self.now).branches)) }
     {
         if id as usize >= self.rows.len() {
             return None;

@@ -1,4 +1,4 @@
-ghost use Rattle.std.specs.Prelude.{◌≡◌, ◌<◌, length, Some, IfOk, option_map, slice_get};
+ghost use Rattle.std.specs.Prelude.{◌≡◌, ◌<◌, length, Some, IfOk, IfSome, option_map, slice_get};
 ghost use Rattle.rip_tree.specs.Branches.{child_of, node_of, units_at};
 ghost use Rattle.rip_tree.specs.Program.{joined, root_of, scoping_of, vars_of};
 
@@ -101,7 +101,8 @@ impl Program {
 
     /// The number of the node's child at this place, from 0, or none where it has no child there.
     pub fn child(&self, id: u32, place: u32) -> Option<u32>
-        ensures { result ≡ child_of self.now.grove.branches id place }
+        ensures child { result ≡ child_of self.now.grove.branches id place }
+        ensures above { IfSome result (λ c. (id < c) × (c < length self.now.grove.branches)) }
     {
         self.trees.child(id, place)
     }
