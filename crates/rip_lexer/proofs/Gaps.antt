@@ -146,7 +146,7 @@ one_gap (p ∷ gap) (q ∷ other) rest more e a b none none' =
     let heads = below.0 in
     ((λ i. same i ∷ heads i), below.1)
 
-length_part : (part : Part) (rest : List ℕ) → length (part_text part rest) ≡ part_count part + length rest
+pub length_part : (part : Part) (rest : List ℕ) → length (part_text part rest) ≡ part_count part + length rest
 length_part (Blank c) rest = omega arith
 length_part (LineComment body) rest = omega (arith, length-append body rest)
 length_part (BlockComment body) rest = omega (arith, length-append body (42 ∷ 47 ∷ rest))
@@ -154,7 +154,7 @@ length_part (BlockComment body) rest = omega (arith, length-append body (42 ∷ 
 pub no_gap : (rest : List ℕ) → ReadsGap rest 0 false rest
 no_gap rest = record { gap = []; splits = refl; is_gap = tt; count-is = refl; line-is = refl }
 
-more_gap : (units : List ℕ) (part : Part) (count : ℕ) (line : Bool) (end : List ℕ) → Stands units part → ReadsGap (drop (part_count part) units) count line end → ReadsGap units (part_count part + count) (line_in part || line) end
+pub more_gap : (units : List ℕ) (part : Part) (count : ℕ) (line : Bool) (end : List ℕ) → Stands units part → ReadsGap (drop (part_count part) units) count line end → ReadsGap units (part_count part + count) (line_in part || line) end
 more_gap units part count line end stands below =
     let rest-is : stands.rest ≡ gap_text below.gap end = stands.rest-is ∙ below.splits in
     record {

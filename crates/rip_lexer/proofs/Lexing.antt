@@ -24,7 +24,7 @@ use Rattle.rip_lexer.proofs.Unique.{one_reading}
 abbrev pub Goes : List ℕ → ℕ → List ℕ → List Token → Type 0
 Goes text place rest tokens = (more : List Token) (outcome : Outcome) → Lexes place rest more outcome → Lexes 0 text (tokens ++ more) outcome
 
-ends_at : (place count : ℕ) (rest behind : List ℕ) (line : Bool) (outcome : Outcome) → ReadsGap rest count line behind → IsEnd (place + count) behind outcome → Ends place rest outcome
+pub ends_at : (place count : ℕ) (rest behind : List ℕ) (line : Bool) (outcome : Outcome) → ReadsGap rest count line behind → IsEnd (place + count) behind outcome → Ends place rest outcome
 ends_at place count rest behind line outcome gap end = record {
   gap = gap.gap;
   rest = behind;
@@ -47,25 +47,28 @@ token_fits behind kind n it =
     let long = ap length it.2 in
     (omega (arith, it.5), omega (arith, it.5, length-append it.0 it.1))
 
+-- the token that was read, behind its gap
+pub token_leads : (rest : List ℕ) (place count : ℕ) (line : Bool) (behind : List ℕ) (kind : TokenKind) (n : ℕ) → ReadsGap rest count line behind → (it : IsConstruct behind (C.Token kind n)) → Leads place rest (record { kind = kind; start = place + count; count = n; line_before = line }) it.1
+token_leads rest place count line behind kind n gap it = record {
+  gap = gap.gap;
+  spelling = it.0;
+  splits = gap.splits ∙ ap (λ u. gap_text gap.gap u) it.2;
+  is_gap = subst (λ u. IsGap gap.gap u) it.2 gap.is_gap;
+  begins_token = it.3;
+  no_fault = it.4;
+  start = ap (λ m. place + m) gap.count-is;
+  count = it.5;
+  line_before = gap.line-is;
+}
+
 pub token_read : (text rest : List ℕ) (place count : ℕ) (line : Bool) (behind : List ℕ) (tokens : List Token) (kind : TokenKind) (n : ℕ) → Goes text place rest tokens → ReadsGap rest count line behind → IsConstruct behind (C.Token kind n) → Goes text (place + count + n) (drop n behind) (tokens ++ (record { kind = kind; start = place + count; count = n; line_before = line } ∷ []))
 token_read text rest place count line behind tokens kind n goes gap it more outcome lexes =
     let t : Token = record { kind = kind; start = place + count; count = n; line_before = line } in
     let spelling = it.0 in
     let after = it.1 in
     let tail : drop n behind ≡ after = ap (drop n) it.2 ∙ drop_at spelling after n (sym it.5) in
-    let leads : Leads place rest t after = record {
-      gap = gap.gap;
-      spelling = spelling;
-      splits = gap.splits ∙ ap (λ u. gap_text gap.gap u) it.2;
-      is_gap = subst (λ u. IsGap gap.gap u) it.2 gap.is_gap;
-      begins_token = it.3;
-      no_fault = it.4;
-      start = ap (λ m. place + m) gap.count-is;
-      count = it.5;
-      line_before = gap.line-is;
-    } in
     subst (λ ts. Lexes 0 text ts outcome) (sym (append_assoc tokens (t ∷ []) more))
-    (goes (t ∷ more) outcome (after, leads, subst (λ u. Lexes (place + count + n) u more outcome) tail lexes))
+    (goes (t ∷ more) outcome (after, token_leads rest place count line behind kind n gap it, subst (λ u. Lexes (place + count + n) u more outcome) tail lexes))
 
 -- a turn of the loop over constructs
 pub token_goes_on : (text rest : List ℕ) (place count : ℕ) (line : Bool) (behind after : List ℕ) (tokens next : List Token) (kind : TokenKind) (n : ℕ) → Goes text place rest tokens → ReadsGap rest count line behind → IsConstruct behind (C.Token kind n) → after ≡ drop n behind → next ≡ tokens ++ (record { kind = kind; start = place + count; count = n; line_before = line } ∷ []) → Goes text (place + count + n) after next

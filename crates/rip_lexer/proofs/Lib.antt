@@ -1,6 +1,7 @@
 pub mod Choice
 pub mod Classes
 pub mod Constructs
+pub mod Existing
 pub mod Gaps
 pub mod Lexing
 pub mod Longest

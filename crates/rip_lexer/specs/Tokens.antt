@@ -131,6 +131,10 @@ HaveOneList = (text : List ℕ) (tokens others : List Token) → IsTokens text t
 abbrev pub HaveOneRefusal : Type 0
 HaveOneRefusal = (text : List ℕ) (place other : ℕ) (cause why : LexKind) → IsFirstRefusal text place cause → IsFirstRefusal text other why → (place ≡ other) × (cause ≡ why)
 
+-- each script has a list of tokens or a first refusal
+abbrev pub HaveAReading : Type 0
+HaveAReading = (text : List ℕ) → ((tokens : List Token) × IsTokens text tokens) ⊎ ((place : ℕ) × (cause : LexKind) × IsFirstRefusal text place cause)
+
 -- no script has both a list of tokens and a first refusal
 abbrev pub HaveNotBoth : Type 0
 HaveNotBoth = (text : List ℕ) (tokens : List Token) (place : ℕ) (cause : LexKind) → IsTokens text tokens → IsFirstRefusal text place cause → ⊥

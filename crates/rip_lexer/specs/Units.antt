@@ -2,6 +2,7 @@
 -- decimal digits, 65 to 90 and 97 to 122 the letters.
 use Rattle.std.specs.Prelude.{ℕ, ◌-◌, Bool, true, false, ◌||◌, ◌&&◌, ◌==◌, nat_le, if◌then◌else◌, List, [], ◌∷◌, codes}
 use Rattle.std.specs.List.{list_any}
+use Rattle.rip_values.specs.Blank as Blank
 use Rattle.rip_lexer.specs.declared.units.UnitClass.{UnitClass}
 use Rattle.rip_lexer.specs.declared.units.UnitClass.TheVariants.{NameStart, Digit, LineEnd, White, Quote, Mark, Other}
 
@@ -19,8 +20,8 @@ unfoldable pub class_of : ℕ → UnitClass
 class_of c =
     if is_between 97 122 c || is_between 65 90 c || is_one_of (codes "$_") c then NameStart
     else (if is_between 48 57 c then Digit
-    else (if is_one_of (10 ∷ 13 ∷ 0x2028 ∷ 0x2029 ∷ []) c then LineEnd
-    else (if is_between 0x2000 0x200A c || is_one_of (9 ∷ 11 ∷ 12 ∷ 32 ∷ 0xA0 ∷ 0x1680 ∷ 0x202F ∷ 0x205F ∷ 0x3000 ∷ 0xFEFF ∷ []) c then White
+    else (if Blank.is_line_end c then LineEnd
+    else (if Blank.is_white_space c then White
     else (if is_one_of (34 ∷ 39 ∷ []) c then Quote
     else (if is_one_of (codes "!%&()*+,-./:;<=>?[]^{|}~") c then Mark
     else Other)))))

@@ -1,5 +1,5 @@
-ghost use Rattle.std.specs.Prelude.{◌^◌, ◌<◌, All, IfErr, IfOk, length};
-ghost use Rattle.rip_lexer.specs.Tokens.{GivesRefusal, GivesTokens, HaveNotBoth, HaveOneList, HaveOneRefusal, IsRefusal, IsTokenOf, IsTokens, TextsHaveOneValue};
+ghost use Rattle.std.specs.Prelude.{All, IfErr, IfOk};
+ghost use Rattle.rip_lexer.specs.Tokens.{GivesRefusal, GivesTokens, HaveAReading, HaveNotBoth, HaveOneList, HaveOneRefusal, IsRefusal, IsTokenOf, IsTokens, TextsHaveOneValue};
 
 use crate::construct::{Construct, first_construct};
 use crate::gap::longest_gap;
@@ -8,10 +8,9 @@ use crate::token::{Token, Tokens};
 use rip_values::List;
 use std::alloc::Global;
 
-/// The tokens of a script, or the first construct of it that is refused (ECMA-262 7).
+/// The tokens of a script, or the first construct of it that is refused (ECMA-262 7). A script whose places 32 bits
+/// cannot count is answered with want of memory.
 pub fn tokens(alloc: Global, text: &[u16]) -> Result<Tokens, LexRefusal>
-    requires { length text.now < 2 ^ 32 }
-
     // What is answered is so.
     ensures found { IfOk result (IsTokens text.now) }
     ensures refused { IfErr result (IsRefusal text.now) }
@@ -23,6 +22,9 @@ pub fn tokens(alloc: Global, text: &[u16]) -> Result<Tokens, LexRefusal>
     ensures all { GivesTokens text.now result }
     ensures first { GivesRefusal text.now result }
 {
+    if text.len() > u32::MAX as usize {
+        return Err(LexRefusal::Memory);
+    }
     let mut tokens = Vec::new(alloc);
     let mut place: usize = 0;
     let mut rest = text;
@@ -52,8 +54,9 @@ pub fn tokens(alloc: Global, text: &[u16]) -> Result<Tokens, LexRefusal>
     }
 }
 
-/// A script has one list of tokens or one first refusal, and not both; a text stands for one list of units.
+/// Each script has one list of tokens or one first refusal, and not both; a text stands for one list of units.
 pub fn readings_are_one()
+    ensures some { HaveAReading }
     ensures tokens { HaveOneList }
     ensures refusals { HaveOneRefusal }
     ensures apart { HaveNotBoth }

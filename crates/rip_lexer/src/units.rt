@@ -2,6 +2,8 @@ ghost use Rattle.std.specs.Prelude.{◌≡◌, ◌<◌, ◌≤◌, length, not};
 ghost use Rattle.std.specs.List.{prefix_len};
 ghost use Rattle.rip_lexer.specs.Units.{class_of, is_hex_digit, is_digit, is_name_unit, is_line_end, is_blank, digit_value, begins};
 
+use rip_values::{is_line_end as ends_line, is_white_space};
+
 /// What a unit of a script may begin.
 #[derive(Clone, Copy, Debug, PartialEq, Eq)]
 pub(crate) enum UnitClass {
@@ -26,9 +28,8 @@ pub(crate) fn class_of(unit: u16) -> UnitClass
     match unit {
         0x61..=0x7A | 0x41..=0x5A | 0x24 | 0x5F => UnitClass::NameStart,
         0x30..=0x39 => UnitClass::Digit,
-        10 | 13 | 0x2028 | 0x2029 => UnitClass::LineEnd,
-        0x2000..=0x200A | 9 | 11 | 12 | 32 | 0xA0 | 0x1680 | 0x202F | 0x205F | 0x3000 | 0xFEFF =>
-            UnitClass::White,
+        _ if ends_line(unit) => UnitClass::LineEnd,
+        _ if is_white_space(unit) => UnitClass::White,
         0x22 | 0x27 => UnitClass::Quote,
         0x21 | 0x25 | 0x26 | 0x28..=0x2F | 0x3A..=0x3F | 0x5B | 0x5D | 0x5E | 0x7B..=0x7E =>
             UnitClass::Mark,

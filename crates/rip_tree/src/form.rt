@@ -1,6 +1,3 @@
-ghost use Rattle.std.specs.Prelude.{◌↔◌, ◌≡◌, ◌≢◌, IsTrue};
-ghost use Rattle.rip_tree.specs.Levels.{Level, level_of};
-
 use crate::node::Piece;
 use rip_values::{BinaryOperator, LogicalOperator, StepOperator, UnaryOperator, Whole};
 
@@ -128,29 +125,4 @@ pub enum Form {
     Default,
     /// A part of `try`: a block (12.14).
     Catch(Piece),
-}
-
-impl Form {
-    /// Whether a node of this form is an expression or a statement, and not a script, a declaration or a part.
-    pub fn is_charged(self) -> bool
-        ensures charged { IsTrue result ↔ (level_of self ≡ Level.Charged) }
-    {
-        !matches!(self, Form::Script | Form::FunctionDeclaration(_)) && self.is_level()
-    }
-
-    /// Whether a node of this form counts in the depth of a tree: all but the parts do.
-    pub fn is_level(self) -> bool
-        ensures level { IsTrue result ↔ (level_of self ≢ Level.Part) }
-    {
-        !matches!(
-            self,
-            Form::Declarator(_)
-                | Form::Bindings
-                | Form::Entry(_)
-                | Form::Parameter(_)
-                | Form::Case
-                | Form::Default
-                | Form::Catch(_)
-        )
-    }
 }

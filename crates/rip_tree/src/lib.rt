@@ -16,7 +16,6 @@
 //! | [`Program::root`] | `Program.root_of`, in the list of the roots of the scripts |
 //! | [`Program::top_name`], [`Program::vars`] | `Program.Code` has the names; `Program.vars_of`, in the list that it was given |
 //! | [`Program::names`], [`Program::resolved`], [`Program::is_own_name`] | `Program.scoping_of`, in the list that it was given |
-//! | [`Form::is_level`], [`Form::is_charged`] | `Levels.level_of`, one line for each form |
 #![tactic(auto)]
 
 mod form;

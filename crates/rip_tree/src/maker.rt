@@ -1,4 +1,4 @@
-ghost use Rattle.std.specs.Prelude.{◌≡◌, ◌+◌, ◌-◌, ◌^◌, ◌<◌, ◌++◌, [], length, IfOk, OnErr, OnOk};
+ghost use Rattle.std.specs.Prelude.{◌≡◌, ◌+◌, ◌-◌, ◌<◌, ◌++◌, [], length, IfOk, OnErr, OnOk};
 ghost use Rattle.rip_tree.specs.Branches.{AreBetween, units_at};
 ghost use Rattle.rip_tree.specs.Making.{with_branch, with_units, piece_behind};
 
@@ -29,11 +29,14 @@ impl Model for TreeMaker {
 }
 
 impl TreeMaker {
-    /// No node yet of a tree of `total` nodes, over the units of its script.
+    /// No node yet of a tree of `total` nodes, over the units of its script. A script whose units 32 bits cannot count is
+    /// refused as want of memory.
     pub fn new(alloc: Global, total: u32, script: &[u16]) -> Result<TreeMaker, NoMemory>
-        requires { length script.now < 2 ^ 32 }
         ensures { IfOk result (λ maker. maker ≡ record { total = total; branches = []; units = script.now }) }
     {
+        if script.len() > u32::MAX as usize {
+            return Err(NoMemory);
+        }
         Ok(TreeMaker {
             total,
             rows: Vec::new(alloc),

@@ -1,27 +1,10 @@
 use crate::{Form, Node, Piece, Program, Resolved, Scoping, Tree, TreeMaker};
 use rip_values::{BinaryOperator, GLOBALS, Global as GlobalName, List, Units, Whole};
-use std::alloc::{AllocError, Global};
+use std::alloc::Global;
 use std::test::Fail;
 
 /// The script `a+=1`, whose tree has five nodes, and its units.
 const SCRIPT: [u16; 4] = [97, 43, 61, 49];
-
-/// Of each node of a tree, 1 where it is charged and 2 where it is a level alone.
-fn shape(alloc: Global, tree: &Tree) -> Result<Vec<u8>, AllocError> {
-    let mut kinds = Vec::new(alloc);
-    for id in 0..tree.count() {
-        let node = tree.node(id);
-        let form = node.form;
-        kinds.push(if form.is_charged() {
-            1
-        } else if form.is_level() {
-            2
-        } else {
-            3
-        })?;
-    }
-    Ok(kinds)
-}
 
 #[test]
 fn a_tree_is_made_and_read(rt: HostRuntime) -> Result<(), Fail> {
@@ -84,10 +67,7 @@ fn a_tree_is_made_and_read(rt: HostRuntime) -> Result<(), Fail> {
         tree.units(Piece { start: 3, count: 9 }),
         [49, 98, 99].as_slice()
     );
-    assert_eq!(rt;
-        shape(rt.alloc(), &tree)?.as_slice(),
-        [2, 1, 1, 1, 1].as_slice()
-    );
+    assert_eq!(rt; tree.node(4).form, Form::Name(name));
     Ok(())
 }
 
