@@ -9,4 +9,5 @@ pub mod Numbers
 pub mod Page
 pub mod Pool
 pub mod Text
+pub mod Values
 pub mod Whole

@@ -12,6 +12,7 @@
 //! | [`is_white_space`], [`is_line_end`] | `Blank.white_space`, `Blank.line_ends` |
 //! | [`number_of_text`] | `Numbers.IsNumberOf`, of the text that `Blank.trimmed` leaves |
 //! | [`text_of_whole`] | std's `signed_decimal` |
+//! | [`Value`] of a number | `Values.value_of_number` |
 //! | [`FixedText`] | `FixedTexts.text_of`, its table, and `FixedTexts.fixed_span`, its places |
 //! | [`Builtin`] | `Builtins.number_of`, `Builtins.name_of`, `Builtins.home_of` |
 //! | [`Global`] | `Globals.global_name`, `Globals.global_named`, `Globals.global_value` |

@@ -30,6 +30,31 @@ pub enum Numeral {
     NaN,
 }
 
+impl From<Numeral> for Value {
+    ghost use Rattle.std.specs.Prelude.{◌≡◌};
+    ghost use Rattle.rip_values.specs.Values.{value_of_number};
+
+    ghost from_gives = { λ number v. v ≡ value_of_number number };
+
+    fn from(number: Numeral) -> Value {
+        match number {
+            Numeral::Num(whole) => Value::Num(whole),
+            Numeral::NaN => Value::NaN,
+        }
+    }
+}
+
+impl From<u32> for Value {
+    ghost use Rattle.std.specs.Prelude.{◌≡◌, pos};
+    ghost use Rattle.rip_values.specs.declared.value.Value.TheVariants.{Num};
+
+    ghost from_gives = { λ n v. v ≡ Num (pos n) };
+
+    fn from(n: u32) -> Value {
+        Value::Num(Whole::from(n))
+    }
+}
+
 /// Why a script left the profile. It ends the session, and no script can catch it.
 #[derive(Clone, Copy, Debug, PartialEq, Eq, Error)]
 pub enum Fault {

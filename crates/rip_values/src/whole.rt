@@ -25,6 +25,18 @@ impl Model for Whole {
     ghost inverse = { λ z. record { number = z } };
 }
 
+impl From<u32> for Whole {
+    ghost use Rattle.std.specs.Prelude.{◌≡◌, pos};
+
+    ghost from_gives = { λ n whole. whole ≡ pos n };
+
+    fn from(n: u32) -> Whole {
+        Whole {
+            number: i64::from(n),
+        }
+    }
+}
+
 impl Whole {
     /// The whole number `n`, or none where it is out of range.
     pub fn new(n: i64) -> Option<Whole>
