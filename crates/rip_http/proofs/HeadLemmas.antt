@@ -33,6 +33,25 @@ end-le s (b ∷ xs) n e = by_step (λ t m h. end-le t xs m h) (step s b) e
         let p = mapped (end_from t xs) n h in
         omega (arith, later t p.0 p.1, p.2)
 
+-- a head that ends within the first bytes ends in them
+pub end-back : (s : Scan) (xs ys : List ℕ) (n : ℕ) → end_from s (xs ++ ys) ≡ Some n → n ≤ length xs → end_from s xs ≡ Some n
+end-back s [] [] n e h = cc
+end-back s [] (b ∷ ys) n e h = by_step (step s b) e
+  where
+    by_step : (o : Option Scan) → ended_or (Some 1) o (λ t. option_map (λ k. suc k) (end_from t ys)) ≡ Some n → None ≡ Some n
+    by_step None g = let one : 1 ≡ n = cc in absurd (omega (arith, one, h))
+    by_step (Some t) g = let p = mapped (end_from t ys) n g in absurd (omega (arith, p.2, h))
+end-back s (b ∷ xs) ys n e h = by_step (λ t m g k. end-back t xs ys m g k) (step s b) e
+  where
+    by_step : ((t : Scan) (m : ℕ) → end_from t (xs ++ ys) ≡ Some m → m ≤ length xs → end_from t xs ≡ Some m) → (o : Option Scan)
+        → ended_or (Some 1) o (λ t. option_map (λ k. suc k) (end_from t (xs ++ ys))) ≡ Some n
+        → ended_or (Some 1) o (λ t. option_map (λ k. suc k) (end_from t xs)) ≡ Some n
+    by_step back None g = g
+    by_step back (Some t) g =
+        let p = mapped (end_from t (xs ++ ys)) n g in
+        let fits : p.0 ≤ length xs = omega (arith, p.2, h) in
+        ap (option_map (λ k. suc k)) (back t p.0 p.1 fits) ∙ ap Some (sym p.2)
+
 -- no head ends in bytes that leave a state
 pub after-none : (s t : Scan) (xs : List ℕ) → after s xs ≡ Some t → end_from s xs ≡ None
 after-none s t [] e = refl

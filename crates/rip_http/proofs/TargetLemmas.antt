@@ -1,8 +1,15 @@
 -- A target up to its query.
-use Rattle.std.proofs.Common.{◌≡◌, ℕ, Bool, true, false, cond, ltb, List, length, take, Some, None, refl, sym, ap}
+use Rattle.std.proofs.Common.{◌≡◌, ℕ, ◌<◌, Bool, true, false, cond, ltb, eqb, List, length, take, get_or, Some, None, refl, sym, ap, subst, arith}
 use Rattle.std.specs.List.{position, position_or_len, before_first}
+use Rattle.std.specs.Str.{IsUtf8}
+use Rattle.httparse.specs.Spans.{span_bytes, IsRequestOf}
+use Rattle.httparse.specs.declared.spans.HeaderSpan.{HeaderSpan}
+use Rattle.httparse.specs.declared.spans.RequestSpans.{RequestSpans}
+use Rattle.std.proofs.lemmas.Bool.{ltb-false, ltb-true}
+use Rattle.std.proofs.lemmas.Bool.Decides.{nat_tests}
 use Rattle.std.proofs.lemmas.List.{take_all}
-use Rattle.std.proofs.lemmas.Bool.{ltb-false}
+use Rattle.std.proofs.lemmas.List.Sums.{passes_at_first}
+use Rattle.std.proofs.lemmas.Str.{IsUtf8-take, IsCharBoundary-before_ascii}
 
 place_at : (b : Bool) (p n : ℕ) → cond b (Some p) None ≡ Some n → p ≡ n
 place_at true p n e = cc
@@ -18,3 +25,19 @@ front_at p xs n e = ap (λ k. take k xs) (sym (place_at (ltb (position_or_len p 
 pub front_whole : (p : ℕ → Bool) (xs : List ℕ) → position p xs ≡ None → xs ≡ before_first p xs
 front_whole p xs e =
     sym (take_all (position_or_len p xs) xs (ltb-false (position_or_len p xs) (length xs) (no_place (ltb (position_or_len p xs) (length xs)) (position_or_len p xs) e)))
+
+-- a text up to its first question mark is a text
+pub front_text : (xs : List ℕ) → IsUtf8 xs → IsUtf8 (before_first (λ b. eqb b 63) xs)
+front_text xs u = by (ltb (position_or_len (λ b. eqb b 63) xs) (length xs)) refl
+  where
+    by : (v : Bool) → ltb (position_or_len (λ b. eqb b 63) xs) (length xs) ≡ v → IsUtf8 (take (position_or_len (λ b. eqb b 63) xs) xs)
+    by true e =
+        let within : position_or_len (λ b. eqb b 63) xs < length xs = ltb-true (position_or_len (λ b. eqb b 63) xs) (length xs) e in
+        let mark : eqb (get_or xs (position_or_len (λ b. eqb b 63) xs) 0) 63 ≡ true = passes_at_first (λ b. eqb b 63) xs 0 within in
+        let low : get_or xs (position_or_len (λ b. eqb b 63) xs) 0 < 128 = grind (arith, nat_tests) in
+        IsUtf8-take xs (position_or_len (λ b. eqb b 63) xs) u (IsCharBoundary-before_ascii xs (position_or_len (λ b. eqb b 63) xs) within low)
+    by false e = subst IsUtf8 (sym (take_all (position_or_len (λ b. eqb b 63) xs) xs (ltb-false (position_or_len (λ b. eqb b 63) xs) (length xs) e))) u
+
+-- the target of a head that is read is a text
+pub target_text : (buf : List ℕ) (headers : List HeaderSpan) (r : RequestSpans) → IsRequestOf buf headers r → IsUtf8 (span_bytes buf r.path)
+target_text buf headers r h = subst IsUtf8 (sym h.1.path) h.1.reads.0.target_text

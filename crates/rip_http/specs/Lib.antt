@@ -4,6 +4,7 @@ pub mod Fields
 pub mod Heads
 pub mod Laws
 pub mod Routes
+pub mod Routing
 pub mod Stages
 pub mod Stream
 pub mod Verdicts

@@ -1,5 +1,5 @@
 -- The requests of a connection: a relation between all its bytes and what is asked in them.
-use Rattle.std.specs.Prelude.{◌≡◌, ℕ, ◌+◌, List, [], ◌∷◌, ◌++◌, length, take, drop, Option, Some, None, nat_le, if◌then◌else◌, false}
+use Rattle.std.specs.Prelude.{◌≡◌, ℕ, ◌+◌, ◌-◌, List, [], ◌∷◌, ◌++◌, length, take, drop, Option, Some, None, nat_le, if◌then◌else◌, false}
 use Rattle.rip_http.specs.Heads.{head_at, head_end}
 use Rattle.rip_http.specs.Verdicts.{Verdict, Refuses, Goes, IsVerdict}
 use Rattle.rip_http.specs.declared.request.Method.{Method}
@@ -62,11 +62,30 @@ IsNextAt (Some n) bytes next =
 abbrev pub IsNext : List ℕ → Next → Type 0
 IsNext bytes next = IsNextAt (head_end (take 8192 bytes)) bytes next
 
+-- a message, and how many bytes of its stream it has
+pub record Sent : Type 0 where
+  pub message : Message
+  pub size : ℕ
+
 -- the bytes are these messages, one behind the other, and a rest
-abbrev pub Splits : List ℕ → List Message → List ℕ → Type 0
+abbrev pub Splits : List ℕ → List Sent → List ℕ → Type 0
 Splits bytes [] rest = bytes ≡ rest
-Splits bytes (m ∷ messages) rest =
-    (n : ℕ) × IsNext bytes (takes n m) × Splits (drop n bytes) messages rest
+Splits bytes (s ∷ sent) rest =
+    IsNext bytes (takes s.size s.message) × Splits (drop s.size bytes) sent rest
+
+-- where in a stream each of its messages ends, the first of which begins at n
+abbrev pub ends_from : ℕ → List Sent → List ℕ
+ends_from n [] = []
+ends_from n (s ∷ sent) = (n + s.size) ∷ ends_from (n + s.size) sent
+
+-- where in a stream each of its messages ends, counted in bytes from its beginning
+abbrev pub ends_of : List Sent → List ℕ
+ends_of = ends_from 0
+
+-- the messages that end within the first n bytes
+abbrev pub ended_within : ℕ → List Sent → List Sent
+ended_within n [] = []
+ended_within n (s ∷ sent) = if nat_le s.size n then s ∷ ended_within (n - s.size) sent else []
 
 -- no message stands at the front
 abbrev pub IsLast : Next → Type 0
@@ -74,34 +93,34 @@ IsLast waits = Unit {0}
 IsLast (refuses n refused) = Unit {0}
 IsLast (takes n m) = ⊥
 
--- the requests of a stream: its messages in order, and what stands behind them, of which a refused
--- head is the last
-pub record Requests (bytes : List ℕ) (messages : List Message) (last : Next) : Type 0 where
+-- the requests of a stream: its messages in order, each with its size, and what stands behind them,
+-- of which a refused head is the last
+pub record Requests (bytes : List ℕ) (sent : List Sent) (last : Next) : Type 0 where
   pub rest : List ℕ
-  pub splits : Splits bytes messages rest
+  pub splits : Splits bytes sent rest
   pub next : IsNext rest last
   pub is_last : IsLast last
 
 -- what is done with a connection
 pub data Deed : Type 0 where
   fed : List ℕ → Deed
-  took : Message → Deed
+  took : Sent → Deed
 
 -- these deeds, from these unread bytes, leave those
 abbrev pub Does : List ℕ → List Deed → List ℕ → Type 0
 Does unread [] left = unread ≡ left
 Does unread (fed piece ∷ deeds) left = Does (unread ++ piece) deeds left
-Does unread (took m ∷ deeds) left =
-    (n : ℕ) × IsNext unread (takes n m) × Does (drop n unread) deeds left
+Does unread (took s ∷ deeds) left =
+    IsNext unread (takes s.size s.message) × Does (drop s.size unread) deeds left
 
 -- all that was fed, in order
 abbrev pub all_fed : List Deed → List ℕ
 all_fed [] = []
 all_fed (fed piece ∷ deeds) = piece ++ all_fed deeds
-all_fed (took m ∷ deeds) = all_fed deeds
+all_fed (took s ∷ deeds) = all_fed deeds
 
 -- all that was taken, in order
-abbrev pub all_taken : List Deed → List Message
+abbrev pub all_taken : List Deed → List Sent
 all_taken [] = []
 all_taken (fed piece ∷ deeds) = all_taken deeds
-all_taken (took m ∷ deeds) = m ∷ all_taken deeds
+all_taken (took s ∷ deeds) = s ∷ all_taken deeds

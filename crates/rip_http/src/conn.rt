@@ -5,6 +5,7 @@ ghost use Rattle.rip_http.specs.declared.request.RefusedHead.{RefusedHead};
 
 use crate::head::Scan;
 use crate::request::{Message, Method};
+use crate::routes::Routes;
 use crate::stage::{Front, Stage, first_look};
 use rip_values::NoMemory;
 use std::alloc::{AllocError, Global};
@@ -53,6 +54,7 @@ pub struct Conn {
     /// Where the unread bytes begin.
     start: usize,
     stage: Stage,
+    routes: Routes,
 }
 
 impl Model for Conn {
@@ -96,6 +98,7 @@ impl Conn {
             bytes: Vec::new(alloc),
             start: 0,
             stage: Stage::Head(Scan::Before),
+            routes: Routes::make(alloc)?,
         })
     }
 
@@ -112,9 +115,11 @@ impl Conn {
         }
         self.start = compact(&mut self.bytes, self.start);
         self.bytes.extend_from_slice(piece)?;
-        self.stage = self
-            .stage
-            .look(unread(self.bytes.as_slice(), self.start), held);
+        self.stage = self.stage.look(
+            &self.routes,
+            unread(self.bytes.as_slice(), self.start),
+            held,
+        );
         Ok(())
     }
 
@@ -128,7 +133,7 @@ impl Conn {
         {
             Front::Whole(count, message) => {
                 self.start += count;
-                self.stage = first_look(unread(self.bytes.as_slice(), self.start));
+                self.stage = first_look(&self.routes, unread(self.bytes.as_slice(), self.start));
                 Taken::Message(message)
             }
             Front::NotYet => Taken::NotYet,

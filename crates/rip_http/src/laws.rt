@@ -1,5 +1,5 @@
 ghost use Rattle.rip_http.specs.Answers.{AnswersTellApart};
-ghost use Rattle.rip_http.specs.Laws.{HeadEndIsFound, NextIsOne, RequestsAreOne, CutsDoNotMatter, TakenStands, ComeStays};
+ghost use Rattle.rip_http.specs.Laws.{HeadEndIsFound, NextIsOne, RequestsAreOne, CutsDoNotMatter, TakenStands, EndsTell, ComeStays};
 
 /// The search finds the end of a head, and nothing else.
 pub fn head_end_is_found()
@@ -25,6 +25,11 @@ pub fn cuts_do_not_matter()
 /// In mid-stream, what was taken begins the stream, whatever comes.
 pub fn taken_stands()
     ensures { TakenStands }
+{}
+
+/// The messages that can be taken of a stream's first bytes are those that end within them.
+pub fn ends_tell()
+    ensures { EndsTell }
 {}
 
 /// A message that has come stays, and so does a refusal, whatever comes behind it.

@@ -8,16 +8,16 @@
 //! |---|---|
 //! | where a head ends | `Heads.IsHeadEnd`; `Heads.head_end`, the same as a search that looks at each byte once |
 //! | the fields of a head | `Fields.has_host`, `Fields.body_length`, `Fields.closes` |
-//! | [`Route`] | `Routes.route_of`, `Routes.segment_of`, `Routes.method_of` |
+//! | [`Route`] | `Routes.route_of`, `Routes.segment_of`, `Routes.method_of`; `Routing.RoutesByPath`: a router's answers are these |
 //! | [`Refusal`], [`Going`] | `Verdicts.decide`: the refusals of a head in their order, or where the request goes; `Verdicts.IsVerdict` |
-//! | [`Message`] | `Stream.IsNext`: what stands at the front of bytes; `Stream.Requests`: the requests of a stream |
+//! | [`Message`] | `Stream.IsNext`: what stands at the front of bytes; `Stream.Requests`: the requests of a stream, each with its size; `Stream.ends_of`: where in the stream each ends |
 //! | [`Conn`] | contracts see the unread bytes |
 //! | [`Conn::take_message`] | `Conns.IsTaken` |
 //! | [`answer_bytes`] | `Answers.answer_text` |
 //!
 //! A layer above may rest on this: the requests of a stream are one list ([`requests_are_one`]); however its bytes are
 //! cut and whenever messages are taken, they are that list ([`cuts_do_not_matter`]), and in mid-stream its beginning
-//! ([`taken_stands`]); what has come stays, a refusal too ([`come_stays`]); two answers with the same bytes are equal
+//! ([`taken_stands`]), of those messages that end within the bytes that have come ([`ends_tell`]); what has come stays, a refusal too ([`come_stays`]); two answers with the same bytes are equal
 //! ([`answers_tell_apart`]). Each byte of a head is looked at once, a head is parsed once, [`Conn::ready`] takes no time
 //! that grows with the bytes, and a stream of messages takes time in proportion to its bytes.
 #![tactic(auto)]
@@ -28,6 +28,7 @@ mod field;
 mod head;
 mod laws;
 mod request;
+mod routes;
 mod stage;
 mod target;
 #[cfg(test)]
@@ -37,7 +38,7 @@ mod verdict;
 pub use answer::{HttpAnswer, Opening, answer_bytes};
 pub use conn::{Conn, FeedRefused, MOST_UNREAD, Taken};
 pub use laws::{
-    answers_tell_apart, come_stays, cuts_do_not_matter, head_end_is_found, next_is_one,
+    answers_tell_apart, come_stays, cuts_do_not_matter, ends_tell, head_end_is_found, next_is_one,
     requests_are_one, taken_stands,
 };
 pub use request::{Going, Message, Method, Refusal, RefusedHead, Route};

@@ -6,6 +6,7 @@ ghost use Rattle.rip_http.specs.declared.stage.Stage.TheVariants.{Head as HeadSt
 
 use crate::head::{Scan, Sought, count_blank, seek_end};
 use crate::request::{Going, Message, Refusal, RefusedHead};
+use crate::routes::Routes;
 use crate::target::segment_of;
 use crate::verdict::{Judged, judge};
 use httparse::spans::Span;
@@ -54,25 +55,25 @@ fn head_of(bytes: &[u8], end: usize) -> &[u8]
 }
 
 /// The stage behind a head's end.
-fn look_behind(bytes: &[u8], end: usize) -> Stage
+fn look_behind(routes: &Routes, bytes: &[u8], end: usize) -> Stage
     requires { head_end (take 8192 bytes.now) ≡ Some end }
     ensures { IsStage bytes.now result }
 {
-    match judge(head_of(bytes, end)) {
+    match judge(routes, head_of(bytes, end)) {
         Judged::Refused(refused) => Stage::Refused(refused),
         Judged::Passed(going, target) => Stage::Body(Awaited { going, end, target }),
     }
 }
 
 /// Looks for the head's end behind the first `from` bytes.
-fn look_on(bytes: &[u8], from: usize, scan: Scan) -> Stage
+fn look_on(routes: &Routes, bytes: &[u8], from: usize, scan: Scan) -> Stage
     requires within { from ≤ length bytes.now }
     requires stage { IsStage (take from bytes.now) (HeadStage scan) }
     ensures { IsStage bytes.now result }
 {
     let limit = bytes.len().min(LONGEST_HEAD);
     match seek_end(&bytes[..limit], from, scan) {
-        Sought::Ended(end) => look_behind(bytes, end),
+        Sought::Ended(end) => look_behind(routes, bytes, end),
         Sought::Open(next) => {
             if bytes.len() < LONGEST_HEAD {
                 Stage::Head(next)
@@ -88,13 +89,13 @@ fn look_on(bytes: &[u8], from: usize, scan: Scan) -> Stage
 
 impl Stage {
     /// The stage behind all the bytes, from that behind the first `from`.
-    pub(crate) fn look(self, bytes: &[u8], from: usize) -> Stage
+    pub(crate) fn look(self, routes: &Routes, bytes: &[u8], from: usize) -> Stage
         requires within { from ≤ length bytes.now }
         requires stage { IsStage (take from bytes.now) self }
         ensures { IsStage bytes.now result }
     {
         match self {
-            Stage::Head(scan) => look_on(bytes, from, scan),
+            Stage::Head(scan) => look_on(routes, bytes, from, scan),
             Stage::Body(awaited) => Stage::Body(awaited),
             Stage::Refused(refused) => Stage::Refused(refused),
         }
@@ -136,10 +137,10 @@ impl Stage {
 }
 
 /// The stage behind bytes of which none is looked at.
-pub(crate) fn first_look(bytes: &[u8]) -> Stage
+pub(crate) fn first_look(routes: &Routes, bytes: &[u8]) -> Stage
     ensures { IsStage bytes.now result }
 {
-    Stage::Head(Scan::Before).look(bytes, 0)
+    Stage::Head(Scan::Before).look(routes, bytes, 0)
 }
 
 impl Awaited {

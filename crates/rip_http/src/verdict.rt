@@ -1,4 +1,4 @@
-ghost use Rattle.std.specs.Prelude.{◌≡◌, ◌≤◌, length, All};
+ghost use Rattle.std.specs.Prelude.{◌≡◌, ◌≤◌, length, All, IsUtf8};
 ghost use Rattle.httparse.specs.Spans.{IsHeaderWithin, IsWithin, span_bytes};
 ghost use Rattle.rip_http.specs.Fields.{pairs};
 ghost use Rattle.rip_http.specs.Verdicts.{check, size_of, decide, verdict_of, IsVerdict};
@@ -6,7 +6,7 @@ ghost use Rattle.rip_http.specs.Stages.{verdict_in, IsJudged};
 
 use crate::field::{has_one_host, is_closing, is_uncoded, stated_length};
 use crate::request::{Going, Refusal, RefusedHead, Route};
-use crate::target::route_of;
+use crate::routes::Routes;
 use httparse::Status;
 use httparse::spans::{EMPTY_HEADER_SPAN, HeaderSpan, RequestSpans, Span, parse_request};
 
@@ -43,13 +43,15 @@ fn size_of(route: Route, length: Option<u64>) -> Result<u64, Refusal>
 
 /// The refusals of a head in their order, or where the request goes.
 fn decide(
+    routes: &Routes,
     head: &[u8],
     method: &[u8],
     target: &[u8],
     minor: u8,
     fields: &[HeaderSpan],
 ) -> Result<Going, Refusal>
-    requires { All (IsHeaderWithin (length head.now)) fields.now }
+    requires target { IsUtf8 target.now }
+    requires fields { All (IsHeaderWithin (length head.now)) fields.now }
     ensures { result ≡ decide (record {
       method = method.now;
       target = target.now;
@@ -59,7 +61,7 @@ fn decide(
 {
     check(has_one_host(head, fields, minor), Refusal::Head)?;
     let length = stated_length(head, fields)?;
-    let route = route_of(target).ok_or(Refusal::Path)?;
+    let route = routes.route_of(target).ok_or(Refusal::Path)?;
     check(
         method == route.method().name(),
         Refusal::WrongMethod(route.method()),
@@ -75,9 +77,10 @@ fn decide(
 }
 
 /// What comes of a head whose parts are found.
-fn judge_parts(head: &[u8], spans: &RequestSpans, fields: &[HeaderSpan]) -> Judged
+fn judge_parts(routes: &Routes, head: &[u8], spans: &RequestSpans, fields: &[HeaderSpan]) -> Judged
     requires method { IsWithin (length head.now) spans.now.method }
     requires path { IsWithin (length head.now) spans.now.path }
+    requires target { IsUtf8 (span_bytes head.now spans.now.path) }
     requires fields { All (IsHeaderWithin (length head.now)) fields.now }
     ensures verdict { verdict_in head.now result ≡ verdict_of (record {
       method = span_bytes head.now spans.now.method;
@@ -88,7 +91,14 @@ fn judge_parts(head: &[u8], spans: &RequestSpans, fields: &[HeaderSpan]) -> Judg
     ensures within { IsJudged (length head.now) result }
 {
     let method = spans.method.of(head);
-    match decide(head, method, spans.path.of(head), spans.version, fields) {
+    match decide(
+        routes,
+        head,
+        method,
+        spans.path.of(head),
+        spans.version,
+        fields,
+    ) {
         Ok(going) => Judged::Passed(going, spans.path),
         Err(refusal) => Judged::Refused(RefusedHead {
             refusal,
@@ -98,14 +108,15 @@ fn judge_parts(head: &[u8], spans: &RequestSpans, fields: &[HeaderSpan]) -> Judg
 }
 
 /// What comes of these bytes, which stand where a head stands.
-pub(crate) fn judge(head: &[u8]) -> Judged
+#[tactic(auto, using(crate::proofs::TargetLemmas::target_text))]
+pub(crate) fn judge(routes: &Routes, head: &[u8]) -> Judged
     ensures verdict { IsVerdict head.now (verdict_in head.now result) }
     ensures within { IsJudged (length head.now) result }
 {
     let mut fields = [EMPTY_HEADER_SPAN; MOST_FIELDS];
     match parse_request(head, &mut fields) {
         Ok(Status::Complete(spans)) if spans.len == head.len() => {
-            judge_parts(head, &spans, &fields[..spans.headers])
+            judge_parts(routes, head, &spans, &fields[..spans.headers])
         }
         _ => Judged::Refused(RefusedHead {
             refusal: Refusal::Head,
