@@ -1,5 +1,8 @@
 -- Texts that are joined on the way through a document.
-use Rattle.std.proofs.Common.{◌≡◌, ℕ, suc, ◌+◌, ◌-◌, ◌<◌, ◌≤◌, true, List, [], ◌++◌, length, flat_map, refl, sym, ap, ap₂, ◌∙◌, arith}
+use Rattle.std.proofs.Common.{◌≡◌, ℕ, zero, suc, ◌+◌, ◌-◌, ◌<◌, ◌≤◌, Bool, true, false, ◌&&◌, ◌==◌, List, [], ◌∷◌, ◌++◌, length, flat_map, take, drop, inl, inr, refl, sym, ap, ap₂, ◌∙◌, arith}
+use Rattle.std.specs.Prelude.{nat_eq}
+use Rattle.std.specs.Cmp.Lexicographic.{pointwise}
+use Rattle.std.proofs.lemmas.Bool.{both_ways, cases_Bool, and_parts, ne_eqb}
 use Rattle.std.proofs.lemmas.List.{append_assoc, append-nil, length-append}
 use Rattle.rip_values.specs.declared.value.Span.{Span}
 use Rattle.rip_values.specs.Pool.{Texts, text_at, with_text, span_behind}
@@ -139,3 +142,66 @@ counts-more pool t r e i left at next text more c h m l f = record {
 
 pub counts-all : (pool : Texts) (t : Tree) (r k left : ℕ) (at : Step) (text : List ℕ) → Counts pool t r k at left text → texts_on pool t r k at ≡ [] → pool.text_limit - left ≡ length text
 counts-all pool t r k left at text c e = let a : length (texts_on pool t r k at) ≡ 0 = ap length e in omega (arith, a, c.sum)
+
+-- WHAT A TEXT BEGINS WITH
+
+take-nothing : (xs : List ℕ) → true ≡ pointwise nat_eq (take 0 xs) []
+take-nothing [] = refl
+take-nothing (x ∷ xs) = refl
+
+drop-nothing : (xs : List ℕ) → drop 0 xs ≡ xs
+drop-nothing [] = refl
+drop-nothing (x ∷ xs) = refl
+
+-- a text that begins so is another one where what is behind is what is behind there
+begins-so : (own more rest : List ℕ) → pointwise nat_eq (take (length own) rest) own ≡ true → pointwise nat_eq rest (own ++ more) ≡ pointwise nat_eq (drop (length own) rest) more
+begins-so [] more rest h = sym (ap (λ us. pointwise nat_eq us more) (drop-nothing rest))
+begins-so (o ∷ own) more [] h = absurd (both_ways false refl h)
+begins-so (o ∷ own) more (r ∷ rest) h =
+    let p = and_parts (nat_eq r o) (pointwise nat_eq (take (length own) rest) own) h in
+    ap (λ b. b && pointwise nat_eq rest (own ++ more)) p.0 ∙ begins-so own more rest p.1
+
+-- one that does not begin so is not
+begins-other : (own more rest : List ℕ) → pointwise nat_eq (take (length own) rest) own ≡ false → pointwise nat_eq rest (own ++ more) ≡ false
+begins-other [] more rest h = absurd (both_ways (pointwise nat_eq (take 0 rest) []) h (sym (take-nothing rest)))
+begins-other (o ∷ own) more [] h = refl
+begins-other (o ∷ own) more (r ∷ rest) h =
+    elim (cases_Bool (nat_eq r o)) [
+      | inl b ↦
+          ap (λ b. b && pointwise nat_eq rest (own ++ more)) b
+          ∙ begins-other own more rest (sym (ap (λ b. b && pointwise nat_eq (take (length own) rest) own) b) ∙ h)
+      | inr b ↦ ap (λ b. b && pointwise nat_eq rest (own ++ more)) b
+    ]
+
+-- what is left of a text is to be the texts that are left
+pub record Compares (pool : Texts) (t : Tree) (r k : ℕ) (at : Step) (rest text : List ℕ) : Type 0 where
+  pub same : pointwise nat_eq rest (texts_on pool t r k at) ≡ pointwise nat_eq text (text_below pool t r)
+
+pub compares-first : (pool : Texts) (t : Tree) (n e : ℕ) (text : List ℕ) → Grows t → e ≡ length t.nodes + length t.nodes → Compares pool t n (e - 0) (Enter n) text text
+compares-first pool t n e text g f = record { same = ap (pointwise nat_eq text) (texts-first pool t n e g f) }
+
+pub compares-more : (pool : Texts) (t : Tree) (r e i : ℕ) (at next : Step) (rest behind text own : List ℕ) → Compares pool t r (e - i) at rest text → i < e → own ≡ text_at pool (span_at t at) → pointwise nat_eq (take (length own) rest) own ≡ true
+    → behind ≡ drop (length own) rest → next ≡ step t r at → Compares pool t r (e - (i + 1)) next behind text
+compares-more pool t r e i at next rest behind text own c h o p b f = record {
+  same =
+      ap₂ (λ us s. pointwise nat_eq us (texts_on pool t r (e - (i + 1)) s)) b f
+      ∙ sym (begins-so own (texts_on pool t r (e - (i + 1)) (step t r at)) rest p)
+      ∙ ap (λ us. pointwise nat_eq rest (us ++ texts_on pool t r (e - (i + 1)) (step t r at))) o
+      ∙ ap (pointwise nat_eq rest) (sym (texts-more pool t r e i at h))
+      ∙ c.same;
+}
+
+pub compares-other : (pool : Texts) (t : Tree) (r e i : ℕ) (at : Step) (rest text own : List ℕ) → Compares pool t r (e - i) at rest text → i < e → own ≡ text_at pool (span_at t at) → pointwise nat_eq (take (length own) rest) own ≡ false
+    → false ≡ pointwise nat_eq text (text_below pool t r)
+compares-other pool t r e i at rest text own c h o p =
+    sym (begins-other own (texts_on pool t r (e - (i + 1)) (step t r at)) rest p)
+    ∙ ap (λ us. pointwise nat_eq rest (us ++ texts_on pool t r (e - (i + 1)) (step t r at))) o
+    ∙ ap (pointwise nat_eq rest) (sym (texts-more pool t r e i at h))
+    ∙ c.same
+
+pub empty-text : (rest : List ℕ) (b : Bool) → b ≡ (length rest == 0) → b ≡ pointwise nat_eq rest []
+empty-text [] b h = h
+empty-text (x ∷ rest) b h = h ∙ ne_eqb (suc (length rest)) 0 (λ e. absurd (omega (arith, e)))
+
+pub compares-all : (pool : Texts) (t : Tree) (r k : ℕ) (at : Step) (rest text : List ℕ) (b : Bool) → Compares pool t r k at rest text → texts_on pool t r k at ≡ [] → b ≡ pointwise nat_eq rest [] → b ≡ pointwise nat_eq text (text_below pool t r)
+compares-all pool t r k at rest text b c e f = f ∙ ap (pointwise nat_eq rest) (sym e) ∙ c.same

@@ -18,7 +18,7 @@
 //! | [`Dom::create_text`] | `Tree.new_node` |
 //! | [`Dom::create_element`] | `Creation.element_made`, refused as `Creation.element_refusal` says |
 //! | [`Dom::set_attribute`] | `Attributes.attribute_set`, refused as `Attributes.attribute_refusal` says |
-//! | [`Dom::read_text`] | `Reading.text_below`, answered as `Reading.Reads` says |
+//! | [`Dom::read_text`], [`Dom::has_text`] | `Reading.text_below`, answered as `Reading.Reads` says |
 //! | [`Dom::write_text`] | `Writing.written`, refused as `Writing.is_past` says |
 //! | [`Dom::insert_before`], [`Dom::replace`], [`Dom::remove`] | `Tree.inserted`, `Tree.replaced`, `Tree.taken_out` |
 //! | the codes of refusals and their order | `Tree.insert_code`, `Tree.replace_code`, `Tree.remove_code`; what bars a node, `Tree.is_barred` |

@@ -1,4 +1,5 @@
-ghost use Rattle.std.specs.Prelude.{◌≡◌, ◌<◌, ◌≤◌, ◌+◌, ℕ, List, IfSome, IsNone, length, slice_range};
+ghost use Rattle.std.specs.Prelude.{◌≡◌, ◌<◌, ◌≤◌, ◌+◌, ℕ, List, IfSome, IsNone, length, nat_eq, slice_range};
+ghost use Rattle.std.specs.Cmp.Lexicographic.{pointwise};
 ghost use Rattle.rip_values.specs.Pool.{span_behind, text_at, with_text};
 ghost use Rattle.rip_dom.specs.Reading.{Reads, own_span, text_below};
 ghost use Rattle.rip_dom.specs.Tree.{node_at};
@@ -32,6 +33,26 @@ impl Dom {
             }
             None => Err(TextRefused::TooLong),
         }
+    }
+
+    /// Whether the texts of the node and of all that is below it, joined, are this text. Nothing is made.
+    pub fn has_text(&self, pool: &Pool, n: u32, text: &[u16]) -> bool
+        ensures { result ≡ pointwise nat_eq text.now (text_below pool.now self.now n) }
+    {
+        self.grows();
+        let mut rest = text;
+        let mut at = Step::Enter(n);
+        for _i in 0..self.steps() {
+            if is_end(at) {
+                return rest.is_empty();
+            }
+            match rest.strip_prefix(pool.get(self.span_at(at))) {
+                Some(behind) => rest = behind,
+                None => return false,
+            }
+            at = self.step(n, at);
+        }
+        rest.is_empty()
     }
 
     // The length of the texts below the node, or none where it passes the limit of texts.
