@@ -5,16 +5,16 @@ use Rattle.rip_app.specs.Page.{IsSomePage, IsManifest, made_by}
 use Rattle.rip_app.specs.declared.refusal.AppRefusal.{AppRefusal}
 use Rattle.rip_cli.specs.Content.{content_bytes}
 use Rattle.rip_cli.specs.Lines.{count_line, app_line}
-use Rattle.rip_log.specs.History.{history_text, IsHistory}
-use Rattle.rip_log.specs.declared.entry.Entry.{Entry}
+use Rattle.rip_listed_log.specs.History.{history_text, IsHistory}
+use Rattle.rip_listed_log.specs.declared.entry.Entry.{Entry}
 use Rattle.rip_server.specs.Course.{Course}
 use Rattle.rip_server.specs.Laws.{CoursesAreInRange}
 use Rattle.std.specs.List.{AllByRecursion}
-use Rattle.rip_trace.specs.Trace.{IsSaid}
+use Rattle.rip_listed_trace.specs.Trace.{IsSaid}
 use Rattle.rip_listed.specs.Batch.{IsBatch}
 use Rattle.rip_listed.specs.Call.{IsCall}
 use Rattle.rip_listed.specs.declared.call.Call.{Call}
-use Rattle.rip_log.specs.Range.{IsCallText}
+use Rattle.rip_listed_log.specs.Range.{IsCallText}
 use Rattle.rip_listed.specs.declared.batch.Batch.{Batch}
 use Rattle.rip_cli.specs.Input.{HasPage, HasManifest, HasTrace, Refuses, IsCount, IsLog}
 use Rattle.rip_cli.specs.Steps.{AcceptsCalls, AcceptsTrace, FitsAll, IsRefusedBy, IsReplayRefusal, PutsLine, PutsLineOf, Settles, file_word, refusal_line}

@@ -7,9 +7,9 @@ use Rattle.rip_listed.specs.declared.batch.Batch.{Batch}
 use Rattle.rip_app.specs.Page.{IsSomePage, IsManifest, MakesCalls}
 use Rattle.rip_app.specs.App.{Loaded, AppOf, IsAppRefusal}
 use Rattle.rip_app.specs.declared.refusal.AppRefusal.{AppRefusal}
-use Rattle.rip_trace.specs.Trace.{IsTrace}
-use Rattle.rip_log.specs.History.{history_text, IsHistory}
-use Rattle.rip_log.specs.declared.entry.Entry.{Entry}
+use Rattle.rip_listed_trace.specs.Trace.{IsTrace}
+use Rattle.rip_listed_log.specs.History.{history_text, IsHistory}
+use Rattle.rip_listed_log.specs.declared.entry.Entry.{Entry}
 use Rattle.rip_server.specs.Course.{Course}
 use Rattle.rip_cli.specs.Lines.{count_line, too_long_line, app_line}
 use Rattle.rip_cli.specs.Words.{Task, Checks, Replays}

@@ -3,7 +3,7 @@ use Rattle.std.specs.Prelude.{◌≡◌, ◌++◌, ◌⊎◌, ℕ, List, [], Opt
 use Rattle.rip_outer.specs.Outside.{Rose, Front, also}
 use Rattle.rip_app.specs.App.{IsAppRefusal}
 use Rattle.rip_app.specs.Page.{MakesCalls}
-use Rattle.rip_trace.specs.Trace.{IsTrace}
+use Rattle.rip_listed_trace.specs.Trace.{IsTrace}
 use Rattle.rip_listed.specs.declared.batch.Batch.{Batch}
 use Rattle.rip_cli.specs.Content.{content_bytes}
 use Rattle.rip_cli.specs.Lines.{too_long_line, app_line}

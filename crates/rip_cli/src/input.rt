@@ -8,8 +8,8 @@ ghost use Rattle.rip_cli.specs.Words.{Checks, Replays, in_order, task_of};
 use crate::refusal::Refusal;
 use crate::words::{CheckNames, Command, ReplayNames};
 use rip_app::{App, AppRefusal, Calls, CallsRefusal, load, load_calls};
+use rip_listed_trace::{Trace, TraceRefusal, read_trace};
 use rip_outer::{Files, FilesError};
-use rip_trace::{Trace, TraceRefusal, read_trace};
 use rip_values::Bytes;
 use std::alloc::Global;
 

@@ -7,7 +7,7 @@ use Rattle.std.proofs.lemmas.Option.{slice_get_past}
 use Rattle.std.proofs.lemmas.List.{take_all, length-map}
 use Rattle.rip_listed.specs.declared.batch.Batch.{Batch}
 use Rattle.rip_listed.specs.declared.batch.Item.{Item}
-use Rattle.rip_log.specs.declared.entry.Entry.TheVariants.{Admitted, Done, Ended}
+use Rattle.rip_listed_log.specs.declared.entry.Entry.TheVariants.{Admitted, Done, Ended}
 use Rattle.rip_server.specs.Opening.{opening_entries}
 use Rattle.rip_server.specs.Served.{reported, reported_call, IsServed, served_entry, ending_of, batch_entries, session_entries}
 use Rattle.rip_server.specs.Course.{Admissions, batches_of, IsNext, Admits, Course}

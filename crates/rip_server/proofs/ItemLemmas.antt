@@ -5,7 +5,7 @@ use Rattle.std.proofs.Math.Seq.{drop-cons}
 use Rattle.std.proofs.lemmas.Grind.{common_steps}
 use Rattle.rip_listed.specs.declared.batch.Batch.{Batch}
 use Rattle.rip_listed.specs.declared.batch.Item.{Item}
-use Rattle.rip_log.specs.declared.entry.Entry.TheVariants.{Admitted, Done}
+use Rattle.rip_listed_log.specs.declared.entry.Entry.TheVariants.{Admitted, Done}
 use Rattle.rip_server.specs.Served.{served_entry, ending_of}
 use Rattle.rip_server.specs.Steps.{serves, item_entries, after_items, admits, step_entries}
 use Rattle.rip_server.specs.declared.session.Session.{Session}

@@ -3,9 +3,9 @@ use Rattle.std.proofs.Common.{◌≡◌, ℕ, ◌+◌, ◌-◌, ◌<◌, ◌≤�
 use Rattle.rip_listed.specs.declared.batch.Batch.{Batch}
 use Rattle.rip_listed.specs.declared.batch.Item.{Item}
 use Rattle.rip_listed.specs.declared.batch.Item.TheVariants.{ReportedCall}
-use Rattle.rip_log.specs.declared.entry.Entry.{Entry}
-use Rattle.rip_log.specs.declared.entry.Entry.TheVariants.{Done, Ended}
-use Rattle.rip_log.specs.Turns.{turn_of, IsInOrder}
+use Rattle.rip_listed_log.specs.declared.entry.Entry.{Entry}
+use Rattle.rip_listed_log.specs.declared.entry.Entry.TheVariants.{Done, Ended}
+use Rattle.rip_listed_log.specs.Turns.{turn_of, IsInOrder}
 use Rattle.rip_server.specs.Opening.{opening_entries}
 use Rattle.rip_server.specs.Served.{reported, IsServed, served_entry, batch_ending, batch_entries, session_entries}
 use Rattle.rip_server.specs.Course.{Admissions, batches_of, Admits, Course}

@@ -7,9 +7,9 @@ use Rattle.rip_outer.specs.Writing.{Takes}
 use Rattle.rip_outer.proofs.Composing.{also-also, Front-after, Front-longer, Front-none}
 use Rattle.rip_outer.specs.declared.writing.SinkError.{SinkError}
 use Rattle.rip_outer.specs.declared.writing.SinkError.TheVariants.{Failed, Memory}
-use Rattle.rip_log.specs.Entry.{entry_text}
-use Rattle.rip_log.specs.History.{history_text}
-use Rattle.rip_log.specs.declared.entry.Entry.{Entry}
+use Rattle.rip_listed_log.specs.Entry.{entry_text}
+use Rattle.rip_listed_log.specs.History.{history_text}
+use Rattle.rip_listed_log.specs.declared.entry.Entry.{Entry}
 use Rattle.rip_server.specs.Logged.{Logged}
 
 history-append : (xs ys : List Entry) → history_text (xs ++ ys) ≡ history_text xs ++ history_text ys

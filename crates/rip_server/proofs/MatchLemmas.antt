@@ -9,8 +9,8 @@ use Rattle.std.proofs.lemmas.Slice.Eq.{bytes_eq-Decides}
 use Rattle.rip_listed.specs.Call.{call_text}
 use Rattle.rip_listed.specs.declared.batch.Item.{Item}
 use Rattle.rip_listed.specs.declared.batch.Item.TheVariants.{ReportedCall}
-use Rattle.rip_log.specs.declared.entry.Entry.{Entry}
-use Rattle.rip_log.specs.declared.entry.Entry.TheVariants.{Done}
+use Rattle.rip_listed_log.specs.declared.entry.Entry.{Entry}
+use Rattle.rip_listed_log.specs.declared.entry.Entry.TheVariants.{Done}
 use Rattle.rip_server.specs.Served.{numbered, reported_call, served_entry, ending_of}
 use Rattle.rip_server.specs.Steps.{is_made, serves, item_entries}
 

@@ -7,11 +7,11 @@ use Rattle.rip_listed.specs.Batch.{IsItem, IsBatch}
 use Rattle.rip_listed.specs.declared.batch.Batch.{Batch}
 use Rattle.rip_listed.specs.declared.batch.Item.{Item}
 use Rattle.rip_listed.specs.declared.batch.Item.TheVariants.{ReportedCall}
-use Rattle.rip_log.specs.Range.{IsEntry, IsCallText, IsNoneOrCallText, IsEnding, IsNoneOrEnding, IsIdentifier, IsReport}
-use Rattle.rip_log.specs.History.{IsHistory}
-use Rattle.rip_log.specs.declared.ending.Ending.TheVariants.{Mismatch, Report}
-use Rattle.rip_log.specs.declared.ending.BadReport.TheVariants.{Number}
-use Rattle.rip_log.specs.declared.entry.Entry.TheVariants.{Done, Ended}
+use Rattle.rip_listed_log.specs.Range.{IsEntry, IsCallText, IsNoneOrCallText, IsEnding, IsNoneOrEnding, IsIdentifier, IsReport}
+use Rattle.rip_listed_log.specs.History.{IsHistory}
+use Rattle.rip_listed_log.specs.declared.ending.Ending.TheVariants.{Mismatch, Report}
+use Rattle.rip_listed_log.specs.declared.ending.BadReport.TheVariants.{Number}
+use Rattle.rip_listed_log.specs.declared.entry.Entry.TheVariants.{Done, Ended}
 use Rattle.rip_server.specs.Opening.{identifier, opening_entries}
 use Rattle.rip_server.specs.Served.{served_entry, ending_of, batch_ending, batch_entries, session_entries}
 use Rattle.rip_server.specs.Course.{Admissions, Admits}

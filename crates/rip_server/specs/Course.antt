@@ -1,7 +1,7 @@
 use Rattle.std.specs.Prelude.{◌≡◌, ◌∷◌, ◌++◌, ℕ, ◌+◌, List, [], length, map, ◌⊎◌}
 use Rattle.rip_listed.specs.declared.batch.Batch.{Batch}
-use Rattle.rip_log.specs.declared.entry.Entry.{Entry}
-use Rattle.rip_log.specs.declared.entry.Entry.TheVariants.{Ended}
+use Rattle.rip_listed_log.specs.declared.entry.Entry.{Entry}
+use Rattle.rip_listed_log.specs.declared.entry.Entry.TheVariants.{Ended}
 use Rattle.rip_server.specs.Opening.{opening_entries}
 use Rattle.rip_server.specs.Served.{reported, IsServed, Lives, session_entries}
 

@@ -2,10 +2,10 @@ use Rattle.std.specs.Prelude.{◌≡◌, ℕ, ◌+◌, ◌<◌, ◌≤◌, ◌^�
 use Rattle.std.specs.List.{AllByRecursion}
 use Rattle.rip_listed.specs.Batch.{IsBatch}
 use Rattle.rip_listed.specs.declared.batch.Batch.{Batch}
-use Rattle.rip_log.specs.declared.entry.Entry.{Entry}
-use Rattle.rip_log.specs.Range.{IsCallText}
-use Rattle.rip_log.specs.History.{IsHistory}
-use Rattle.rip_log.specs.Turns.{turn_of, IsInOrder}
+use Rattle.rip_listed_log.specs.declared.entry.Entry.{Entry}
+use Rattle.rip_listed_log.specs.Range.{IsCallText}
+use Rattle.rip_listed_log.specs.History.{IsHistory}
+use Rattle.rip_listed_log.specs.Turns.{turn_of, IsInOrder}
 use Rattle.rip_server.specs.Course.{Course}
 
 -- each trace has a legal course

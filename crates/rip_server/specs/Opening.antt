@@ -3,8 +3,8 @@ use Rattle.std.specs.Int.{to_be_bytes, w64}
 use Rattle.uuid.specs.Parts.{with_version, with_variant}
 use Rattle.uuid.specs.declared.Version.TheVariants.{Random}
 use Rattle.uuid.specs.declared.Variant.TheVariants.{RFC4122}
-use Rattle.rip_log.specs.declared.entry.Entry.{Entry}
-use Rattle.rip_log.specs.declared.entry.Entry.TheVariants.{Opened, Done}
+use Rattle.rip_listed_log.specs.declared.entry.Entry.{Entry}
+use Rattle.rip_listed_log.specs.declared.entry.Entry.TheVariants.{Opened, Done}
 
 -- the identifier of version 4 (RFC 9562, 5.4) whose 16 bytes are two words, big-endian, with version and variant set
 abbrev pub identifier : ℕ → ℕ → List ℕ

@@ -4,12 +4,12 @@ use Rattle.rip_listed.specs.Call.{call_text}
 use Rattle.rip_listed.specs.declared.batch.Item.{Item}
 use Rattle.rip_listed.specs.declared.batch.Item.TheVariants.{ReportedCall}
 use Rattle.rip_listed.specs.declared.batch.Batch.{Batch}
-use Rattle.rip_log.specs.declared.ending.Ending.{Ending}
-use Rattle.rip_log.specs.declared.ending.Ending.TheVariants.{Mismatch, Report}
-use Rattle.rip_log.specs.declared.ending.BadReport.TheVariants.{Number}
-use Rattle.rip_log.specs.declared.entry.Entry.{Entry}
-use Rattle.rip_log.specs.declared.entry.Entry.TheVariants.{Admitted, Served, Done}
-use Rattle.rip_log.specs.declared.entry.Reply.TheVariants.{Unknown}
+use Rattle.rip_listed_log.specs.declared.ending.Ending.{Ending}
+use Rattle.rip_listed_log.specs.declared.ending.Ending.TheVariants.{Mismatch, Report}
+use Rattle.rip_listed_log.specs.declared.ending.BadReport.TheVariants.{Number}
+use Rattle.rip_listed_log.specs.declared.entry.Entry.{Entry}
+use Rattle.rip_listed_log.specs.declared.entry.Entry.TheVariants.{Admitted, Served, Done}
+use Rattle.rip_listed_log.specs.declared.entry.Reply.TheVariants.{Unknown}
 
 -- a reported call: its number and its canonical text
 abbrev pub reported_call : Item → ℕ × List ℕ

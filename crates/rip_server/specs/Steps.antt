@@ -5,8 +5,8 @@ use Rattle.rip_listed.specs.Call.{call_text}
 use Rattle.rip_listed.specs.declared.batch.Item.{Item}
 use Rattle.rip_listed.specs.declared.batch.Item.TheVariants.{ReportedCall}
 use Rattle.rip_listed.specs.declared.batch.Batch.{Batch}
-use Rattle.rip_log.specs.declared.entry.Entry.{Entry}
-use Rattle.rip_log.specs.declared.entry.Entry.TheVariants.{Admitted, Done, Ended}
+use Rattle.rip_listed_log.specs.declared.entry.Entry.{Entry}
+use Rattle.rip_listed_log.specs.declared.entry.Entry.TheVariants.{Admitted, Done, Ended}
 use Rattle.rip_server.specs.Opening.{opening_entries}
 use Rattle.rip_server.specs.Served.{served_entry, ending_of}
 use Rattle.rip_server.specs.declared.session.Session.{Session}

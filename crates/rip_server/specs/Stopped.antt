@@ -1,7 +1,7 @@
 use Rattle.std.specs.Prelude.{◌≡◌, ℕ, List, Option}
 use Rattle.rip_outer.specs.Outside.{Rose, Front, also}
-use Rattle.rip_log.specs.History.{history_text}
-use Rattle.rip_log.specs.declared.entry.Entry.{Entry}
+use Rattle.rip_listed_log.specs.History.{history_text}
+use Rattle.rip_listed_log.specs.declared.entry.Entry.{Entry}
 use Rattle.rip_server.specs.declared.trace.Stop.{Stop}
 use Rattle.rip_server.specs.declared.trace.Stop.TheVariants.{Idle, Outside, Memory}
 

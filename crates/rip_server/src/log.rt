@@ -1,9 +1,9 @@
 ghost use Rattle.rip_outer.specs.Writing.{Takes, CountsPut};
-ghost use Rattle.rip_log.specs.Entry.{entry_text};
+ghost use Rattle.rip_listed_log.specs.Entry.{entry_text};
 ghost use Rattle.rip_server.specs.Served.{served_entry};
 
 use rip_listed::{Batch, Item};
-use rip_log::{
+use rip_listed_log::{
     Ending, Entry, Reply, write_admitted, write_done, write_ended, write_opened, write_served,
 };
 use rip_outer::{Sink, SinkError};

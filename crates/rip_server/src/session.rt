@@ -6,7 +6,7 @@ ghost use Rattle.rip_server.specs.Logged.{Logged};
 
 use crate::log::{Admission, put_admitted, put_done, put_served};
 use rip_listed::{Batch, Item};
-use rip_log::{BadReport, Ending};
+use rip_listed_log::{BadReport, Ending};
 use rip_outer::{Sink, SinkError};
 use rip_values::{Bytes, NoMemory, Writer};
 use std::alloc::Global;

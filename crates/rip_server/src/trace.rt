@@ -7,7 +7,7 @@ ghost use Rattle.rip_server.specs.Opening.{opening_entries};
 ghost use Rattle.rip_server.specs.Logged.{Logged};
 ghost use Rattle.rip_server.specs.Course.{Course};
 ghost use Rattle.rip_server.specs.Stopped.{Puts, CountsStop};
-ghost use Rattle.rip_log.specs.declared.entry.Entry.{Entry};
+ghost use Rattle.rip_listed_log.specs.declared.entry.Entry.{Entry};
 
 use crate::log::{Admission, put_done, put_end, put_opened};
 use crate::opening::identifier;

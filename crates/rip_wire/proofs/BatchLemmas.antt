@@ -10,7 +10,7 @@ use Rattle.rip_wire.specs.Items.{Reported, item_value, list_of, number_value, Is
 use Rattle.rip_wire.specs.Batches.{Contents, batch_value, IsBatch}
 use Rattle.rip_wire.proofs.ItemLemmas.{list_of-one}
 
-count_items : (items : List Reported) → length (map item_value items) ≡ length items
+pub count_items : (items : List Reported) → length (map item_value items) ≡ length items
 count_items [] = refl
 count_items (i ∷ items) = ap suc (count_items items)
 
@@ -36,7 +36,7 @@ items_same v n items b is other = same_items n items (number_value b.number) (li
 pub no_list : (v n items : Data) → v ≡ two n items → ((values : List Data) → items ≡ list_of values → ⊥) → (b : Contents) → IsBatch b → v ≡ batch_value b → ⊥
 no_list v n items is none b h other = none (map item_value b.items) (items_same v n items b is other)
 
-array_is : (d : Data) (vs : List Value) → Some (items_view vs) ≡ as_array d → d ≡ list_of (map view vs)
+pub array_is : (d : Data) (vs : List Value) → Some (items_view vs) ≡ as_array d → d ≡ list_of (map view vs)
 array_is null vs e = cc
 array_is (boolean b) vs e = cc
 array_is (Data.number n) vs e = cc
@@ -44,7 +44,7 @@ array_is (string s) vs e = cc
 array_is (array ds) vs e = cc
 array_is (object ms) vs e = cc
 
-count_views : (vs : List Value) → length (map view vs) ≡ length vs
+pub count_views : (vs : List Value) → length (map view vs) ≡ length vs
 count_views [] = refl
 count_views (v ∷ vs) = ap suc (count_views vs)
 

@@ -1,6 +1,7 @@
 pub mod BatchLemmas
 pub mod ItemLemmas
 pub mod LawLemmas
+pub mod PartLemmas
 pub mod SameLemmas
 pub mod TextLemmas
 pub mod TreeLemmas

@@ -118,7 +118,7 @@ elements_same (t ∷ a) (u ∷ b) e = ap₂ (λ x xs. x ∷ xs) (first_tree t u 
 same_array : (a b : Elements) → tree.array a ≡ tree.array b → a ≡ b
 same_array a b e = cc
 
-args_same : (a b : List Tree) → AreArgs a → AreArgs b → data_of (args_tree a) ≡ data_of (args_tree b) → a ≡ b
+pub args_same : (a b : List Tree) → AreArgs a → AreArgs b → data_of (args_tree a) ≡ data_of (args_tree b) → a ≡ b
 args_same a b h g e = elements_same a b (same_array (elements_of a) (elements_of b) (data_of-one (args_tree a) (args_tree b) h.are g.are e))
 
 pub item_same : (r s : Reported) → IsItem r → IsItem s → item_value r ≡ item_value s → r ≡ s
@@ -149,7 +149,7 @@ item_same (reply k) (reply l) h g e =
     let parts = same_values (string (codes "reply")) (string (codes "reply")) (reply_values k) (reply_values l) e in
     ap reply (same_number k l (head (number_value k) (number_value l) [] [] parts))
 
-items_same : (rs ss : List Reported) → AllByRecursion IsItem rs → AllByRecursion IsItem ss → map item_value rs ≡ map item_value ss → rs ≡ ss
+pub items_same : (rs ss : List Reported) → AllByRecursion IsItem rs → AllByRecursion IsItem ss → map item_value rs ≡ map item_value ss → rs ≡ ss
 items_same [] [] h g e = refl
 items_same [] (s ∷ ss) h g e = cc
 items_same (r ∷ rs) [] h g e = cc

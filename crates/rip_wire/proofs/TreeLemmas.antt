@@ -77,7 +77,7 @@ small_reason R.Closed = refl
 
 -- ---- trees
 
-abbrev list_tree : List Tree → Tree
+abbrev pub list_tree : List Tree → Tree
 list_tree ts = tree.array (elements_of ts)
 
 abbrev number_tree : ℕ → Tree
@@ -87,13 +87,13 @@ elements_data : (ts : List Tree) → tree.items_of (elements_of ts) ≡ items_of
 elements_data [] = refl
 elements_data (t ∷ ts) = ap (λ is. Rattle.serde_json.specs.Data.item (data_of t) is) (elements_data ts)
 
-list_data : (ts : List Tree) → data_of (list_tree ts) ≡ list_of (map data_of ts)
+pub list_data : (ts : List Tree) → data_of (list_tree ts) ≡ list_of (map data_of ts)
 list_data ts = ap array (elements_data ts)
 
-abbrev AllTrees : List Tree → Type 0
+abbrev pub AllTrees : List Tree → Type 0
 AllTrees ts = AllByRecursion IsDatum ts
 
-all_data : (ts : List Tree) → AllTrees ts → AreData (elements_of ts)
+pub all_data : (ts : List Tree) → AllTrees ts → AreData (elements_of ts)
 all_data [] h = tt
 all_data (t ∷ ts) h = (h.0, all_data ts h.1)
 
@@ -113,7 +113,7 @@ item_trees (event kind node text place) = tree.text (codes "event") ∷ tree.tex
 item_trees (call k name args) = tree.text (codes "call") ∷ number_tree k ∷ tree.text name ∷ args_tree args ∷ []
 item_trees (reply k) = tree.text (codes "reply") ∷ number_tree k ∷ []
 
-abbrev item_tree : Reported → Tree
+abbrev pub item_tree : Reported → Tree
 item_tree r = list_tree (item_trees r)
 
 detail_data : (text : Option (List ℕ)) (place : Option ℕ) → map data_of (text_trees text ++ place_trees place) ≡ detail_values text place
@@ -189,7 +189,7 @@ item_datum (reply k) h =
 abbrev pub batch_tree : Contents → Tree
 batch_tree b = tree.object (tree.field (codes "batch") (number_tree b.number) (tree.field (codes "items") (list_tree (map item_tree b.items)) tree.no_fields))
 
-items_data : (rs : List Reported) → map data_of (map item_tree rs) ≡ map item_value rs
+pub items_data : (rs : List Reported) → map data_of (map item_tree rs) ≡ map item_value rs
 items_data [] = refl
 items_data (r ∷ rs) = ap₂ (λ x xs. x ∷ xs) (item_data r) (items_data rs)
 
@@ -201,7 +201,7 @@ batch_data b =
     ap₂ (λ first second. object (member first (number_value b.number) (member second (data_of (list_tree (map item_tree b.items))) no_members))) (name_same (codes "batch") refl) (name_same (codes "items") refl)
     ∙ ap (λ is. object (member (codes "batch") (number_value b.number) (member (codes "items") is no_members))) (list_data (map item_tree b.items) ∙ ap list_of (items_data b.items))
 
-items_datum : (rs : List Reported) → AllByRecursion IsItem rs → AllTrees (map item_tree rs)
+pub items_datum : (rs : List Reported) → AllByRecursion IsItem rs → AllTrees (map item_tree rs)
 items_datum [] h = tt
 items_datum (r ∷ rs) h = (item_datum r h.0, items_datum rs h.1)
 
@@ -225,7 +225,7 @@ item_depth (event kind node text place) h = omega (arith, detail_depth text plac
 item_depth (call k name args) h = let low : depth (data_of (args_tree args)) ≤ 8 = h.2.shallow in omega (arith, low)
 item_depth (reply k) h = omega arith
 
-all_depth : (rs : List Reported) → AllByRecursion IsItem rs → items_depth (items_of (map item_value rs)) ≤ 9
+pub all_depth : (rs : List Reported) → AllByRecursion IsItem rs → items_depth (items_of (map item_value rs)) ≤ 9
 all_depth [] h = omega arith
 all_depth (r ∷ rs) h = omega (arith, item_depth r h.0, all_depth rs h.1)
 

@@ -29,7 +29,7 @@ number-utf8 (pos n) h = IsUtf8-from_ascii _ (IsAscii-decimal n (omega (arith, in
 number-utf8 (negsuc n) h = IsUtf8-from_ascii _ (IsAscii-signed (negsuc n) (omega (arith, ints, h.0)))
 
 mutual
-  tree-utf8 : (t : Tree) → IsDatum t → IsUtf8 (compact_text (data_of t))
+  pub tree-utf8 : (t : Tree) → IsDatum t → IsUtf8 (compact_text (data_of t))
   tree-utf8 tree.null h = IsUtf8-are_ascii _ refl
   tree-utf8 (tree.boolean b) h = IsUtf8-boolean b
   tree-utf8 (tree.number z) h = number-utf8 z h

@@ -30,6 +30,15 @@ pub record IsBatch (b : Contents) : Type 0 where
   pub few : length b.items ≤ 64
   pub items : AllByRecursion IsItem b.items
 
+-- items that a batch may have: at most 64, each in range
+pub record AreItems (items : List Reported) : Type 0 where
+  pub few : length items ≤ 64
+  pub each : AllByRecursion IsItem items
+
+-- their text: a list of them with no white space
+abbrev pub items_text : List Reported → List ℕ
+items_text items = compact_text (list_of (map item_value items))
+
 -- the body is JSON in UTF-8 of this batch, which is in range; members may stand in any order, and of a repeated one the last counts
 pub record Spells (body : List ℕ) (b : Contents) : Type 0 where
   pub in_range : IsBatch b

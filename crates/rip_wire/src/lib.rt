@@ -11,6 +11,8 @@
 //! | [`Answer`] | `Answers.said_of`, what it says; `Answers.IsAnswer`, when it is in range |
 //! | [`write_answer`] | `Answers.answer_text`, its JSON with no white space |
 //! | [`Ending::reason`], [`Reason::word`] | the tables `Reasons.reason_of` and `Reasons.reason_word` |
+//! | [`write_item_list`], [`read_item_list`] | `Batches.items_text`, the items alone; `Batches.AreItems`, when they are in range |
+//! | [`write_call`], [`read_call`] | `Calls.call_text`, the canonical text of `[NAME,ARGS]` |
 //! | [`is_name`] | `Names.IsName` |
 //!
 //! A layer above may rest on this: a body is read exactly where it spells a batch in range, and as that batch alone
@@ -28,6 +30,7 @@ mod item;
 mod items;
 mod laws;
 mod name;
+mod parts;
 mod read;
 #[cfg(test)]
 mod tests;
@@ -45,5 +48,6 @@ pub use laws::{
     written_is_read,
 };
 pub use name::is_name;
+pub use parts::{Call, read_call, read_item_list, write_call, write_item_list};
 pub use read::read_batch;
 pub use write::write_batch;

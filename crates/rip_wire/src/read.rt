@@ -1,7 +1,8 @@
-ghost use Rattle.std.specs.Prelude.{◌≡◌, ◌≢◌, ◌≤◌, ◌<◌, ◌^◌, ℕ, List as Items, map, codes, IfSome, IfNone, IfOk, IsErrOf};
+ghost use Rattle.std.specs.Prelude.{◌≡◌, ◌≢◌, ◌≤◌, ◌<◌, ◌^◌, ℕ, List as Items, Some, None, map, codes, IfSome, IfNone, IfOk, IsErrOf};
 ghost use Rattle.std.specs.List.{AllByRecursion};
 ghost use Rattle.serde_json.specs.Data.{Data, object, member, no_members};
 ghost use Rattle.serde_json.specs.View.{view};
+ghost use Rattle.rip_data.specs.Reading.{value_of};
 ghost use Rattle.rip_wire.specs.Items.{Reported, reported_of, item_value, number_value, IsItem};
 ghost use Rattle.rip_wire.specs.Batches.{Contents, contents_of, batch_value, IsBatch, Spells, SpellsNone};
 
@@ -21,8 +22,17 @@ pub fn read_batch(alloc: Global, body: &[u8]) -> Result<Batch, WireError>
     ensures ok { IfOk result (λ b. Spells body.now (contents_of b)) }
     ensures body { IsErrOf result WireError.Body → SpellsNone body.now }
 {
-    match read_value(alloc, body) {
-        Ok(value) => batch_of(alloc, &value),
+    let value = value_in(alloc, body)?;
+    batch_of(alloc, &value)
+}
+
+// The value that the text is, as JSON in UTF-8.
+pub(crate) fn value_in(alloc: Global, text: &[u8]) -> Result<Value, WireError>
+    ensures found { IfOk result (λ v. value_of text.now ≡ Some (view v)) }
+    ensures body { IsErrOf result WireError.Body → value_of text.now ≡ None }
+{
+    match read_value(alloc, text) {
+        Ok(value) => Ok(value),
         Err(DataError::Memory) => Err(WireError::Memory),
         Err(_) => Err(WireError::Body),
     }
@@ -92,7 +102,7 @@ fn batch_number(value: &Value) -> Option<u64>
 
 // The items that the values are.
 #[tactic(auto, using(crate::proofs::BatchLemmas::no_item_at))]
-fn items_of(alloc: Global, values: &[Value]) -> Result<ItemList, WireError>
+pub(crate) fn items_of(alloc: Global, values: &[Value]) -> Result<ItemList, WireError>
     ensures found { IfOk result
         (λ items. map view values.now ≡ map item_value (map reported_of items)) }
     ensures in_range { IfOk result (λ items. AllByRecursion IsItem (map reported_of items)) }

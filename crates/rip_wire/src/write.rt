@@ -35,7 +35,7 @@ fn write_value(b: &Batch, out: &mut Writer, alloc: Global) -> Result<(), AllocEr
 }
 
 // The items and the closing bracket.
-fn write_items(items: &[Item], out: &mut Writer, alloc: Global) -> Result<(), AllocError>
+pub(crate) fn write_items(items: &[Item], out: &mut Writer, alloc: Global) -> Result<(), AllocError>
     ensures tokens { OnOk result
         (out.new.tokens ≡ out.old.tokens ++ closed (map item_value (map reported_of items.now))) }
     ensures before { out.new.before ≡ out.old.before }
@@ -98,7 +98,7 @@ fn write_detail(
     }
 }
 
-fn write_text(text: &Units, out: &mut Writer, alloc: Global) -> Result<(), AllocError>
+pub(crate) fn write_text(text: &Units, out: &mut Writer, alloc: Global) -> Result<(), AllocError>
     ensures tokens { OnOk result
         (out.new.tokens ≡ out.old.tokens ++ tokens_of (text_value text.now)) }
     ensures before { out.new.before ≡ out.old.before }

@@ -1,5 +1,5 @@
 use Rattle.std.proofs.Common.{Err, ap, inr}
-use Rattle.rip_log.specs.History.{history_text}
+use Rattle.rip_listed_log.specs.History.{history_text}
 use Rattle.rip_cli.specs.Steps.{AcceptsCalls, AcceptsTrace}
 use Rattle.rip_cli.proofs.SettleLemmas.{all_batches, log_in_range, replay_settles, trace_refused}
 use Rattle.rip_cli.proofs.top.settle_replay.Goals as goal

@@ -1,7 +1,7 @@
 use Rattle.std.proofs.Common.{◌≡◌, take, drop}
 use Rattle.std.specs.List.{AllByRecursion}
 use Rattle.rip_outer.specs.Outside.{also}
-use Rattle.rip_log.specs.History.{history_text}
+use Rattle.rip_listed_log.specs.History.{history_text}
 use Rattle.rip_listed.specs.Batch.{IsBatch}
 use Rattle.rip_server.specs.Steps.{run_entries, opened}
 use Rattle.rip_server.proofs.trace.log_batches.Given as goal

@@ -1,6 +1,6 @@
 use Rattle.std.proofs.Common.{[], ◌∷◌, refl}
 use Rattle.std.specs.Prelude.{None, Ok}
-use Rattle.rip_log.specs.declared.entry.Entry.TheVariants.{Opened, Done}
+use Rattle.rip_listed_log.specs.declared.entry.Entry.TheVariants.{Opened, Done}
 use Rattle.rip_server.specs.Opening.{identifier}
 use Rattle.rip_server.proofs.LoggedLemmas.{logged_cut, logged_last, takes_one}
 use Rattle.rip_outer.proofs.Composing.{also-nil}

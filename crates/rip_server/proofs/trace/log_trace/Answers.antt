@@ -1,5 +1,5 @@
 use Rattle.std.proofs.Common.{◌+◌, [], ◌∷◌, ◌++◌, length, refl}
-use Rattle.rip_log.specs.declared.entry.Entry.TheVariants.{Ended}
+use Rattle.rip_listed_log.specs.declared.entry.Entry.TheVariants.{Ended}
 use Rattle.rip_server.specs.Opening.{opening_entries}
 use Rattle.rip_server.specs.Steps.{run_entries, opened}
 use Rattle.rip_server.proofs.LoggedLemmas.{logged_part, logged_last, logged_then}

@@ -1,5 +1,5 @@
 use Rattle.std.proofs.Common.{◌≡◌, true, [], ◌∷◌, rules}
-use Rattle.rip_log.specs.declared.entry.Entry.TheVariants.{Admitted}
+use Rattle.rip_listed_log.specs.declared.entry.Entry.TheVariants.{Admitted}
 use Rattle.rip_server.specs.Steps.{admits, item_entries}
 use Rattle.rip_server.proofs.LoggedLemmas.{logged_cut, logged_rest, takes_one}
 use Rattle.rip_outer.proofs.Composing.{also-nil}

@@ -1,7 +1,7 @@
 use Rattle.std.proofs.Common.{◌≡◌, ◌+◌, [], ◌∷◌, ◌++◌, map, take, drop, sym, ap, ◌∙◌, arith, rules, append_assoc}
 use Rattle.std.specs.Prelude.{Some, None, Ok}
 use Rattle.std.proofs.lemmas.List.{drop_all, map_push}
-use Rattle.rip_log.specs.declared.entry.Entry.TheVariants.{Done}
+use Rattle.rip_listed_log.specs.declared.entry.Entry.TheVariants.{Done}
 use Rattle.rip_server.specs.Served.{served_entry}
 use Rattle.rip_server.specs.Steps.{item_entries}
 use Rattle.rip_server.proofs.LoggedLemmas.{logged_last, logged_cut}

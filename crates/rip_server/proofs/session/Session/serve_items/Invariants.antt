@@ -1,6 +1,6 @@
 use Rattle.std.proofs.Common.{◌≡◌, ◌+◌, ◌++◌, take, drop, map}
 use Rattle.rip_outer.specs.Outside.{also}
-use Rattle.rip_log.specs.History.{history_text}
+use Rattle.rip_listed_log.specs.History.{history_text}
 use Rattle.rip_server.specs.Served.{served_entry}
 use Rattle.rip_server.specs.Steps.{item_entries, after_items}
 use Rattle.rip_server.proofs.session.Session.serve_items.Given as goal
