@@ -1,6 +1,6 @@
 //! From what is told of a script to its tree.
 
-ghost use Rattle.std.specs.Prelude.{◌≡◌, ◌^◌, ◌<◌, ◌+◌, ◌∷◌, [], List, length, reverse, min, IfOk, IfErr, IfSome};
+ghost use Rattle.std.specs.Prelude.{◌≡◌, ◌+◌, ◌∷◌, [], List, reverse, min, IfOk, IfErr, IfSome};
 ghost use Rattle.rip_lexer.specs.Tokens.{IsTokens};
 ghost use Rattle.rip_grammar.specs.Depths.{depth};
 ghost use Rattle.rip_grammar.specs.Events.{emit};
@@ -23,7 +23,6 @@ pub(crate) fn build(
     tokens: &[Token],
     events: &[Event],
 ) -> Result<Built, BuildError>
-    requires short { length script.now < 2 ^ 32 }
     requires tokens { IsTokens script.now tokens.now }
     ensures shown { (body : Phrase) → IsBody script.now tokens.now body → reverse events.now ≡ emit body [] → IfOk result (λ built. ShowsScript script.now built.tree body) }
     ensures deep { (body : Phrase) → IsBody script.now tokens.now body → reverse events.now ≡ emit body [] → IfOk result (λ built. built.depth ≡ min (depth body) 201) }

@@ -1,4 +1,4 @@
-ghost use Rattle.std.specs.Prelude.{◌≡◌, ◌+◌, ◌++◌, ◌∷◌, [], ◌<◌, ◌≤◌, ◌^◌, ℕ, List, length, All, IfOk, IfErr, OnOk, OnErr, true};
+ghost use Rattle.std.specs.Prelude.{◌≡◌, ◌+◌, ◌++◌, ◌∷◌, [], ◌<◌, ◌≤◌, ℕ, List, length, All, IfOk, IfErr, OnOk, OnErr, true};
 ghost use Rattle.rip_lexer.specs.Tokens.{IsTokenOf};
 ghost use Rattle.rip_tree.specs.Branches.{AreBetween};
 ghost use Rattle.rip_tree.specs.Making.{with_units};
@@ -47,7 +47,6 @@ impl Model for Builder {
 impl Builder {
     /// Nothing is made yet of a tree of so many nodes.
     pub fn new(alloc: Global, script: &[u16], total: u32) -> Result<Builder, NoMemory>
-        requires { length script.now < 2 ^ 32 }
         ensures { IfOk result (λ builder. builder ≡ beginning script.now total) }
     {
         Ok(Builder {

@@ -8,7 +8,8 @@ ghost use Rattle.rip_parser.specs.Running.{Reduces, Takes, ending, others};
 use crate::grammar::{
     binds, closed, enclosed, is_assignment, is_inserted_behind, may_end, pending_level, told,
 };
-use crate::machine::{Machine, joined, node_at, node_behind};
+use crate::levels::{ASSIGNMENT, COMMA, OR, POSTFIX};
+use crate::machine::{Machine, node_at, node_behind, one_more};
 use rip_grammar::{Event, Frame, Head, Header, Invocation, Lexeme, Mode, Pending, Shape, Word};
 use rip_values::{BinaryOperator, NoMemory};
 
@@ -59,7 +60,7 @@ impl Machine {
     fn leave(&mut self, shape: Shape, lexeme: Lexeme) -> Result<bool, NoMemory>
         ensures { IfOk result (λ taken. Takes taken self.new (leave shape self.old.stack self.old.events lexeme)) }
     {
-        match self.reduce(1, shape)? {
+        match self.reduce(COMMA, shape)? {
             Some(shape) => self.close(shape, lexeme),
             None => Ok(false),
         }
@@ -90,7 +91,7 @@ impl Machine {
     fn separate(&mut self, shape: Shape, lexeme: Lexeme) -> Result<bool, NoMemory>
         ensures { IfOk result (λ taken. Takes taken self.new (separate shape self.old.stack self.old.events lexeme)) }
     {
-        if self.top_floor() <= 1 {
+        if self.top_floor() <= COMMA {
             self.operator_begins(lexeme.word)
         } else {
             self.close(shape, lexeme)
@@ -101,7 +102,7 @@ impl Machine {
     fn comma(&mut self, shape: Shape, lexeme: Lexeme) -> Result<bool, NoMemory>
         ensures { IfOk result (λ taken. Takes taken self.new (comma shape self.old.stack self.old.events lexeme)) }
     {
-        match self.reduce(1, shape)? {
+        match self.reduce(COMMA, shape)? {
             Some(shape) => self.separate(shape, lexeme),
             None => Ok(false),
         }
@@ -111,7 +112,7 @@ impl Machine {
     fn assign(&mut self, shape: Shape, lexeme: Lexeme) -> Result<bool, NoMemory>
         ensures { IfOk result (λ taken. Takes taken self.new (assign shape self.old.stack self.old.events lexeme)) }
     {
-        if matches!(shape, Shape::Target) && self.top_floor() <= 2 {
+        if matches!(shape, Shape::Target) && self.top_floor() <= ASSIGNMENT {
             let bars = self.top_bars();
             let pending = Pending::Assignment(lexeme.word);
             self.open(Frame::Operator(pending, bars), Mode::Operand)
@@ -124,7 +125,7 @@ impl Machine {
     fn question(&mut self, shape: Shape) -> Result<bool, NoMemory>
         ensures { IfOk result (λ taken. Takes taken self.new (question shape self.old.stack self.old.events)) }
     {
-        match self.reduce(4, shape)? {
+        match self.reduce(OR, shape)? {
             Some(_) => self.open(Frame::Test, Mode::Operand),
             None => Ok(false),
         }
@@ -148,7 +149,7 @@ impl Machine {
     fn postfix(&mut self, shape: Shape, lexeme: Lexeme) -> Result<bool, NoMemory>
         ensures { IfOk result (λ taken. Takes taken self.new (postfix shape self.old.stack self.old.events lexeme)) }
     {
-        if matches!(shape, Shape::Target) && self.top_floor() <= 15 {
+        if matches!(shape, Shape::Target) && self.top_floor() <= POSTFIX {
             self.end(
                 node_behind(Head::Postfix(lexeme.word), 1),
                 Mode::After(Shape::Postfix),
@@ -216,15 +217,15 @@ impl Machine {
             Some(Frame::Parenthesis(place)) => self.parenthesis_by(lexeme.word, place, shape),
             Some(Frame::Index) => self.index_by(lexeme.word),
             Some(Frame::Arguments(invocation, count)) => {
-                let count = joined(count, 1)?;
+                let count = one_more(count)?;
                 self.arguments_by(lexeme.word, invocation, count)
             }
             Some(Frame::Elements(place, count)) => {
-                let count = joined(count, 1)?;
+                let count = one_more(count)?;
                 self.elements_by(lexeme.word, place, count)
             }
             Some(Frame::Entry(place, count, key)) => {
-                let count = joined(count, 1)?;
+                let count = one_more(count)?;
                 self.tell(node_at(key.start, Head::Entry(key), 1))?;
                 self.entries_by(lexeme.word, place, count)
             }

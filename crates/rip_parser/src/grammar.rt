@@ -6,6 +6,10 @@ ghost use Rattle.rip_grammar.specs.Levels.{binds, operator_level};
 ghost use Rattle.rip_grammar.specs.Semicolons.{continues, continues_name, continues_nothing, is_inserted};
 ghost use Rattle.rip_grammar.specs.Frames.{bars_in, closed, enclosed, floor, may_end, pending_floor, pending_level, single_shape, told};
 
+use crate::levels::{
+    AND, ASSIGNMENT, BIT_AND, BIT_OR, BIT_XOR, CALL, COMMA, CONDITIONAL, EQUALITY, NEW, OR, PREFIX,
+    PRODUCT, RELATION, SHIFT, SUM,
+};
 use rip_grammar::{Event, Frame, Head, Lexeme, Pending, Shape, VarRole, Word};
 use rip_values::{BinaryOperator, LogicalOperator, UnaryOperator};
 
@@ -95,24 +99,24 @@ fn operator_level(operator: BinaryOperator) -> u32
     ensures { result ≡ operator_level operator }
 {
     match operator {
-        BinaryOperator::Multiply | BinaryOperator::Divide | BinaryOperator::Remainder => 13,
-        BinaryOperator::Add | BinaryOperator::Subtract => 12,
+        BinaryOperator::Multiply | BinaryOperator::Divide | BinaryOperator::Remainder => PRODUCT,
+        BinaryOperator::Add | BinaryOperator::Subtract => SUM,
         BinaryOperator::ShiftLeft
         | BinaryOperator::ShiftRight
-        | BinaryOperator::ShiftRightUnsigned => 11,
+        | BinaryOperator::ShiftRightUnsigned => SHIFT,
         BinaryOperator::Less
         | BinaryOperator::Greater
         | BinaryOperator::LessOrEqual
         | BinaryOperator::GreaterOrEqual
         | BinaryOperator::InstanceOf
-        | BinaryOperator::In => 10,
+        | BinaryOperator::In => RELATION,
         BinaryOperator::Equal
         | BinaryOperator::NotEqual
         | BinaryOperator::StrictEqual
-        | BinaryOperator::StrictNotEqual => 9,
-        BinaryOperator::BitAnd => 8,
-        BinaryOperator::BitXor => 7,
-        BinaryOperator::BitOr => 6,
+        | BinaryOperator::StrictNotEqual => EQUALITY,
+        BinaryOperator::BitAnd => BIT_AND,
+        BinaryOperator::BitXor => BIT_XOR,
+        BinaryOperator::BitOr => BIT_OR,
     }
 }
 
@@ -122,9 +126,9 @@ pub(crate) fn binds(word: Word) -> u32
 {
     match word {
         Word::Infix(operator) => operator_level(operator),
-        Word::Logical(LogicalOperator::And) => 5,
-        Word::Logical(LogicalOperator::Or) => 4,
-        Word::Comma => 1,
+        Word::Logical(LogicalOperator::And) => AND,
+        Word::Logical(LogicalOperator::Or) => OR,
+        Word::Comma => COMMA,
         _ => 0,
     }
 }
@@ -217,10 +221,10 @@ pub(crate) fn pending_level(pending: Pending) -> u32
 {
     match pending {
         Pending::Infix(word) => binds(word),
-        Pending::Prefix(_, _) => 14,
-        Pending::New(_) => 16,
-        Pending::Assignment(_) => 2,
-        Pending::Choice => 3,
+        Pending::Prefix(_, _) => PREFIX,
+        Pending::New(_) => NEW,
+        Pending::Assignment(_) => ASSIGNMENT,
+        Pending::Choice => CONDITIONAL,
     }
 }
 
@@ -230,9 +234,9 @@ fn pending_floor(pending: Pending) -> u32
 {
     match pending {
         Pending::Infix(word) => binds(word) + 1,
-        Pending::Prefix(_, word) => { if is_step(word) { 17 } else { 14 } }
-        Pending::New(_) => 16,
-        Pending::Assignment(_) | Pending::Choice => 2,
+        Pending::Prefix(_, word) => { if is_step(word) { CALL } else { PREFIX } }
+        Pending::New(_) => NEW,
+        Pending::Assignment(_) | Pending::Choice => ASSIGNMENT,
     }
 }
 
@@ -275,8 +279,8 @@ pub(crate) fn floor(frame: Frame) -> u32
         | Frame::ForInit(_)
         | Frame::ForTest(_)
         | Frame::ForUpdate(_)
-        | Frame::Case(_) => 1,
-        _ => 2,
+        | Frame::Case(_) => COMMA,
+        _ => ASSIGNMENT,
     }
 }
 

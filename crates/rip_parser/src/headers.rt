@@ -5,7 +5,7 @@ ghost use Rattle.rip_grammar.specs.Headers.{after_name, declarator_name, declara
 ghost use Rattle.rip_parser.specs.Running.{Takes};
 
 use crate::grammar::{is_inserted, is_inserted_behind_name};
-use crate::machine::{Machine, joined, node_at};
+use crate::machine::{Machine, node_at, one_more};
 use rip_grammar::{Event, Frame, Head, Lexeme, Mode, VarRole, Word};
 use rip_values::NoMemory;
 
@@ -52,7 +52,7 @@ impl Machine {
     {
         match self.pop() {
             Some(Frame::Declarators(role, place, count)) => {
-                let count = joined(count, 1)?;
+                let count = one_more(count)?;
                 match lexeme.word {
                     Word::Comma => {
                         self.open(Frame::Declarators(role, place, count), Mode::DeclaratorName)

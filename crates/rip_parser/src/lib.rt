@@ -34,6 +34,7 @@ mod forms;
 mod grammar;
 mod headers;
 mod laws;
+mod levels;
 mod literal;
 mod machine;
 mod operands;

@@ -7,6 +7,7 @@ ghost use Rattle.rip_grammar.specs.Events.{node_at, node_behind};
 ghost use Rattle.rip_parser.specs.Running.{Course, Takes, first, others};
 
 use crate::grammar::{bars_in, floor};
+use crate::levels::ASSIGNMENT;
 use rip_grammar::{Event, Frame, Head, Mode};
 use rip_values::NoMemory;
 use std::alloc::Global;
@@ -30,13 +31,20 @@ impl Model for Machine {
 }
 
 /// The sum of two counts. More than 32 bits can count are refused as want of memory.
-pub(crate) fn joined(first: u32, second: u32) -> Result<u32, NoMemory>
+pub(crate) fn sum_of_counts(first: u32, second: u32) -> Result<u32, NoMemory>
     ensures { IfOk result (λ sum. sum ≡ first + second) }
 {
     match first.checked_add(second) {
         Some(sum) => Ok(sum),
         None => Err(NoMemory),
     }
+}
+
+/// A count of one more. More than 32 bits can count are refused as want of memory.
+pub(crate) fn one_more(count: u32) -> Result<u32, NoMemory>
+    ensures { IfOk result (λ more. more ≡ count + 1) }
+{
+    sum_of_counts(count, 1)
 }
 
 impl Machine {
@@ -85,7 +93,7 @@ impl Machine {
     {
         match self.top() {
             Some(frame) => floor(frame),
-            None => 2,
+            None => ASSIGNMENT,
         }
     }
 

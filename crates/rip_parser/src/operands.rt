@@ -5,7 +5,8 @@ ghost use Rattle.rip_grammar.specs.Operands.{after_parameter, argument, argument
 ghost use Rattle.rip_parser.specs.Running.{Takes};
 
 use crate::grammar::{is_identifier_name, is_key, is_prefix, is_single, single_shape};
-use crate::machine::{Machine, joined, node_at, node_behind};
+use crate::levels::PREFIX;
+use crate::machine::{Machine, node_at, node_behind, one_more, sum_of_counts};
 use rip_grammar::{Frame, Head, Invocation, Lexeme, Mode, Owner, Pending, Shape, Word};
 use rip_values::NoMemory;
 
@@ -30,7 +31,7 @@ impl Machine {
     fn prefix(&mut self, lexeme: Lexeme) -> Result<bool, NoMemory>
         ensures { IfOk result (λ taken. Takes taken self.new (prefix self.old.stack self.old.events lexeme)) }
     {
-        if self.top_floor() <= 14 {
+        if self.top_floor() <= PREFIX {
             let bars = self.top_bars();
             let pending = Pending::Prefix(lexeme.start, lexeme.word);
             self.open(Frame::Operator(pending, bars), Mode::Operand)
@@ -79,7 +80,7 @@ impl Machine {
     ) -> Result<bool, NoMemory>
         ensures { IfOk result (λ taken. Takes taken self.new (arguments_end invocation count self.old.stack self.old.events)) }
     {
-        let parts = joined(1, count)?;
+        let parts = sum_of_counts(1, count)?;
         let event = match invocation {
             Invocation::Call => node_behind(Head::Call, parts),
             Invocation::New(place) => node_at(place, Head::New, parts),
@@ -227,7 +228,7 @@ impl Machine {
     {
         match self.pop() {
             Some(Frame::Parameters(owner, count)) => {
-                self.push(Frame::Parameters(owner, joined(count, 1)?))?;
+                self.push(Frame::Parameters(owner, one_more(count)?))?;
                 self.end(
                     node_at(lexeme.start, Head::Parameter(lexeme), 0),
                     Mode::AfterParameter,

@@ -1,4 +1,4 @@
-ghost use Rattle.std.specs.Prelude.{◌≡◌, ◌^◌, ◌<◌, length, IfOk, IfErr};
+ghost use Rattle.std.specs.Prelude.{IfOk, IfErr};
 ghost use Rattle.rip_lexer.specs.Tokens.{IsTokens};
 ghost use Rattle.rip_grammar.specs.Phrases.{Phrase};
 ghost use Rattle.rip_parser.specs.Parsed.{HasTree, IsBody, IsRefused, IsShallow, IsTooDeep};
@@ -15,9 +15,9 @@ use rip_lexer::Token;
 use rip_tree::Tree;
 use std::alloc::Global;
 
-/// The tree of a script, of which these are the tokens (ECMA-262 11 to 14), or why it has none.
+/// The tree of a script, of which these are the tokens (ECMA-262 11 to 14), or why it has none. A script whose places
+/// 32 bits cannot count is answered with want of memory.
 pub fn parse(alloc: Global, text: &[u16], tokens: &[Token]) -> Result<Tree, ParseRefusal>
-    requires short { length text.now < 2 ^ 32 }
     requires tokens { IsTokens text.now tokens.now }
 
     // What is answered is so: the tree of a phrase that is not too deep, or the first lexeme with which no script goes on,

@@ -1,4 +1,4 @@
-ghost use Rattle.std.specs.Prelude.{◌≡◌, ◌+◌, ◌^◌, ◌<◌, length, map, IfOk};
+ghost use Rattle.std.specs.Prelude.{◌≡◌, ◌+◌, length, map, IfOk};
 ghost use Rattle.std.specs.Str.{bytes_eq};
 ghost use Rattle.rip_lexer.specs.Tokens.{units_of};
 ghost use Rattle.rip_parser.specs.View.{of_length};
@@ -14,11 +14,14 @@ use rip_lexer::{Token, TokenKind};
 use rip_values::{BinaryOperator, List, LogicalOperator, NoMemory, StepOperator, UnaryOperator};
 use std::alloc::{AllocError, Global};
 
-/// The lexemes of a script: its tokens with their words, and the end behind them (ECMA-262 7.5 to 7.8).
+/// The lexemes of a script: its tokens with their words, and the end behind them (ECMA-262 7.5 to 7.8). A script whose
+/// places 32 bits cannot count is refused as want of memory.
 pub fn lexemes(alloc: Global, script: &[u16], tokens: &[Token]) -> Result<List<Lexeme>, NoMemory>
-    requires { length script.now < 2 ^ 32 }
     ensures { IfOk result (λ lexemes. lexemes ≡ lexemes_of script.now tokens.now) }
 {
+    if script.len() > u32::MAX as usize {
+        return Err(NoMemory);
+    }
     let mut lexemes = read(alloc, script, tokens)?;
     lexemes.push(Lexeme {
         word: Word::End,

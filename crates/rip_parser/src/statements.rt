@@ -6,7 +6,7 @@ ghost use Rattle.rip_parser.specs.Running.{Takes};
 ghost use Rattle.rip_parser.specs.Endings.{Ends};
 
 use crate::grammar::is_inserted;
-use crate::machine::{Machine, joined, node_at};
+use crate::machine::{Machine, node_at, one_more, sum_of_counts};
 use rip_grammar::{Event, Frame, Head, Header, Lexeme, Mode, Owner, Shape, VarRole, Word};
 use rip_values::NoMemory;
 
@@ -43,7 +43,7 @@ impl Machine {
                 self.open(Frame::Default(lexeme.start, 0), Mode::DefaultColon)
             }
             Word::CloseBrace => {
-                let parts = joined(1, count)?;
+                let parts = sum_of_counts(1, count)?;
                 self.end(node_at(place, Head::Switch, parts), Mode::Ended)
             }
             _ => Ok(false),
@@ -68,7 +68,7 @@ impl Machine {
     {
         match self.pop() {
             Some(Frame::Switch(place, count, default)) => {
-                let clauses = joined(count, 1)?;
+                let clauses = one_more(count)?;
                 self.clause_by(place, clauses, default, lexeme)
             }
             _ => Ok(false),
@@ -79,7 +79,7 @@ impl Machine {
     fn case_ends(&mut self, place: u32, count: u32, lexeme: Lexeme) -> Result<bool, NoMemory>
         ensures { IfOk result (λ taken. Takes taken self.new (clause_ends (Frame.CaseBody place count ∷ self.old.stack) self.old.events lexeme)) }
     {
-        let parts = joined(1, count)?;
+        let parts = sum_of_counts(1, count)?;
         self.tell(node_at(place, Head::Case, parts))?;
         self.clause_told(lexeme)
     }
@@ -107,7 +107,7 @@ impl Machine {
     fn function_ends(&mut self, owner: Owner, parameters: u32, count: u32) -> Result<bool, NoMemory>
         ensures { IfOk result (λ taken. Takes taken self.new (function_ends owner parameters count self.old.stack self.old.events)) }
     {
-        let parts = joined(parameters, count)?;
+        let parts = sum_of_counts(parameters, count)?;
         match owner {
             Owner::Expression(place, name) => {
                 let head = Head::Function(name, parameters);
@@ -250,19 +250,19 @@ impl Machine {
             Some(Frame::Try(place)) => Ok(Ending::Done(self.try_ended(place, lexeme)?)),
             Some(Frame::Script) => self.list_goes_on(Frame::Script, lexeme),
             Some(Frame::Block(place, count)) => {
-                let count = joined(count, 1)?;
+                let count = one_more(count)?;
                 self.list_goes_on(Frame::Block(place, count), lexeme)
             }
             Some(Frame::Body(owner, parameters, count)) => {
-                let count = joined(count, 1)?;
+                let count = one_more(count)?;
                 self.list_goes_on(Frame::Body(owner, parameters, count), lexeme)
             }
             Some(Frame::CaseBody(place, count)) => {
-                let count = joined(count, 1)?;
+                let count = one_more(count)?;
                 self.list_goes_on(Frame::CaseBody(place, count), lexeme)
             }
             Some(Frame::Default(place, count)) => {
-                let count = joined(count, 1)?;
+                let count = one_more(count)?;
                 self.list_goes_on(Frame::Default(place, count), lexeme)
             }
             _ => Ok(Ending::Done(false)),
