@@ -2,5 +2,6 @@ mod Chains
 mod Climbs
 mod Finds
 mod LawLemmas
+mod LeftLemmas
 mod Pushed
 mod Steps

@@ -1,12 +1,12 @@
 -- Laws of flows, in words that no step uses: what the calls of a whole flow are, whatever is done to the document and to
 -- the listeners between them.
-use Rattle.std.specs.Prelude.{◌≡◌, ℕ, ◌<◌, ◌≤◌, ◌⊎◌, Bool, true, Option, None, Some, List, [], ◌∷◌, length, All, AllPairs}
+use Rattle.std.specs.Prelude.{◌≡◌, ℕ, ◌<◌, ◌≤◌, ◌⊎◌, Bool, true, false, Option, None, Some, List, [], ◌∷◌, ◌++◌, length, All, AllPairs}
 use Rattle.rip_values.specs.declared.value.Span.{Span}
 use Rattle.rip_values.specs.Pool.{Texts}
 use Rattle.rip_dom.specs.Tree.{Tree}
 use Rattle.rip_events.specs.declared.station.Station.{Station}
 use Rattle.rip_events.specs.declared.station.Place.{Place}
-use Rattle.rip_events.specs.Listed.{Listed, listener_at, stands_at, is_wanted}
+use Rattle.rip_events.specs.Listed.{Listed, listener_at, stands_at, is_wanted, fits}
 use Rattle.rip_events.specs.Flow.{Course, begun, next_call, wanted_at, number_of}
 
 -- what a flow finds where it goes on: the texts, the listeners, and whether it was stopped
@@ -88,3 +88,21 @@ abbrev pub StoppedGoNoFurther : Type 0
 StoppedGoNoFurther =
     (c : Course) (ms : List Moment) → All (λ (m : Moment). m.stopped ≡ true) ms
     → All (λ (x : Called). Some (station_of x.call) ≡ c.here) (calls_of c ms)
+
+-- the flow calls a listener next, of which and of the flow behind it this is so
+abbrev pub CallsNext : Moment → Course → (Place → Course → Type 0) → Type 0
+CallsNext m c P = (p : Place) × (((go_on m c).0 ≡ Some p) × P p (go_on m c).1)
+
+-- the next call is not behind this listener at the station with these stations behind it: it is at an earlier station,
+-- or at this one and of this listener or an earlier one
+abbrev pub IsNotPast : List Station → ℕ → Place → Course → Type 0
+IsNotPast behind n p d = (length behind < length d.ahead) ⊎ ((d.ahead ≡ behind) × (p.listener ≤ n))
+
+-- no listener is left out: one that was there when the station at hand was reached, stands and has not had its turn, is
+-- called next, or one before it is; and so is one that stands at a station ahead, unless the flow was stopped
+abbrev pub NoneIsLeftOut : Type 0
+NoneIsLeftOut =
+    (m : Moment) (c : Course) (s : Station) (n : ℕ) → fits m.pool (wanted_at c.kind s) m.listeners n ≡ true
+    → (c.here ≡ Some s → c.next ≤ n → n < c.mark → CallsNext m c (IsNotPast c.ahead n))
+    × ((before behind : List Station) → c.ahead ≡ before ++ s ∷ behind → m.stopped ≡ false → n < registrations m
+    → CallsNext m c (IsNotPast behind n))

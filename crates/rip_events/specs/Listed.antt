@@ -1,5 +1,5 @@
 -- The listeners of a session (DOM Level 2 Events 1.3.1), as one list of all that were ever registered.
-use Rattle.std.specs.Prelude.{◌≡◌, ℕ, zero, suc, Bool, true, false, not, ◌-◌, ◌<◌, ◌==◌, ◌&&◌, if◌then◌else◌, Option, None, Some, Result, Ok, Err, List, [], ◌∷◌, ◌++◌, length, slice_index_or, slice_set}
+use Rattle.std.specs.Prelude.{◌≡◌, ℕ, zero, suc, Bool, true, false, not, ◌-◌, ◌<◌, ◌==◌, ◌&&◌, if◌then◌else◌, Option, None, Some, IsSome, Result, Ok, Err, List, [], ◌∷◌, ◌++◌, length, slice_index_or, slice_set}
 use Rattle.rip_values.specs.declared.value.Limit.TheVariants.{Cells}
 use Rattle.rip_values.specs.declared.value.Refused.{Refused}
 use Rattle.rip_values.specs.declared.value.Refused.TheVariants.{Limit as At, Memory}
@@ -85,8 +85,8 @@ abbrev pub HasRoom : Listed → ℕ → Type 0
 HasRoom l node = (length l.registered < l.limit) × (node < l.nodes)
 
 -- what an answer says of the registration, of the listeners and the world before and after it. What is refused changes
--- neither, and want of memory comes only where the rooms that the maker took are too small
+-- neither, and want of memory comes only where the limit allows the charge and the rooms that the maker took are too small
 abbrev pub Registers : Option (Listed × World) → ℕ → Listed → World → Result (Unit {0}) Refused → Listed → World → Type 0
 Registers step node l w (Ok done) m v = step ≡ Some (m, v)
 Registers step node l w (Err (At limit)) m v = (limit ≡ Cells) × (step ≡ None) × (m ≡ l) × (v ≡ w)
-Registers step node l w (Err Memory) m v = (HasRoom l node → ⊥) × (m ≡ l) × (v ≡ w)
+Registers step node l w (Err Memory) m v = IsSome step × (HasRoom l node → ⊥) × (m ≡ l) × (v ≡ w)

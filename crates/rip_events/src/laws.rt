@@ -1,4 +1,4 @@
-ghost use Rattle.rip_events.specs.Laws.{CallsAreInOrder, PhasesAreInOrder, RemovedAreNotCalled, AddedAreNotCalled, StoppedGoNoFurther};
+ghost use Rattle.rip_events.specs.Laws.{CallsAreInOrder, PhasesAreInOrder, RemovedAreNotCalled, AddedAreNotCalled, StoppedGoNoFurther, NoneIsLeftOut};
 
 /// The calls of a flow come in the order of its stations, and at each station in the order of registration, so that
 /// each listener is called at most once at a station.
@@ -24,4 +24,10 @@ pub fn added_are_not_called()
 /// A flow that was stopped calls nothing behind the station at hand.
 pub fn stopped_go_no_further()
     ensures { StoppedGoNoFurther }
+{}
+
+/// A listener that stands, was there when its station was reached and has not had its turn is called next, or one before
+/// it is: none is left out, unless the flow was stopped before its station.
+pub fn none_is_left_out()
+    ensures { NoneIsLeftOut }
 {}

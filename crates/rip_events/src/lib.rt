@@ -20,7 +20,7 @@
 //! that of registration, so that a listener is called at most once at a station ([`calls_are_in_order`]), and their
 //! phases in the order 1, 2, 3 ([`phases_are_in_order`]); what is called stands ([`removed_are_not_called`]), and was
 //! registered before its station was reached ([`added_are_not_called`]); a flow that was stopped calls nothing behind
-//! the station at hand ([`stopped_go_no_further`]).
+//! the station at hand ([`stopped_go_no_further`]); and no listener is left out ([`none_is_left_out`]).
 //!
 //! A layer above may rest on this: `next` is the next call of the flow whatever was done to the document and to the
 //! listeners since the last one; no call but the makers takes memory; a station costs the listeners of its node.
@@ -37,8 +37,8 @@ mod tests;
 
 pub use cursor::Cursor;
 pub use laws::{
-    added_are_not_called, calls_are_in_order, phases_are_in_order, removed_are_not_called,
-    stopped_go_no_further,
+    added_are_not_called, calls_are_in_order, none_is_left_out, phases_are_in_order,
+    removed_are_not_called, stopped_go_no_further,
 };
 pub use listener::{Listener, Wanted};
 pub use listeners::Listeners;

@@ -5,7 +5,7 @@ ghost use Rattle.rip_events.specs.Chained.{ends_at, ends_with, link_at, with_lin
 
 use crate::listener::{Listener, Wanted, is_wanted, same_as};
 use rip_heap::Heap;
-use rip_values::{NoMemory, Pool, Refused, Span};
+use rip_values::{Limit, NoMemory, Pool, Refused, Span};
 use std::alloc::Global;
 use std::marker::Model;
 
@@ -122,6 +122,9 @@ impl Listeners {
     {
         if self.found(heap.pool(), listener).is_some() {
             return Ok(());
+        }
+        if heap.free_cells() < COST_OF_LISTENER {
+            return Err(Refused::Limit(Limit::Cells));
         }
         if !self.has_room(listener.node) {
             return Err(Refused::Memory);

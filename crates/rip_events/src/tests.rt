@@ -20,6 +20,7 @@ enum Deed {
 }
 
 /// A document and its listeners.
+#[derive(Drop)]
 struct Stage {
     heap: Heap,
     dom: Dom,
@@ -31,7 +32,7 @@ struct Stage {
 const NODES: u32 = 8;
 
 /// Nodes 0, 1, 2 and so on, each the parent of the next.
-fn stage(alloc: Global) -> Result<Stage, Fail> {
+fn made(alloc: Global) -> Result<Stage, Fail> {
     let mut heap = Heap::make(
         alloc,
         HeapLimits {
@@ -116,6 +117,7 @@ fn flow(
 
 /// Clicks on a target: the listeners in the order of registration, what functions do, and the calls, each by its
 /// function, node and phase.
+#[derive(Drop)]
 struct Row<'a> {
     listeners: &'a [On],
     deeds: &'a [(u32, Deed)],
@@ -317,7 +319,7 @@ fn flows_call_what_the_table_says(rt: HostRuntime) -> Result<(), Fail> {
         },
     ];
     for row in &rows {
-        let mut stage = stage(alloc)?;
+        let mut stage = made(alloc)?;
         for on in row.listeners {
             let click = stage.click;
             stage.all.add(&mut stage.heap, listener(*on, click))?;
@@ -334,7 +336,7 @@ fn flows_call_what_the_table_says(rt: HostRuntime) -> Result<(), Fail> {
 #[test]
 fn listeners_are_charged_once_and_told_apart_by_type(rt: HostRuntime) -> Result<(), Fail> {
     let alloc = rt.alloc();
-    let mut stage = stage(alloc)?;
+    let mut stage = made(alloc)?;
     let kinds = [(stage.click, 1), (stage.input, 2), (stage.click, 2)];
     for (kind, cells) in kinds {
         stage
@@ -384,5 +386,6 @@ fn listeners_are_charged_once_and_told_apart_by_type(rt: HostRuntime) -> Result<
     removed_are_not_called();
     added_are_not_called();
     stopped_go_no_further();
+    none_is_left_out();
     Ok(())
 }
