@@ -150,36 +150,47 @@ fn an_empty_page_makes_an_empty_document(rt: HostRuntime) -> Result<(), Fail> {
     Ok(())
 }
 
+/// A text of the pool that is not charged.
+fn text(alloc: Global, pool: &mut Pool, units: &[u16]) -> Result<Span, Fail> {
+    Ok(pool.add_fixed(alloc, units)?)
+}
+
+const CAPITALS: &[u16] = &[66, 114, 45, 49];
+
+const SMALL: &[u16] = &[98, 114, 45, 49];
+
+const DIGIT: &[u16] = &[49];
+
+const ID: &[u16] = &[105, 100];
+
+const ID_IN_CAPITALS: &[u16] = &[73, 68];
+
+const PAST_UNITS: DomRefused = DomRefused::Refused(Refused::Limit(Limit::Units));
+
+const PAST_NODES: DomRefused = DomRefused::Refused(Refused::Limit(Limit::Nodes));
+
+const ILLEGAL: DomRefused = DomRefused::Code(INVALID_CHARACTER);
+
 #[test]
 fn an_element_gets_its_name_in_small_letters(rt: HostRuntime) -> Result<(), Fail> {
-    let alloc = rt.alloc();
-    let mut dom = Dom::empty(alloc, 3)?;
-    let mut pool = Pool::make(alloc, 12, 100)?;
-    let capitals = pool.add(alloc, &[66, 114, 45, 49])?;
-    let first = dom.create_element(alloc, &mut pool, capitals);
-    assert_eq!(rt; first, Ok(0));
-    let kept = dom.name(0).unwrap_or(capitals);
-    assert_eq!(rt;
-        (pool.get(kept), pool.used()),
-        (&[98_u16, 114, 45, 49][..], 8)
-    );
-    assert_eq!(rt; dom.create_element(alloc, &mut pool, kept), Ok(1));
-    assert_eq!(rt; (dom.name(1), pool.used()), (Some(kept), 8));
-    let digit = pool.add(alloc, &[49])?;
-    assert_eq!(rt;
-        dom.create_element(alloc, &mut pool, digit),
-        Err(DomRefused::Code(INVALID_CHARACTER))
-    );
-    assert_eq!(rt;
-        dom.create_element(alloc, &mut pool, capitals),
-        Err(DomRefused::Refused(Refused::Limit(Limit::Units)))
-    );
-    assert_eq!(rt; dom.create_element(alloc, &mut pool, kept), Ok(2));
-    assert_eq!(rt;
-        dom.create_element(alloc, &mut pool, capitals),
-        Err(DomRefused::Refused(Refused::Limit(Limit::Nodes)))
-    );
-    assert_eq!(rt; (dom.made(), pool.used()), (3, 9));
+    let rows: [(&[u16], Result<u32, DomRefused>, u32); 7] = [
+        (CAPITALS, Ok(0), 4),
+        (SMALL, Ok(1), 4),
+        (DIGIT, Err(ILLEGAL), 4),
+        (&[], Err(ILLEGAL), 4),
+        (CAPITALS, Err(PAST_UNITS), 4),
+        (SMALL, Ok(2), 4),
+        (CAPITALS, Err(PAST_NODES), 4),
+    ];
+    let mut dom = Dom::empty(rt.alloc(), 3)?;
+    let mut pool = Pool::make(rt.alloc(), 7, 1)?;
+    for (name, answer, used) in &rows {
+        let name = text(rt.alloc(), &mut pool, *name)?;
+        let given = dom.create_element(rt.alloc(), &mut pool, name);
+        assert_eq!(rt; (given, pool.used()), (*answer, *used));
+    }
+    let kept = dom.name(0).unwrap_or(Span { start: 0, count: 0 });
+    assert_eq!(rt; pool.get(kept), SMALL);
     Ok(())
 }
 
@@ -199,6 +210,71 @@ fn set(
     }
 }
 
+type AttributeRow = (
+    &'static [u16],
+    &'static [u16],
+    Result<(), DomRefused>,
+    u32,
+    Option<u32>,
+);
+
+#[test]
+fn an_attribute_that_is_there_gets_its_new_value(rt: HostRuntime) -> Result<(), Fail> {
+    let rows: [AttributeRow; 5] = [
+        (ID, SMALL, Ok(()), 2, None),
+        (ID, DIGIT, Ok(()), 2, Some(0)),
+        (ID_IN_CAPITALS, SMALL, Ok(()), 2, None),
+        (DIGIT, DIGIT, Err(ILLEGAL), 2, None),
+        (SMALL, DIGIT, Err(PAST_NODES), 2, None),
+    ];
+    let mut dom = Dom::empty(rt.alloc(), 2)?;
+    let mut pool = Pool::make(rt.alloc(), 7, 1)?;
+    let name = text(rt.alloc(), &mut pool, ID)?;
+    dom.create_element(rt.alloc(), &mut pool, name)?;
+    for (name, value, answer, used, found) in &rows {
+        let name = text(rt.alloc(), &mut pool, *name)?;
+        let value = text(rt.alloc(), &mut pool, *value)?;
+        let given = set(rt.alloc(), &mut dom, &mut pool, 0, name, value);
+        assert_eq!(rt;
+            (given, dom.used(), dom.find_id(&pool, DIGIT)),
+            (*answer, *used, *found)
+        );
+    }
+    Ok(())
+}
+
+/// Elements 0 to 5: 0 has 3 and 1; 3 has 4; 1 has 2; 5 stands nowhere.
+fn elements(alloc: Global, pool: &mut Pool, name: Span) -> Result<Dom, Fail> {
+    let mut dom = Dom::empty(alloc, 20)?;
+    for _i in 0..6 {
+        dom.create_element(alloc, pool, name)?;
+    }
+    for (parent, child, at) in [(0, 1, None), (1, 2, None), (3, 4, None), (0, 3, Some(1))] {
+        code(&mut dom, &Move::Insert(parent, child, at));
+    }
+    Ok(dom)
+}
+
+#[test]
+fn the_first_element_in_document_order_is_found(rt: HostRuntime) -> Result<(), Fail> {
+    let rows: [(u32, Option<u32>); 6] = [
+        (5, None),
+        (2, Some(2)),
+        (1, Some(1)),
+        (4, Some(4)),
+        (3, Some(3)),
+        (0, Some(0)),
+    ];
+    let mut pool = Pool::make(rt.alloc(), 20, 100)?;
+    let name = text(rt.alloc(), &mut pool, ID)?;
+    let mut dom = elements(rt.alloc(), &mut pool, name)?;
+    for (element, found) in &rows {
+        let given = set(rt.alloc(), &mut dom, &mut pool, *element, name, name);
+        assert_eq!(rt; (given, dom.find_id(&pool, ID)), (Ok(()), *found));
+    }
+    Ok(())
+}
+
 /// Writes the text of a node other than the document.
 fn write(alloc: Global, dom: &mut Dom, n: u32, text: Span) -> Result<(), Refused> {
     if n < dom.made() && !is_document(dom.kind(n)) {
@@ -209,102 +285,39 @@ fn write(alloc: Global, dom: &mut Dom, n: u32, text: Span) -> Result<(), Refused
 }
 
 #[test]
-fn an_attribute_that_is_there_gets_its_new_value(rt: HostRuntime) -> Result<(), Fail> {
-    let alloc = rt.alloc();
-    let mut dom = Dom::empty(alloc, 3)?;
-    let mut pool = Pool::make(alloc, 20, 100)?;
-    let name = pool.add(alloc, &[105, 100])?;
-    let capitals = pool.add(alloc, &[73, 68])?;
-    let value = pool.add(alloc, &[53])?;
-    let other = pool.add(alloc, &[54, 54])?;
-    assert_eq!(rt; dom.create_element(alloc, &mut pool, name), Ok(0));
-    assert_eq!(rt; dom.find_id(&pool, &[53]), None);
-    assert_eq!(rt; set(alloc, &mut dom, &mut pool, 0, name, value), Ok(()));
-    assert_eq!(rt; dom.find_id(&pool, &[53]), Some(0));
-    assert_eq!(rt; set(alloc, &mut dom, &mut pool, 0, capitals, other), Ok(()));
-    assert_eq!(rt; (dom.used(), pool.used()), (2, 7));
-    assert_eq!(rt; dom.attribute(&pool, 0, &[105, 68]), Some(other));
-    assert_eq!(rt;
-        set(alloc, &mut dom, &mut pool, 0, value, value),
-        Err(DomRefused::Code(INVALID_CHARACTER))
-    );
-    assert_eq!(rt;
-        (dom.find_id(&pool, &[54, 54]), dom.find_id(&pool, &[])),
-        (Some(0), None)
-    );
-    Ok(())
-}
-
-#[test]
-fn the_first_element_in_document_order_is_found(rt: HostRuntime) -> Result<(), Fail> {
-    let alloc = rt.alloc();
-    let mut dom = Dom::empty(alloc, 20)?;
-    let mut pool = Pool::make(alloc, 20, 100)?;
-    let name = pool.add(alloc, &[105, 100])?;
-    for _i in 0..6 {
-        assert!(rt; dom.create_element(alloc, &mut pool, name).is_ok());
-    }
-    // 0 has 3 and 1; 3 has 4; 1 has 2; 5 stands nowhere.
-    for (parent, child) in [(0, 1), (1, 2), (3, 4)] {
-        code(&mut dom, &Move::Insert(parent, child, None));
-    }
-    code(&mut dom, &Move::Insert(0, 3, Some(1)));
-    let rows: [(u32, Option<u32>); 6] = [
-        (5, None),
-        (2, Some(2)),
-        (1, Some(1)),
-        (4, Some(4)),
-        (3, Some(3)),
-        (0, Some(0)),
-    ];
-    for (element, found) in &rows {
-        assert!(rt; set(alloc, &mut dom, &mut pool, *element, name, name).is_ok());
-        assert_eq!(rt; dom.find_id(&pool, &[105, 100]), *found);
-    }
-    Ok(())
-}
-
-#[test]
 fn a_text_is_written(rt: HostRuntime) -> Result<(), Fail> {
-    let alloc = rt.alloc();
-    let mut dom = page(alloc)?;
     let text = Span { start: 3, count: 2 };
-    let empty = Span { start: 0, count: 0 };
-    assert_eq!(rt;
-        (write(alloc, &mut dom, 6, text), dom.text(6)),
-        (Ok(()), Some(text))
-    );
-    assert_eq!(rt; write(alloc, &mut dom, 3, text), Ok(()));
-    let found = children(alloc, &dom, 3)?;
-    assert_eq!(rt; found.as_slice(), &[8_u32][..]);
-    assert_eq!(rt;
-        (dom.text(8), dom.parent(4), dom.parent(8)),
-        (Some(text), None, Some(3))
-    );
-    assert_eq!(rt;
-        write(alloc, &mut dom, 3, text),
-        Err(Refused::Limit(Limit::Nodes))
-    );
-    assert_eq!(rt; (dom.first_child(3), dom.used()), (Some(8), 9));
-    assert_eq!(rt; write(alloc, &mut dom, 3, empty), Ok(()));
-    assert_eq!(rt; (dom.first_child(3), dom.used()), (None, 9));
+    let empty = Span { start: 3, count: 0 };
+    let rows: [(u32, Span, Result<(), Refused>, Option<u32>, Option<u32>); 5] = [
+        (6, text, Ok(()), Some(4), Some(3)),
+        (3, text, Ok(()), Some(8), None),
+        (3, text, Err(Refused::Limit(Limit::Nodes)), Some(8), None),
+        (3, empty, Ok(()), None, None),
+        (3, empty, Ok(()), None, None),
+    ];
+    let mut dom = page(rt.alloc())?;
+    for (n, text, answer, first, parent) in &rows {
+        let given = write(rt.alloc(), &mut dom, *n, *text);
+        assert_eq!(rt;
+            (given, dom.first_child(3), dom.parent(4)),
+            (*answer, *first, *parent)
+        );
+    }
+    assert_eq!(rt; (dom.text(6), dom.text(8)), (Some(text), Some(text)));
     Ok(())
 }
 
-#[test]
-fn texts_are_joined_in_document_order(rt: HostRuntime) -> Result<(), Fail> {
-    let alloc = rt.alloc();
+/// Element 0 has element 1 and the text 2; element 1 has the comment 3 and the text 4.
+fn texts(alloc: Global, pool: &mut Pool) -> Result<Dom, Fail> {
+    let two = text(alloc, pool, ID)?;
+    let one = text(alloc, pool, DIGIT)?;
     let mut dom = Dom::empty(alloc, 9)?;
-    let mut pool = Pool::make(alloc, 13, 4)?;
-    let ab = pool.add(alloc, &[97, 98])?;
-    let c = pool.add(alloc, &[99])?;
-    // 0 has 1 and the text `c`; 1 has the text `ab` and a comment.
     for (kind, text) in [
         (NodeKind::Element, None),
         (NodeKind::Element, None),
-        (NodeKind::Text, Some(c)),
-        (NodeKind::Comment, Some(c)),
-        (NodeKind::Text, Some(ab)),
+        (NodeKind::Text, Some(one)),
+        (NodeKind::Comment, Some(one)),
+        (NodeKind::Text, Some(two)),
     ] {
         dom.add_node(NodeRecord {
             kind,
@@ -315,66 +328,67 @@ fn texts_are_joined_in_document_order(rt: HostRuntime) -> Result<(), Fail> {
     for (parent, child) in [(0, 1), (0, 2), (1, 3), (1, 4)] {
         code(&mut dom, &Move::Insert(parent, child, None));
     }
-    let empty = dom.read_text(alloc, &mut pool, 3);
-    assert_eq!(rt;
-        (empty, pool.used()),
-        (
-            Ok(Span {
-                start: 776,
-                count: 0
-            }),
-            3
-        )
-    );
-    let all = dom.read_text(alloc, &mut pool, 0);
-    assert_eq!(rt;
-        all,
-        Ok(Span {
-            start: 776,
-            count: 3
-        })
-    );
-    assert_eq!(rt;
-        (
-            pool.get(Span {
-                start: 776,
-                count: 3
-            }),
-            pool.used()
-        ),
-        (&[97_u16, 98, 99][..], 6)
-    );
-    let last = dom.create_text(alloc, ab)?;
-    code(&mut dom, &Move::Insert(1, last, Some(3)));
-    assert_eq!(rt;
-        (dom.read_text(alloc, &mut pool, 0), pool.used()),
-        (Err(TextRefused::TooLong), 6)
-    );
-    assert!(rt; dom.read_text(alloc, &mut pool, 1).is_ok());
-    assert_eq!(rt;
-        (dom.read_text(alloc, &mut pool, 1), pool.used()),
-        (Err(TextRefused::Refused(Refused::Limit(Limit::Units))), 10)
-    );
+    Ok(dom)
+}
+
+/// The text that is read below a node, as units; a 0 alone where it is too long, none past the limit of units.
+fn read(alloc: Global, dom: &Dom, pool: &mut Pool, n: u32) -> Result<Vec<u16>, Fail> {
+    let mut units = Vec::new(alloc);
+    match dom.read_text(alloc, pool, n) {
+        Ok(span) => units.extend_from_slice(pool.get(span))?,
+        Err(TextRefused::TooLong) => units.push(0)?,
+        Err(TextRefused::Refused(_)) => {}
+    }
+    Ok(units)
+}
+
+#[test]
+fn texts_are_joined_in_document_order(rt: HostRuntime) -> Result<(), Fail> {
+    let rows: [(u32, u32, u32, &[u16], bool); 7] = [
+        (3, 3, 0, &[105, 100, 49], false),
+        (3, 2, 0, &[0], false),
+        (2, 3, 0, &[], false),
+        (2, 2, 1, &[105, 100], true),
+        (2, 2, 4, &[105, 100], true),
+        (0, 0, 3, &[], false),
+        (0, 0, 7, &[], false),
+    ];
+    for (units, limit, n, expected, same) in &rows {
+        let mut pool = Pool::make(rt.alloc(), *units, *limit)?;
+        let dom = texts(rt.alloc(), &mut pool)?;
+        let given = read(rt.alloc(), &dom, &mut pool, *n)?;
+        assert_eq!(rt;
+            (given.as_slice(), dom.has_text(&pool, *n, ID)),
+            (*expected, *same)
+        );
+    }
     Ok(())
 }
 
-/// A list of 50,000 elements, each with a text: built, walked, read and torn down, in time that grows with the nodes.
-#[test]
-fn a_great_tree_is_built_and_torn_down(rt: HostRuntime) -> Result<(), Fail> {
-    let alloc = rt.alloc();
+/// A list of 50,000 elements below element 0, each with a text.
+fn great_tree(alloc: Global, pool: &mut Pool, name: Span) -> Result<Dom, Fail> {
     let mut dom = Dom::empty(alloc, 100_001)?;
-    let mut pool = Pool::make(alloc, 200_000, 100_000)?;
-    let name = pool.add(alloc, &[98])?;
-    assert_eq!(rt; dom.create_element(alloc, &mut pool, name), Ok(0));
+    dom.create_element(alloc, pool, name)?;
     for _i in 0..50_000 {
-        let element = dom.made();
-        assert_eq!(rt; dom.create_element(alloc, &mut pool, name), Ok(element));
+        let element = dom.create_element(alloc, pool, name)?;
         let text = dom.create_text(alloc, name)?;
         code(&mut dom, &Move::Insert(0, element, None));
         code(&mut dom, &Move::Insert(element, text, None));
     }
-    let text = dom.read_text(alloc, &mut pool, 0).unwrap_or(name);
-    assert_eq!(rt; (text.count, dom.find_id(&pool, &[98])), (50_000, None));
+    Ok(dom)
+}
+
+/// It is built, walked, read and torn down in time that grows with its nodes.
+#[test]
+fn a_great_tree_is_built_and_torn_down(rt: HostRuntime) -> Result<(), Fail> {
+    let mut pool = Pool::make(rt.alloc(), 50_000, 50_000)?;
+    let name = text(rt.alloc(), &mut pool, &[98])?;
+    let mut dom = great_tree(rt.alloc(), &mut pool, name)?;
+    let all = dom.read_text(rt.alloc(), &mut pool, 0);
+    assert_eq!(rt;
+        (all.is_ok(), pool.used(), dom.find_id(&pool, ID)),
+        (true, 50_000, None)
+    );
     for _i in 0..50_000 {
         let first = dom.first_child(0).unwrap_or(0);
         code(&mut dom, &Move::Remove(0, first));

@@ -1,6 +1,6 @@
 -- Walks over the options of a select.
 use Rattle.std.proofs.Common.{◌≡◌, ℕ, zero, suc, ◌+◌, ◌-◌, ◌<◌, ◌≤◌, Bool, true, false, cond, List, [], ◌∷◌, length, Option, None, Some, is_some, refl, sym, ap, ap₂, ◌∙◌, arith, ◌⊎◌, inl, inr, ◌&&◌, ◌==◌}
-use Rattle.std.specs.Prelude.{slice_get, unwrap_or}
+use Rattle.std.specs.Prelude.{option_map, slice_get, unwrap_or}
 use Rattle.std.specs.List.{filter}
 use Rattle.std.proofs.lemmas.Bool.{both_ways, cases_Bool, cond-true, cond-false, ne_eqb}
 use Rattle.std.proofs.lemmas.Option.{same_Some, none-some}
@@ -11,7 +11,8 @@ use Rattle.rip_dom.specs.Order.{in_order}
 use Rattle.rip_dom.specs.Tree.{Tree}
 use Rattle.rip_dom.specs.Way.{StepsGoInOrder, found_at, is_end, step, way_on}
 use Rattle.rip_forms.specs.Options.{is_option, is_selected, last_place, place_behind, options_of, first_choice}
-use Rattle.rip_forms.specs.OptionSteps.{fewer, more, found_behind, is_sought}
+use Rattle.rip_forms.specs.OptionSteps.{fewer, more, found_behind, is_sought, is_wanted}
+use Rattle.rip_forms.specs.Choices.{first_place, has_value}
 
 -- the options that are entered from this step on, in so many steps
 abbrev pub options_on : Texts → Tree → ℕ → ℕ → Step → List ℕ
@@ -168,3 +169,65 @@ chooses-end pool t r k i count found at c e = none-left pool t r k i count found
 
 pub chooses-over : (pool : Texts) (t : Tree) (r e i count found : ℕ) (at : Step) → Chooses pool t r (e - i) at count found i → e ≤ i → found ≡ first_choice pool t r
 chooses-over pool t r e i count found at c h = none-left pool t r (e - i) i count found at c (options-over pool t r e i at h)
+
+-- THE FIRST OPTION WITH A VALUE
+
+-- a place, behind so many
+abbrev pub place_after : ℕ → Option ℕ → Option ℕ
+place_after count o = option_map (λ k. count + k) o
+
+-- the option is found, or among those that are left
+pub record Finds (pool : Texts) (t : Tree) (text : List ℕ) (r k : ℕ) (at : Step) (count i : ℕ) : Type 0 where
+  pub same : place_after count (first_place (has_value pool t text) (options_on pool t r k at)) ≡ first_place (has_value pool t text) (options_of pool t r)
+  pub counted : count ≤ i
+
+after-none : (o : Option ℕ) → place_after 0 o ≡ o
+after-none None = refl
+after-none (Some k) = let z : 0 + k ≡ k = omega arith in ap (λ j. Some j) z
+
+pub finds-first : (pool : Texts) (t : Tree) (text : List ℕ) (n e : ℕ) → StepsGoInOrder t → e ≡ length t.nodes + length t.nodes → Finds pool t text n (e - 0) (Enter n) 0 0
+finds-first pool t text n e g f = record {
+  same =
+      after-none (first_place (has_value pool t text) (options_on pool t n (e - 0) (Enter n)))
+      ∙ ap (first_place (has_value pool t text)) (options-first pool t n e g f);
+  counted = omega arith;
+}
+
+after-one : (o : Option ℕ) (count : ℕ) → place_after count (option_map (λ k. k + 1) o) ≡ place_after (count + 1) o
+after-one None count = refl
+after-one (Some k) count = let z : count + (k + 1) ≡ count + 1 + k = omega arith in ap (λ j. Some j) z
+
+first-other : (pool : Texts) (t : Tree) (text : List ℕ) (here : Option ℕ) (rest : List ℕ) (count : ℕ) → is_wanted pool t text here ≡ false
+    → place_after count (first_place (has_value pool t text) (with_option here rest)) ≡ place_after (count + more here) (first_place (has_value pool t text) rest)
+first-other pool t text None rest count h = let z : count ≡ count + 0 = omega arith in ap (λ k. place_after k (first_place (has_value pool t text) rest)) z
+first-other pool t text (Some n) rest count h =
+    ap (place_after count) (cond-false (has_value pool t text n) (Some 0) (option_map (λ k. k + 1) (first_place (has_value pool t text) rest)) h)
+    ∙ after-one (first_place (has_value pool t text) rest) count
+
+pub finds-more : (pool : Texts) (t : Tree) (text : List ℕ) (r e i count : ℕ) (at next : Step) (here : Option ℕ) → Finds pool t text r (e - i) at count i → i < e → here ≡ found_at (is_option pool t) at → is_wanted pool t text here ≡ false → next ≡ step t r at
+    → Finds pool t text r (e - (i + 1)) next (count + more here) (i + 1)
+finds-more pool t text r e i count at next here c h f w n = record {
+  same =
+      sym (first-other pool t text here (options_on pool t r (e - (i + 1)) next) count w)
+      ∙ ap (λ os. place_after count (first_place (has_value pool t text) os)) (sym (options-more pool t r e i at next here h f n)) ∙ c.same;
+  counted = omega (arith, c.counted, more-few here);
+}
+
+first-here : (pool : Texts) (t : Tree) (text : List ℕ) (here : Option ℕ) (rest : List ℕ) (count : ℕ) → is_wanted pool t text here ≡ true → Some count ≡ place_after count (first_place (has_value pool t text) (with_option here rest))
+first-here pool t text None rest count h = absurd (both_ways false refl h)
+first-here pool t text (Some n) rest count h =
+    let z : count ≡ count + 0 = omega arith in
+    ap (λ j. Some j) z
+    ∙ sym (ap (place_after count) (cond-true (has_value pool t text n) (Some 0) (option_map (λ k. k + 1) (first_place (has_value pool t text) rest)) h))
+
+pub finds-found : (pool : Texts) (t : Tree) (text : List ℕ) (r e i count : ℕ) (at : Step) (here : Option ℕ) → Finds pool t text r (e - i) at count i → i < e → here ≡ found_at (is_option pool t) at → is_wanted pool t text here ≡ true
+    → Some count ≡ first_place (has_value pool t text) (options_of pool t r)
+finds-found pool t text r e i count at here c h f w =
+    first-here pool t text here (options_on pool t r (e - (i + 1)) (step t r at)) count w
+    ∙ ap (λ os. place_after count (first_place (has_value pool t text) os)) (sym (options-more pool t r e i at (step t r at) here h f refl)) ∙ c.same
+
+pub finds-end : (pool : Texts) (t : Tree) (text : List ℕ) (r k i count : ℕ) (at : Step) → Finds pool t text r k at count i → is_end at ≡ true → None ≡ first_place (has_value pool t text) (options_of pool t r)
+finds-end pool t text r k i count at c e = sym (ap (λ os. place_after count (first_place (has_value pool t text) os)) (options-end pool t r k at e)) ∙ c.same
+
+pub finds-over : (pool : Texts) (t : Tree) (text : List ℕ) (r e i count : ℕ) (at : Step) → Finds pool t text r (e - i) at count i → e ≤ i → None ≡ first_place (has_value pool t text) (options_of pool t r)
+finds-over pool t text r e i count at c h = sym (ap (λ os. place_after count (first_place (has_value pool t text) os)) (options-over pool t r e i at h)) ∙ c.same

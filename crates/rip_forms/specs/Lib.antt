@@ -1,3 +1,4 @@
+pub mod Choices
 pub mod Controls
 pub mod Kept
 pub mod Options

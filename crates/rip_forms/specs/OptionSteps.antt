@@ -1,7 +1,8 @@
 -- What a walk over options keeps from step to step.
-use Rattle.std.specs.Prelude.{ℕ, ◌-◌, ◌==◌, Bool, false, if◌then◌else◌, Option, None, Some}
+use Rattle.std.specs.Prelude.{ℕ, ◌-◌, ◌==◌, Bool, false, if◌then◌else◌, Option, None, Some, List}
 use Rattle.rip_values.specs.Pool.{Texts}
 use Rattle.rip_dom.specs.Tree.{Tree}
+use Rattle.rip_forms.specs.Choices.{has_value}
 use Rattle.rip_forms.specs.Options.{is_selected}
 
 -- the step enters the option that is looked for
@@ -23,3 +24,8 @@ more (Some option) = 1
 abbrev pub found_behind : Texts → Tree → Option ℕ → ℕ → ℕ → ℕ
 found_behind pool t None count found = found
 found_behind pool t (Some option) count found = if is_selected pool t option then count else found
+
+-- the step enters an option whose value is this text
+abbrev pub is_wanted : Texts → Tree → List ℕ → Option ℕ → Bool
+is_wanted pool t text None = false
+is_wanted pool t text (Some option) = has_value pool t text option

@@ -14,6 +14,7 @@
 //! | [`Forms::checked`] | `Values.checked_of` |
 //! | [`Forms::selected`] | `Options.selected_of`, over `Options.options_of` |
 //! | [`Forms::value`] | `Values.value_of`, read as `Values.ReadsValue` says |
+//! | [`place_of_value`] | `Choices.place_of_value`, what a write of a select's value chooses |
 //! | [`legal`] | `Reports.refusal_of`: the first refusal |
 //! | [`Forms::apply`], [`Forms::undo_click`] | `Reports.effect_of`, refused as `Reports.is_past` says |
 //!
@@ -21,6 +22,7 @@
 //! refused call changes nothing; no call but the maker takes memory.
 #![tactic(auto)]
 
+mod choice;
 mod control;
 mod options;
 mod report;
@@ -30,6 +32,7 @@ mod tests;
 mod value;
 mod words;
 
+pub use choice::place_of_value;
 pub use control::{FormPart, part_of};
 pub use report::legal;
 pub use state::{ControlState, FormState, Forms};

@@ -92,7 +92,7 @@ fn first_choice(dom: &Dom, pool: &Pool, n: u32) -> u64
 }
 
 // As many steps as go through a document.
-fn steps(dom: &Dom) -> u64
+pub(crate) fn steps(dom: &Dom) -> u64
     ensures count { result ≡ length dom.now.nodes + length dom.now.nodes }
     ensures few { result < 2 ^ 33 }
 {
@@ -120,7 +120,7 @@ fn fewer(left: u64, here: Option<u32>) -> u64
 }
 
 // How many options this step enters.
-fn more(here: Option<u32>) -> u64
+pub(crate) fn more(here: Option<u32>) -> u64
     ensures { result ≡ more here }
 {
     match here {
@@ -146,7 +146,7 @@ fn found_behind(dom: &Dom, pool: &Pool, here: Option<u32>, count: u64, found: u6
 }
 
 // The option that this step enters.
-fn option_of(dom: &Dom, pool: &Pool, at: Step) -> Option<u32>
+pub(crate) fn option_of(dom: &Dom, pool: &Pool, at: Step) -> Option<u32>
     ensures { result ≡ found_at (is_option pool.now dom.now) at }
 {
     match at {

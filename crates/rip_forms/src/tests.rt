@@ -1,6 +1,8 @@
 use super::*;
 use rip_dom::{Dom, TextRefused};
-use rip_values::{BadReport, EventKind, Limit, List, NodeKind, Page, PageNode, Pool, Refused, Report, Span, Units};
+use rip_values::{
+    BadReport, EventKind, Limit, List, NodeKind, Page, PageNode, Pool, Refused, Report, Span, Units,
+};
 use std::alloc::Global;
 use std::test::Fail;
 
@@ -73,7 +75,10 @@ const PAGE: [(u32, &[&str]); 16] = [
     (0, &["html"]),
     (1, &["form"]),
     (2, &["input", "value", "a", "maxlength", "3"]),
-    (2, &["INPUT", "TYPE", "Number", "value", "1", "maxlength", "1"]),
+    (
+        2,
+        &["INPUT", "TYPE", "Number", "value", "1", "maxlength", "1"],
+    ),
     (2, &["input", "type", "CHECKBOX", "checked", ""]),
     (2, &["input", "type", "hidden", "disabled", ""]),
     (2, &["textarea", "maxlength", "1x"]),
@@ -101,7 +106,13 @@ fn page(alloc: Global) -> Result<Small, Fail> {
     Ok(s)
 }
 
-type ReportRow = (EventKind, u32, Option<&'static str>, Option<u32>, Result<(), BadReport>);
+type ReportRow = (
+    EventKind,
+    u32,
+    Option<&'static str>,
+    Option<u32>,
+    Result<(), BadReport>,
+);
 
 const REPORTS: [ReportRow; 32] = [
     (EventKind::Click, 0, None, None, Err(BadReport::Node)),
@@ -114,10 +125,22 @@ const REPORTS: [ReportRow; 32] = [
     (EventKind::Submit, 2, None, None, Ok(())),
     (EventKind::Submit, 13, None, None, Err(BadReport::Control)),
     (EventKind::Input, 3, Some("abc"), None, Ok(())),
-    (EventKind::Input, 3, Some("abcd"), None, Err(BadReport::Long)),
+    (
+        EventKind::Input,
+        3,
+        Some("abcd"),
+        None,
+        Err(BadReport::Long),
+    ),
     (EventKind::Input, 4, Some("12"), None, Ok(())),
     (EventKind::Input, 5, Some(""), None, Err(BadReport::Control)),
-    (EventKind::Input, 6, Some("abcd"), None, Err(BadReport::Control)),
+    (
+        EventKind::Input,
+        6,
+        Some("abcd"),
+        None,
+        Err(BadReport::Control),
+    ),
     (EventKind::Input, 7, Some("abcd"), None, Ok(())),
     (EventKind::Input, 8, Some(""), None, Err(BadReport::Control)),
     (EventKind::Change, 3, None, None, Ok(())),
@@ -201,9 +224,24 @@ fn values_begin_as_the_tree_says(rt: HostRuntime) -> Result<(), Fail> {
         assert_eq!(rt; (*n, same), (*n, true));
     }
     assert_eq!(rt;
-        (s.forms.selected(&s.dom, &s.pool, 8), s.forms.checked(&s.dom, &s.pool, 5)),
+        (
+            s.forms.selected(&s.dom, &s.pool, 8),
+            s.forms.checked(&s.dom, &s.pool, 5)
+        ),
         (1, true)
     );
+    Ok(())
+}
+
+#[test]
+fn a_written_value_chooses_the_first_option(rt: HostRuntime) -> Result<(), Fail> {
+    let rows: [(&str, i64); 4] = [("x", 0), ("ab", 1), ("a", -1), ("", -1)];
+    let s = page(rt.alloc())?;
+    for (value, place) in &rows {
+        let value = Units::from_utf8(rt.alloc(), value.as_bytes())?;
+        let chosen = place_of_value(&s.dom, &s.pool, 8, value.as_slice());
+        assert_eq!(rt; chosen, *place);
+    }
     Ok(())
 }
 
@@ -212,7 +250,10 @@ fn a_click_is_undone(rt: HostRuntime) -> Result<(), Fail> {
     let alloc = rt.alloc();
     let mut s = page(alloc)?;
     let done = apply(alloc, &mut s, &(EventKind::Click, 5, None, None, Ok(())))?;
-    assert_eq!(rt; (done, s.forms.checked(&s.dom, &s.pool, 5)), (Ok(()), false));
+    assert_eq!(rt;
+        (done, s.forms.checked(&s.dom, &s.pool, 5)),
+        (Ok(()), false)
+    );
     s.forms.set(5, FormState::Checked(false));
     s.forms.undo_click(5);
     assert_eq!(rt; s.forms.checked(&s.dom, &s.pool, 5), true);
@@ -224,12 +265,29 @@ fn an_input_sets_the_value_of_its_control(rt: HostRuntime) -> Result<(), Fail> {
     let alloc = rt.alloc();
     let mut s = page(alloc)?;
     let before = s.pool.used();
-    let done = apply(alloc, &mut s, &(EventKind::Input, 3, Some("xyz"), None, Ok(())))?;
+    let done = apply(
+        alloc,
+        &mut s,
+        &(EventKind::Input, 3, Some("xyz"), None, Ok(())),
+    )?;
     assert_eq!(rt; (done, s.pool.used()), (Ok(()), before + 3));
-    let long = apply(alloc, &mut s, &(EventKind::Input, 3, Some("01234567"), None, Ok(())))?;
-    assert_eq!(rt; (long, s.pool.used()), (Err(Refused::Limit(Limit::Units)), before + 3));
-    let same = (reads(alloc, &mut s, 3, "xyz")?, reads(alloc, &mut s, 7, "ab")?);
-    assert_eq!(rt; (same, s.forms.given(3).is_some(), s.forms.given(7)), ((true, true), true, None));
+    let long = apply(
+        alloc,
+        &mut s,
+        &(EventKind::Input, 3, Some("01234567"), None, Ok(())),
+    )?;
+    assert_eq!(rt;
+        (long, s.pool.used()),
+        (Err(Refused::Limit(Limit::Units)), before + 3)
+    );
+    let same = (
+        reads(alloc, &mut s, 3, "xyz")?,
+        reads(alloc, &mut s, 7, "ab")?,
+    );
+    assert_eq!(rt;
+        (same, s.forms.given(3).is_some(), s.forms.given(7)),
+        ((true, true), true, None)
+    );
     Ok(())
 }
 
@@ -237,7 +295,11 @@ fn an_input_sets_the_value_of_its_control(rt: HostRuntime) -> Result<(), Fail> {
 fn a_choice_follows_its_place(rt: HostRuntime) -> Result<(), Fail> {
     let alloc = rt.alloc();
     let mut s = page(alloc)?;
-    let done = apply(alloc, &mut s, &(EventKind::Change, 8, None, Some(0), Ok(())))?;
+    let done = apply(
+        alloc,
+        &mut s,
+        &(EventKind::Change, 8, None, Some(0), Ok(())),
+    )?;
     assert_eq!(rt; (done, reads(alloc, &mut s, 8, "x")?), (Ok(()), true));
     if 9 < s.dom.made() {
         let _done = s.dom.remove(8, 9);
@@ -245,7 +307,10 @@ fn a_choice_follows_its_place(rt: HostRuntime) -> Result<(), Fail> {
     assert_eq!(rt; reads(alloc, &mut s, 8, "ab")?, true);
     s.forms.set(8, FormState::Selected(5));
     assert_eq!(rt;
-        (s.forms.selected(&s.dom, &s.pool, 8), reads(alloc, &mut s, 8, "")?),
+        (
+            s.forms.selected(&s.dom, &s.pool, 8),
+            reads(alloc, &mut s, 8, "")?
+        ),
         (-1, true)
     );
     Ok(())

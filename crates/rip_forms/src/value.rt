@@ -11,7 +11,7 @@ use std::alloc::Global;
 
 /// A value that is read: a text that stands in the pool, or the texts below a node, which are to be joined.
 #[derive(Clone, Copy, Debug)]
-pub enum Value {
+pub(crate) enum Value {
     Stands(Span),
     Below(u32),
 }
@@ -78,7 +78,7 @@ fn value_or(dom: &Dom, pool: &Pool, n: u32, other: Span) -> Value
 }
 
 // The value of an option.
-fn option_value(dom: &Dom, pool: &Pool, n: u32) -> Value
+pub(crate) fn option_value(dom: &Dom, pool: &Pool, n: u32) -> Value
     ensures { result ≡ option_value (attribute_of pool.now dom.now n (codes "value")) n }
 {
     match dom.attribute(pool, n, &VALUE) {

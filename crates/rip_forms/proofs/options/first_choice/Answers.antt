@@ -9,8 +9,8 @@ loop-i-init c = chooses-first c.args.pool.now c.args.dom.now c.args.n c.steps-i-
 pub loop-i-preserved : goal.loop-i-preserved
 loop-i-preserved c =
     let R : ℕ → ℕ → Type 0 = λ k f. Chooses c.args.pool.now c.args.dom.now c.args.n (c.steps-i-end.result - (c.loop-i._i + 1)) c.step-at.result k f (c.loop-i._i + 1) in
-    subst (λ f. R (c.loop-i.count + c.more.result) f) (sym c.found_behind-found.ensures)
-    (subst (λ k. R (c.loop-i.count + k) (found_behind c.args.pool.now c.args.dom.now c.option_of-here.result c.loop-i.count c.loop-i.found)) (sym c.more.ensures)
+    subst (λ f. R (c.loop-i.count + c.more-count.result) f) (sym c.found_behind-found.ensures)
+    (subst (λ k. R (c.loop-i.count + k) (found_behind c.args.pool.now c.args.dom.now c.option_of-here.result c.loop-i.count c.loop-i.found)) (sym c.more-count.ensures)
     (chooses-more c.args.pool.now c.args.dom.now c.args.n c.steps-i-end.result c.loop-i._i c.loop-i.count c.loop-i.found c.loop-i.at c.step-at.result c.option_of-here.result c.loop-i.invariant c.loop-i-test.true c.option_of-here.ensures c.step-at.ensures))
 
 pub returns-then-is_end-clause-place : goal.returns-then-is_end-clause-place

@@ -20,7 +20,7 @@ pub loop-digit-preserved : goal.loop-digit-preserved
 loop-digit-preserved c =
     let digit : ℕ = get_or c.args.digits.now c.loop-digit.digit-index 0 in
     let is : digit - 48 ≡ c.from.result = sym c.saturating_sub.ensures ∙ sym c.from.ensures in
-    let fits : digit < 65536 = c.type_inv.digits c.loop-digit.digit-index in
+    let fits : digit < 65536 = omega (arith, c.type_inv.digits c.loop-digit.digit-index) in
     record {
       rest =
           sym (spells-more c.args.digits.now c.loop-digit.number c.loop-digit.digit-index digit c.loop-digit-test.true refl
