@@ -1,41 +1,82 @@
 -- What a start answers, once it is known what it comes to.
-use Rattle.std.proofs.Common.{◌≡◌, ℕ, List, Some, Result, Ok, Err, IfErr, OnOk, refl, ap}
+use Rattle.std.proofs.Common.{◌≡◌, ℕ, ◌==◌, if◌then◌else◌, Bool, true, false, List, [], Some, Result, Ok, Err, IfErr, IfOk, OnOk, refl, ap, sym, ◌∙◌, subst}
+use Rattle.std.specs.Prelude.{MatchResult}
 use Rattle.std.proofs.lemmas.Bool.{ne_eqb}
+use Rattle.rip_values.specs.declared.memory.NoMemory.{NoMemory}
+use Rattle.rip_values.specs.declared.value.Limit.TheVariants.{Depth}
 use Rattle.rip_values.specs.declared.value.Refused.{Refused}
 use Rattle.rip_values.specs.declared.value.Refused.TheVariants.{Limit as At, Memory as NoRoom}
+use Rattle.rip_values.specs.declared.value.Span.{Span}
 use Rattle.rip_values.specs.declared.value.Value.{Value}
 use Rattle.rip_heap.specs.World.{World}
-use Rattle.rip_frames.specs.declared.frame.Ending.TheVariants.{Call}
-use Rattle.rip_frames.specs.declared.next.Next.{Next}
-use Rattle.rip_frames.specs.declared.next.Next.TheVariants.{End, Halt, Ask, Keep, Turn}
-use Rattle.rip_frames.specs.Rest.{as_row}
-use Rattle.rip_frames.specs.Row.{Row, Table}
-use Rattle.rip_frames.specs.Run.{world_at}
-use Rattle.rip_machine.specs.declared.calls.Invocable.{Invocable}
-use Rattle.rip_machine.specs.declared.calls.Invocable.TheVariants.{OfScript}
-use Rattle.rip_machine.specs.Law.{Begins, Standing, Starts}
+use Rattle.rip_runs.specs.declared.completion.Stop.TheVariants.{Limit as AtLimit}
+use Rattle.rip_runs.specs.declared.frame.Ending.TheVariants.{Call as CallEnding}
+use Rattle.rip_runs.specs.declared.next.Next.{Next}
+use Rattle.rip_runs.specs.declared.next.Next.TheVariants.{End, Halt, Ask, Keep, Turn, Call}
+use Rattle.rip_runs.specs.declared.part.Part.{Part}
+use Rattle.rip_runs.specs.Frame.{inner, inside, waiting}
+use Rattle.rip_runs.specs.Law.{Begins, Standing as Run}
+use Rattle.rip_runs.specs.Rest.{as_row}
+use Rattle.rip_runs.specs.Row.{Asks, Halts, Row, Table}
+use Rattle.rip_runs.specs.Run.{world_at}
+use Rattle.rip_runs.specs.Stack.{Open, framed}
+use Rattle.rip_machine.specs.declared.rows.calls.Invocable.{Invocable}
+use Rattle.rip_machine.specs.declared.rows.calls.Invocable.TheVariants.{OfScript}
+use Rattle.rip_machine.specs.Law.{Starts, StartsRun, standing}
 use Rattle.rip_machine.specs.Reading.{Loaded}
 use Rattle.rip_machine.specs.Rows.Functions.{body, function_entered}
 use Rattle.rip_machine.specs.Rows.Statements.{statements}
 use Rattle.rip_machine.specs.Starting.{Beginning, Runs, call_begun, function_begun, function_part}
 
-pub starts : (t : Table) (beginning : Beginning) (row : Row) (fuel : ℕ) (w x : World) (m n : Standing) (r : Result (Unit {0}) Refused) (F : Type 0)
-    → OnOk r F → IfErr r (λ refused. refused ≡ NoRoom) → (F → (beginning ≡ Runs row x) × Begins t row fuel x n) → Starts t beginning fuel w x m n r
-starts t beginning row fuel w x m n (Ok done) F f h go = let g = go f in (row, g.0, g.1)
-starts t beginning row fuel w x m n (Err (At limit)) F f h go = absurd (cc)
-starts t beginning row fuel w x m n (Err NoRoom) F f h go = tt
-
 -- the call of a function of the script runs its statements
 pub runs_function : (p : Loaded) (depth : ℕ) (this : Value) (args : List Value) (callee : Invocable) (w x : World) (f scope made : ℕ)
     → (depth ≡ 0 → ⊥) → callee ≡ OfScript f scope → function_entered p f scope args w ≡ Some (made, x)
-    → call_begun p depth this args callee w ≡ Runs (statements p (function_part f made this depth) Call (body p f) x) x
+    → call_begun p depth this args callee w ≡ Runs (statements p (function_part f made this depth) CallEnding (body p f) x) x
 runs_function p depth this args callee w x f scope made some is entered =
     rw is (rw (ne_eqb depth 0 some) (ap (function_begun p depth f this) entered))
 
 -- the world at which the row of what is done next begins
-pub world_of_next : (t : Table) (next : Next) (values : List Value) (w : World) → world_at (as_row t next values w) ≡ w
-world_of_next t (End c) values w = refl
-world_of_next t (Halt stop) values w = refl
-world_of_next t (Ask part frame) values w = refl
-world_of_next t (Keep part frame v) values w = refl
-world_of_next t (Turn part frame) values w = refl
+called_world : (t : Table) (part : Part) (o : Open) (w : World) (full : Bool) → world_at (if full then Halts (AtLimit Depth) w else Asks part w (t.rest o)) ≡ w
+called_world t part o w true = refl
+called_world t part o w false = refl
+
+pub world_of_next : (t : Table) (at : Part) (next : Next) (values : List Value) (w : World) → world_at (as_row t at next values w) ≡ w
+world_of_next t at (End c) values w = refl
+world_of_next t at (Halt stop) values w = refl
+world_of_next t at (Ask part wait) values w = refl
+world_of_next t at (Keep part wait v) values w = refl
+world_of_next t at (Turn part wait) values w = refl
+world_of_next t at (Call part node wait) values w =
+    let a : Part = inside at part in
+    called_world t (inside a (inner a node)) (framed (waiting a wait) []) w (a.room == 0)
+
+-- what a start leaves, once it is known what it comes to
+pub starts : (t : Table) (beginning : Beginning) (row : Row) (fuel : ℕ) (w x : World) (m n : Run) (r : Result (Unit {0}) Refused) (F : Type 0)
+    → OnOk r F → IfErr r (λ refused. refused ≡ NoRoom) → (F → (beginning ≡ Runs row x) × Begins t row fuel x n) → StartsRun t beginning fuel w x m n r
+starts t beginning row fuel w x m n (Ok done) F f h go = let g = go f in (row, g.0, g.1)
+starts t beginning row fuel w x m n (Err (At limit)) F f h go = absurd (cc)
+starts t beginning row fuel w x m n (Err NoRoom) F f h go = tt
+
+-- a run that stands where this is done next stands at the beginning of its row
+abbrev pub Stood : Result Next NoMemory → Part → ℕ → Run → Type 0
+Stood r at fuel n = MatchResult r (λ next. (t : Table) (w : World) → Begins t (as_row t at next [] w) fuel w n) (λ _. ⊥)
+
+pub stood : (r : Result Next NoMemory) (t : Table) (at : Part) (row : World → Row) (fuel : ℕ) (n : Run)
+    → IfOk r (λ next. (values : List Value) (w : World) → as_row t at next values w ≡ row w) → Stood r at fuel n → (w : World) → Begins t (row w) fuel w n
+stood (Ok next) t at row fuel n e b w = let B : Row → Type 0 = λ row. Begins t row fuel w n in subst B (e [] w) (b t w)
+stood (Err x) t at row fuel n e b w = absurd b
+
+-- the same of what asks for no part, in this world
+pub stood_in : (r : Result Next NoMemory) (t : Table) (at : Part) (row : Row) (fuel : ℕ) (n : Run) (x : World)
+    → IfOk r (λ next. (t : Table) (at : Part) (values : List Value) → as_row t at next values x ≡ row) → Stood r at fuel n → (x ≡ world_at row) × Begins t row fuel x n
+stood_in (Ok next) t at row fuel n x e b =
+    let B : Row → Type 0 = λ row. Begins t row fuel x n in
+    (sym (world_of_next t at next [] x) ∙ ap world_at (e t at []), subst B (e t at []) (b t x))
+stood_in (Err y) t at row fuel n x e b = absurd b
+
+-- what was started of a run was started of its machine
+pub starts_machine : (t : Table) (beginning : Beginning) (fuel : ℕ) (w x : World) (m n : Run) (literals : List Span) (r : Result (Unit {0}) Refused)
+    → StartsRun t beginning fuel w x m n r → Starts t beginning fuel w x (standing m literals) (standing n literals) r
+starts_machine t beginning fuel w x m n literals (Ok done) s = s
+starts_machine t beginning fuel w x m n literals (Err (At limit)) s = (s.0, s.1, ap (λ k. standing k literals) s.2)
+starts_machine t beginning fuel w x m n literals (Err NoRoom) s = tt

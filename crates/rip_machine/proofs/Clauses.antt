@@ -2,9 +2,9 @@
 use Rattle.std.proofs.Common.{◌≡◌, ℕ, ◌+◌, ◌∷◌, ◌++◌, Some, ap, sym, ◌∙◌, if◌then◌else◌}
 use Rattle.std.specs.Prelude.{unwrap_or}
 use Rattle.rip_heap.specs.World.{World}
-use Rattle.rip_frames.specs.declared.frame.Ending.TheVariants as ending
-use Rattle.rip_frames.specs.declared.part.Part.{Part}
-use Rattle.rip_frames.specs.Row.{Asks}
+use Rattle.rip_runs.specs.declared.frame.Ending.TheVariants as ending
+use Rattle.rip_runs.specs.declared.part.Part.{Part}
+use Rattle.rip_runs.specs.Row.{Asks}
 use Rattle.rip_machine.specs.Reading.{Loaded, child, child_at, children_from, form_of, part}
 use Rattle.rip_machine.specs.Rows.Statements.{carried}
 use Rattle.rip_machine.specs.Rows.Switch.{clause_end, clause_list, clause_statements, clauses_from, entered_at, fall_through, is_default}

@@ -4,9 +4,6 @@ pub mod Clauses
 pub mod Filling
 pub mod Loads
 pub mod LoopRuns
-pub mod Nested
-pub mod Resumes
 pub mod Scopes
-pub mod StepLaws
 pub mod TextsStand
 pub mod WholeRuns

@@ -3,13 +3,13 @@ use Rattle.std.proofs.Common.{◌≡◌, ℕ, Bool, true, false, if◌then◌els
 use Rattle.rip_values.specs.declared.value.Value.{Value}
 use Rattle.rip_heap.specs.Conversions.{boolean_of}
 use Rattle.rip_heap.specs.World.{World}
-use Rattle.rip_frames.specs.declared.completion.Completion.{Completion}
-use Rattle.rip_frames.specs.declared.completion.Completion.TheVariants.{Normal, Thrown, Returned, Broken, Continued, Referred, Method}
-use Rattle.rip_frames.specs.declared.part.Part.{Part}
-use Rattle.rip_frames.specs.Row.{Row, Asks, Again, Table}
-use Rattle.rip_frames.specs.Run.{Answer, Completes, Stops, Cuts, Calling, ev, follow, run}
-use Rattle.rip_frames.specs.Stack.{Open}
-use Rattle.rip_frames.proofs.Runs.{run-again, run-asks}
+use Rattle.rip_runs.specs.declared.completion.Completion.{Completion}
+use Rattle.rip_runs.specs.declared.completion.Completion.TheVariants.{Normal, Thrown, Returned, Broken, Continued, Referred, Method}
+use Rattle.rip_runs.specs.declared.part.Part.{Part}
+use Rattle.rip_runs.specs.Row.{Row, Asks, Again, Table}
+use Rattle.rip_runs.specs.Run.{Answer, Completes, Stops, Cuts, Calling, ev, follow, run}
+use Rattle.rip_runs.specs.Stack.{Open}
+use Rattle.rip_runs.proofs.Runs.{run-again, run-asks}
 use Rattle.rip_machine.specs.Reading.{Loaded, child_at}
 use Rattle.rip_machine.specs.Rows.Statements.{do_row, done, for_statement, for_turn, for_turn_by, for_update_by, goes_on, tested, while_row}
 use Rattle.rip_machine.specs.Table.{table}

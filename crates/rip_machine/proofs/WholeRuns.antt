@@ -3,25 +3,26 @@ use Rattle.std.proofs.Common.{◌≡◌, ℕ, ◌+◌, ◌-◌, ◌≤◌, min, 
 use Rattle.std.proofs.lemmas.Bool.{le-leb}
 use Rattle.rip_values.specs.declared.value.Limit.{Limit}
 use Rattle.rip_heap.specs.World.{World}
-use Rattle.rip_frames.specs.Cut.{conclude}
-use Rattle.rip_frames.specs.Row.{Row, Table}
-use Rattle.rip_frames.specs.Run.{Answer, Completes, Stops, Cuts, Calling}
-use Rattle.rip_frames.specs.Started.{Started}
-use Rattle.rip_machine.specs.Law.{Begins, Ends, Resumes, Standing, end_of, further, left, open_depth}
+use Rattle.rip_runs.specs.Cut.{conclude}
+use Rattle.rip_runs.specs.Row.{Row, Table}
+use Rattle.rip_runs.specs.Run.{Answer, Completes, Stops, Cuts, Calling}
+use Rattle.rip_runs.specs.Started.{Started}
+use Rattle.rip_runs.specs.Law.{end_of, further}
+use Rattle.rip_machine.specs.Law.{Begins, Ends, Resumes, Standing, left, open_depth, run}
 use Rattle.rip_machine.specs.Reading.{Loaded}
 use Rattle.rip_machine.specs.Run.{IsStarted, Ran, RunsWhole, comes_to, run_begun, run_from}
 use Rattle.rip_machine.specs.Starting.{Runs, Exceeds, begun_by}
 use Rattle.rip_machine.specs.Table.{table}
-use Rattle.rip_machine.specs.declared.outcome.Outcome.{Outcome}
-use Rattle.rip_machine.specs.declared.outcome.Outcome.TheVariants.{Value as Gives, Thrown, Fault, Limit as AtLimit, Memory}
-use Rattle.rip_machine.specs.declared.outcome.Turned.TheVariants.{More, Done}
-use Rattle.rip_machine.proofs.Resumes.{begins_whole}
+use Rattle.rip_runs.specs.declared.outcome.Outcome.{Outcome}
+use Rattle.rip_runs.specs.declared.outcome.Outcome.TheVariants.{Value as Gives, Thrown, Fault, Limit as AtLimit, Memory}
+use Rattle.rip_runs.specs.declared.outcome.Turned.TheVariants.{More, Done}
+use Rattle.rip_runs.proofs.Resumes.{begins_whole}
 
 -- what is left after a start
 pub runs_on : {S : Type 0} (h : Calling S) (p : Loaded) (depth : ℕ) (start : Started) (w x : World) (s : S) (fuel : ℕ) (n : Standing)
     → IsStarted p depth start w fuel x n → (k : ℕ) → left h (table p) n x s k ≡ run_from h p depth start w s fuel k
 runs_on h p depth start w x s fuel n started k =
-    begins_whole h (table p) started.0 fuel x s n started.2 k
+    begins_whole h (table p) started.0 fuel x s (run n) started.2 k
     ∙ ap (λ d. run_begun h (table p) d (Runs started.0 x) w s fuel k) started.3
     ∙ ap (λ b. run_begun h (table p) depth b w s fuel k) (sym started.1)
 

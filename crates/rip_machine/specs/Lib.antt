@@ -1,7 +1,6 @@
-pub mod Keeping
+pub mod Does
 pub mod Law
 pub mod Loading
-pub mod Nesting
 pub mod Reading
 pub mod Rows
 pub mod Run

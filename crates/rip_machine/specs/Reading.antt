@@ -1,6 +1,6 @@
 -- What rows read of a program. Reading is total: a child that is absent counts as node 0, and a node past the last as an
 -- empty statement.
-use Rattle.std.specs.Prelude.{ℕ, ◌-◌, Bool, true, false, List, [], ◌∷◌, drop, Option, None, Some, unwrap_or, slice_index_or}
+use Rattle.std.specs.Prelude.{ℕ, Bool, true, false, List, [], ◌∷◌, drop, Option, None, Some, unwrap_or, slice_index_or}
 use Rattle.rip_values.specs.declared.operator.BinaryOperator.{BinaryOperator}
 use Rattle.rip_values.specs.declared.operator.BinaryOperator.TheVariants.{Add}
 use Rattle.rip_values.specs.declared.operator.LogicalOperator.{LogicalOperator}
@@ -16,8 +16,10 @@ use Rattle.rip_tree.specs.declared.node.Node.{Node}
 use Rattle.rip_tree.specs.declared.program.Scoping.{Scoping}
 use Rattle.rip_tree.specs.Branches.{child_of, links_of, node_of}
 use Rattle.rip_tree.specs.Program.{Code, scoping_of}
-use Rattle.rip_frames.specs.declared.part.Part.{Part}
-use Rattle.rip_frames.specs.declared.part.Role.TheVariants.{Value, Target}
+use Rattle.rip_runs.specs.declared.part.Inner.{Inner}
+use Rattle.rip_runs.specs.declared.part.Part.{Part}
+use Rattle.rip_runs.specs.declared.part.Role.TheVariants.{Target}
+use Rattle.rip_runs.specs.Frame.{inner, inside}
 
 -- a program whose literals are loaded: of each node the span of the text that it is
 pub record Loaded : Type 0 where
@@ -108,16 +110,20 @@ literal p id = slice_index_or p.literals id (record { start = 0; count = 0 })
 
 -- a node as a part of the open part: one of depth less is left for it
 abbrev pub part : Part → ℕ → Part
-part at id = record at { node = id; room = at.room - 1; role = Value }
+part at id = inside at (inner at id)
 
--- the same node as a target
-abbrev pub target : Part → ℕ → Part
-target at id = record at { node = id; room = at.room - 1; role = Target }
+-- the child at this place, in the scope of the open part
+abbrev pub inner_at : Loaded → Part → ℕ → Inner
+inner_at p at place = inner at (child p at.node place)
+
+-- the same as a target: a reference, which is not read
+abbrev pub inner_target : Loaded → Part → ℕ → Inner
+inner_target p at place = record (inner_at p at place) { role = Target }
 
 -- the child at this place as a part
 abbrev pub part_at : Loaded → Part → ℕ → Part
-part_at p at place = part at (child p at.node place)
+part_at p at place = inside at (inner_at p at place)
 
 -- a child of a part, entered as a reference
 abbrev pub target_at : Loaded → Part → ℕ → Part
-target_at p at place = target at (child p at.node place)
+target_at p at place = inside at (inner_target p at place)

@@ -3,14 +3,15 @@ use Rattle.std.specs.Prelude.{◌≡◌, ℕ, ◌+◌, min, Option, Some, Result
 use Rattle.rip_values.specs.declared.value.Refused.{Refused}
 use Rattle.rip_values.specs.declared.value.Refused.TheVariants.{Limit as At, Memory as NoRoom}
 use Rattle.rip_heap.specs.World.{World}
-use Rattle.rip_frames.specs.declared.completion.Stop.TheVariants.{Limit as AtLimit}
-use Rattle.rip_frames.specs.Cut.{run_of}
-use Rattle.rip_frames.specs.Row.{Row, Table}
-use Rattle.rip_frames.specs.Run.{Answer, Stops, Calling}
-use Rattle.rip_frames.specs.Started.{Started}
-use Rattle.rip_machine.specs.declared.outcome.Outcome.{Outcome}
-use Rattle.rip_machine.specs.declared.outcome.Outcome.TheVariants.{Value as Gives, Thrown, Fault, Limit, Memory}
-use Rattle.rip_machine.specs.Law.{Begins, Standing, end_of, left, open_depth}
+use Rattle.rip_runs.specs.declared.completion.Stop.TheVariants.{Limit as AtLimit}
+use Rattle.rip_runs.specs.Cut.{run_of}
+use Rattle.rip_runs.specs.Row.{Row, Table}
+use Rattle.rip_runs.specs.Run.{Answer, Stops, Calling}
+use Rattle.rip_runs.specs.Started.{Started}
+use Rattle.rip_runs.specs.declared.outcome.Outcome.{Outcome}
+use Rattle.rip_runs.specs.declared.outcome.Outcome.TheVariants.{Value as Gives, Thrown, Fault, Limit, Memory}
+use Rattle.rip_runs.specs.Law.{end_of}
+use Rattle.rip_machine.specs.Law.{Begins, Standing, left, open_depth}
 use Rattle.rip_machine.specs.Reading.{Loaded}
 use Rattle.rip_machine.specs.Starting.{Beginning, Runs, Exceeds, begun_by}
 use Rattle.rip_machine.specs.Table.{table}

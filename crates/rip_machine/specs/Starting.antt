@@ -8,18 +8,19 @@ use Rattle.rip_values.specs.declared.value.Value.TheVariants.{Object}
 use Rattle.rip_heap.specs.declared.class.Class.TheVariants.{ThrownTypeError}
 use Rattle.rip_heap.specs.World.{World, charging}
 use Rattle.rip_tree.specs.Program.{root_of}
-use Rattle.rip_frames.specs.declared.frame.Ending.TheVariants as ending
-use Rattle.rip_frames.specs.declared.part.Part.{Part}
-use Rattle.rip_frames.specs.declared.part.Role.TheVariants as role
-use Rattle.rip_frames.specs.Row.{Row}
-use Rattle.rip_frames.specs.Run.{world_at}
-use Rattle.rip_frames.specs.Started.{Started, ScriptOf, CallOf}
-use Rattle.rip_machine.specs.declared.calls.Invocable.{Invocable}
-use Rattle.rip_machine.specs.declared.calls.Invocable.TheVariants.{OfScript, OfBuiltin, NotCallable}
+use Rattle.rip_runs.specs.declared.frame.Ending.TheVariants as ending
+use Rattle.rip_runs.specs.declared.part.Part.{Part}
+use Rattle.rip_runs.specs.declared.part.Role.TheVariants as role
+use Rattle.rip_runs.specs.Frame.{inside}
+use Rattle.rip_runs.specs.Row.{Row}
+use Rattle.rip_runs.specs.Run.{world_at}
+use Rattle.rip_runs.specs.Started.{Started, ScriptOf, CallOf}
+use Rattle.rip_machine.specs.declared.rows.calls.Invocable.{Invocable}
+use Rattle.rip_machine.specs.declared.rows.calls.Invocable.TheVariants.{OfScript, OfBuiltin, NotCallable}
 use Rattle.rip_machine.specs.declared.outcome.Start.{Start}
 use Rattle.rip_machine.specs.declared.outcome.Start.TheVariants as start
 use Rattle.rip_machine.specs.Reading.{Loaded}
-use Rattle.rip_machine.specs.Rows.Calls.{answered_by, answerer_of, callable}
+use Rattle.rip_machine.specs.Rows.Calls.{answered_by, answerer_of, callable, running}
 use Rattle.rip_machine.specs.Rows.Functions.{body, function_entered}
 use Rattle.rip_machine.specs.Rows.Names.{throws}
 use Rattle.rip_machine.specs.Rows.Scripts.{script_entered, script_row}
@@ -35,20 +36,20 @@ abbrev pub script_begun : Loaded → ℕ → ℕ → Option World → Beginning
 script_begun p depth root None = Exceeds Cells
 script_begun p depth root (Some x) = Runs (script_row p root depth x) x
 
+-- the place outside all code where a function is called, so that one of the script takes a depth of 1, as one that `call`
+-- calls there does (15.3.4.4)
+abbrev pub outside : ℕ → Value → Part
+outside depth this = record { node = 0; scope = 0; this = this; room = depth + 1; role = role.Value }
+
 -- the part of a function that is called from outside: it takes a depth of 1, and its statements have what is left
 abbrev pub function_part : ℕ → ℕ → Value → ℕ → Part
-function_part f scope this depth = record { node = f; scope = scope; this = this; room = depth; role = role.Value }
+function_part f scope this depth = inside (outside depth this) (running f scope this)
 
 -- a function stands at its first statement, where what entering it costs fits (13.2.1)
 abbrev pub function_begun : Loaded → ℕ → ℕ → Value → Option (ℕ × World) → Beginning
 function_begun p depth f this None = Exceeds Cells
 function_begun p depth f this (Some made) =
     Runs (statements p (function_part f made.0 this depth) ending.Call (body p f) made.1) made.1
-
--- the place outside all code where a built-in function is called, so that a function of the script that `call` calls there
--- takes a depth of 1, as one that is called from outside does (15.3.4.4)
-abbrev pub outside : ℕ → Value → Part
-outside depth this = record { node = 0; scope = 0; this = this; room = depth + 1; role = role.Value }
 
 -- a built-in function stands at its own work, where the charge of its arguments fits
 abbrev pub builtin_begun : Loaded → ℕ → Builtin → Value → List Value → Option World → Beginning

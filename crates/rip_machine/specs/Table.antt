@@ -5,13 +5,17 @@ use Rattle.rip_values.specs.declared.value.Value.TheVariants.{Null, Bool as Bool
 use Rattle.rip_heap.specs.World.{World}
 use Rattle.rip_tree.specs.declared.form.Form.{Form}
 use Rattle.rip_tree.specs.declared.form.Form.TheVariants as form
-use Rattle.rip_frames.specs.declared.completion.Completion.{Completion}
-use Rattle.rip_frames.specs.declared.completion.Completion.TheVariants.{Broken, Continued}
-use Rattle.rip_frames.specs.declared.frame.Frame.{Frame}
-use Rattle.rip_frames.specs.declared.frame.Frame.TheVariants as frame
-use Rattle.rip_frames.specs.declared.part.Part.{Part}
-use Rattle.rip_frames.specs.Row.{Row, Ends, Table, after_first}
-use Rattle.rip_frames.specs.Stack.{Open}
+use Rattle.rip_runs.specs.declared.completion.Completion.{Completion}
+use Rattle.rip_runs.specs.declared.completion.Completion.TheVariants.{Broken, Continued}
+use Rattle.rip_runs.specs.declared.frame.HostedWait.{HostedWait}
+use Rattle.rip_runs.specs.declared.frame.HostedWait.TheVariants as hosted
+use Rattle.rip_runs.specs.declared.frame.OwnWait.{OwnWait}
+use Rattle.rip_runs.specs.declared.frame.OwnWait.TheVariants as own
+use Rattle.rip_runs.specs.declared.frame.Wait.{Wait}
+use Rattle.rip_runs.specs.declared.frame.Wait.TheVariants.{Own, Hosted}
+use Rattle.rip_runs.specs.declared.part.Part.{Part}
+use Rattle.rip_runs.specs.Row.{Row, Ends, Table, after_first}
+use Rattle.rip_runs.specs.Stack.{Open}
 use Rattle.rip_machine.specs.Reading.{Loaded, form_of, literal}
 use Rattle.rip_machine.specs.Rows.Expressions.{gives, name_row, binary_row, right_end, logical_row, conditional_row, comma_row, unary_row, assign_row, assign_value, compound_row, compound_value, step_row}
 use Rattle.rip_machine.specs.Rows.Exceptions.{finally_end, finally_row, throw_end, throw_row, try_end, try_row}
@@ -90,54 +94,62 @@ row_by p at (form.Catch name) w = done w
 abbrev pub row : Loaded → Part → World → Row
 row p at w = row_by p at (form_of p at.node) w
 
--- what remains of a row at each frame
-abbrev pub rest_by : Loaded → Frame → List Value → Completion → World → Row
-rest_by p (frame.Statement at place ending) values c w = statement_end p at ending place c w
-rest_by p (frame.Initialiser at place) values c w = initialiser_end p at place c w
-rest_by p (frame.Expression at) values c w = after_first (expression_row p at) c w
-rest_by p (frame.IfTest at) values c w = after_first (if_row p at) c w
-rest_by p (frame.DoBody at) values c w = do_body p at c w
-rest_by p (frame.DoTest at) values c w = do_test p at c w
-rest_by p (frame.WhileTest at) values c w = while_test p at c w
-rest_by p (frame.WhileBody at) values c w = while_body p at c w
-rest_by p (frame.ForStart at) values c w = for_started p at c w
-rest_by p (frame.ForTest at) values c w = for_test p at c w
-rest_by p (frame.ForUpdate at) values c w = for_update p at c w
-rest_by p (frame.ForBody at) values c w = for_body p at c w
-rest_by p (frame.Discriminant at) values c w = after_first (switch_row p at) c w
-rest_by p (frame.CaseTest at clause v) values c w = case_end p at clause v c w
-rest_by p (frame.ClauseStatement at clause place) values c w = clause_end p at clause place c w
-rest_by p (frame.ThrowValue at) values c w = throw_end c w
-rest_by p (frame.TryBlock at) values c w = try_end p at c w
-rest_by p (frame.CatchBlock at) values c w = finally_row p at c w
-rest_by p (frame.FinallyBlock at before) values c w = finally_end before c w
-rest_by p (frame.ReturnValue at) values c w = return_end c w
-rest_by p (frame.Callee at) values c w = callee_end p at c w
-rest_by p (frame.Argument at place f this) values c w = argument_end p at place f this values c w
-rest_by p (frame.Constructor at) values c w = after_first (new_row p at) c w
-rest_by p (frame.NewArgument at place f) values c w = new_argument_end p at place f values c w
-rest_by p (frame.MemberBase at) values c w = after_first (member_row p at) c w
-rest_by p (frame.IndexBase at) values c w = after_first (index_row p at) c w
-rest_by p (frame.Subscript at base) values c w = subscript_end p at base c w
-rest_by p (frame.Element at place array) values c w = element_end p at place array c w
-rest_by p (frame.Entry at place object) values c w = entry_end p at place object c w
-rest_by p (frame.StepTarget at) values c w = after_first (step_row p at) c w
-rest_by p (frame.Operand at) values c w = after_first (unary_row p at) c w
-rest_by p (frame.Left at) values c w = after_first (binary_row p at) c w
-rest_by p (frame.Right at a) values c w = right_end p at a c w
-rest_by p (frame.LogicalLeft at) values c w = after_first (logical_row p at) c w
-rest_by p (frame.ConditionalTest at) values c w = after_first (conditional_row p at) c w
-rest_by p (frame.AssignTarget at) values c w = after_first (assign_row p at) c w
-rest_by p (frame.AssignValue at target) values c w = assign_value p at target c w
-rest_by p (frame.CompoundTarget at) values c w = after_first (compound_row p at) c w
-rest_by p (frame.CompoundValue at target old) values c w = compound_value p at target old c w
-rest_by p (frame.CommaLeft at) values c w = after_first (comma_row p at) c w
-rest_by p (frame.Called at b this) values c w = answered_by p at (answerer_of b) b this values w
-rest_by p (frame.Last at) values c w = Ends c w
+-- what remains of a row at each place where it waits, and asks the host for nothing before its next part
+abbrev pub own_rest : Loaded → Part → OwnWait → List Value → Completion → World → Row
+own_rest p at (own.Statement place ending) values c w = statement_end p at ending place c w
+own_rest p at (own.Initialiser place) values c w = initialiser_end p at place c w
+own_rest p at own.Expression values c w = after_first (expression_row p at) c w
+own_rest p at own.IfTest values c w = after_first (if_row p at) c w
+own_rest p at own.DoBody values c w = do_body p at c w
+own_rest p at own.DoTest values c w = do_test p at c w
+own_rest p at own.WhileTest values c w = while_test p at c w
+own_rest p at own.WhileBody values c w = while_body p at c w
+own_rest p at own.ForStart values c w = for_started p at c w
+own_rest p at own.ForTest values c w = for_test p at c w
+own_rest p at own.ForUpdate values c w = for_update p at c w
+own_rest p at own.ForBody values c w = for_body p at c w
+own_rest p at own.Discriminant values c w = after_first (switch_row p at) c w
+own_rest p at (own.CaseTest clause v) values c w = case_end p at clause v c w
+own_rest p at (own.ClauseStatement clause place) values c w = clause_end p at clause place c w
+own_rest p at own.ThrowValue values c w = throw_end c w
+own_rest p at own.TryBlock values c w = try_end p at c w
+own_rest p at own.CatchBlock values c w = finally_row p at c w
+own_rest p at (own.FinallyBlock before) values c w = finally_end before c w
+own_rest p at own.ReturnValue values c w = return_end c w
+own_rest p at own.Constructor values c w = after_first (new_row p at) c w
+own_rest p at (own.NewArgument place f) values c w = new_argument_end p at place f values c w
+own_rest p at own.IndexBase values c w = after_first (index_row p at) c w
+own_rest p at (own.Element place array) values c w = element_end p at place array c w
+own_rest p at (own.Entry place object) values c w = entry_end p at place object c w
+own_rest p at own.Operand values c w = after_first (unary_row p at) c w
+own_rest p at own.Left values c w = after_first (binary_row p at) c w
+own_rest p at (own.Right a) values c w = right_end p at a c w
+own_rest p at own.LogicalLeft values c w = after_first (logical_row p at) c w
+own_rest p at own.ConditionalTest values c w = after_first (conditional_row p at) c w
+own_rest p at own.AssignTarget values c w = after_first (assign_row p at) c w
+own_rest p at own.CommaLeft values c w = after_first (comma_row p at) c w
+own_rest p at own.Last values c w = Ends c w
+
+-- the same at each place after which it may ask the host
+abbrev pub hosted_rest : Loaded → Part → HostedWait → List Value → Completion → World → Row
+hosted_rest p at hosted.Callee values c w = callee_end p at c w
+hosted_rest p at (hosted.Argument place f this) values c w = argument_end p at place f this values c w
+hosted_rest p at hosted.MemberBase values c w = after_first (member_row p at) c w
+hosted_rest p at (hosted.Subscript base) values c w = subscript_end at base c w
+hosted_rest p at hosted.StepTarget values c w = after_first (step_row p at) c w
+hosted_rest p at (hosted.AssignValue target) values c w = assign_value p at target c w
+hosted_rest p at hosted.CompoundTarget values c w = after_first (compound_row p at) c w
+hosted_rest p at (hosted.CompoundValue target old) values c w = compound_value p at target old c w
+hosted_rest p at (hosted.Called b this) values c w = answered_by p at (answerer_of b) b this values w
+
+-- the same at each place
+abbrev pub rest_by : Loaded → Part → Wait → List Value → Completion → World → Row
+rest_by p at (Own wait) values c w = own_rest p at wait values c w
+rest_by p at (Hosted wait) values c w = hosted_rest p at wait values c w
 
 -- what remains of a row at an open frame
 abbrev pub rest : Loaded → Open → Completion → World → Row
-rest p o c w = rest_by p o.frame o.values c w
+rest p o c w = rest_by p o.frame.at o.frame.wait o.values c w
 
 -- the meaning of a program
 abbrev pub table : Loaded → Table

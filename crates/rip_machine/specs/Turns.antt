@@ -2,9 +2,9 @@
 -- turn by turn, by the frames that are open.
 use Rattle.std.specs.Prelude.{◌≡◌, ℕ, Option, None, Some}
 use Rattle.rip_heap.specs.World.{World}
-use Rattle.rip_frames.specs.declared.part.Part.{Part}
-use Rattle.rip_frames.specs.Row.{Row, Asks, with_value}
-use Rattle.rip_frames.specs.Run.{Calling, run}
+use Rattle.rip_runs.specs.declared.part.Part.{Part}
+use Rattle.rip_runs.specs.Row.{Row, Asks, with_value}
+use Rattle.rip_runs.specs.Run.{Calling, run}
 use Rattle.rip_machine.specs.Reading.{Loaded, child_at, part, part_at}
 use Rattle.rip_machine.specs.Rows.Statements.{do_row, for_turn, goes_on, tested, while_row}
 use Rattle.rip_machine.specs.Table.{table}

@@ -14,10 +14,10 @@ use Rattle.rip_tree.specs.declared.node.Piece.{Piece}
 use Rattle.rip_tree.specs.declared.program.Resolved.TheVariants.{Binding}
 use Rattle.rip_tree.specs.declared.program.Scoping.{Scoping}
 use Rattle.rip_tree.specs.Branches.{Branch}
-use Rattle.rip_frames.specs.declared.completion.Completion.TheVariants.{Normal}
-use Rattle.rip_frames.specs.declared.completion.Stop.{Stop}
-use Rattle.rip_frames.specs.Cut.{run_of}
-use Rattle.rip_frames.specs.Run.{Answer, Completes, Stops, Cuts, Calling}
+use Rattle.rip_runs.specs.declared.completion.Completion.TheVariants.{Normal}
+use Rattle.rip_runs.specs.declared.completion.Stop.{Stop}
+use Rattle.rip_runs.specs.Cut.{run_of}
+use Rattle.rip_runs.specs.Run.{Answer, Completes, Stops, Cuts, Calling}
 use Rattle.rip_machine.specs.Reading.{Loaded}
 use Rattle.rip_machine.specs.Rows.Scripts.{script_entered, script_row}
 use Rattle.rip_machine.specs.Table.{table}

@@ -1,16 +1,16 @@
 ghost use Rattle.std.specs.Prelude.{◌≡◌, ℕ};
 ghost use Rattle.rip_heap.specs.World.{World};
-ghost use Rattle.rip_frames.specs.Cut.{run_of};
-ghost use Rattle.rip_frames.specs.Row.{Row};
-ghost use Rattle.rip_frames.specs.Started.{Started};
+ghost use Rattle.rip_runs.specs.Cut.{run_of};
+ghost use Rattle.rip_runs.specs.Row.{Row};
+ghost use Rattle.rip_runs.specs.Started.{Started};
 ghost use Rattle.rip_machine.specs.Law.{Begins, left, loaded};
 ghost use Rattle.rip_machine.specs.Run.{RunsOn};
 ghost use Rattle.rip_machine.specs.Table.{table};
 ghost use Rattle.rip_machine.specs.Turns.{LoopsAreTheirRows};
 
 use crate::machine::Machine;
-use rip_frames::Part;
 use rip_heap::{Heap, Host};
+use rip_runs::Part;
 use rip_tree::Program;
 
 /// A law, and no work: after [`Machine::start`], what is left of the run with any number of units is the whole run of the
@@ -64,5 +64,4 @@ pub fn loops_are_their_rows<H: Host>(
     let _ = program;
     let _ = heap;
     let _ = host;
-    let _ = at;
 }

@@ -1,16 +1,18 @@
-//! The evaluator of scripts, which can be cut after any unit (ECMA-262 5.1, sections 10 to 14).
+//! The rows of the language: the evaluator of scripts, which can be cut after any unit (ECMA-262 5.1, sections 10 to 14).
 //!
 //! The meaning of a program is its table of rows, one for each form of node, in the order of the standard
-//! (`specs/Table.antt`). A [`Machine`] runs it in small steps: the functions of the rows stand in modules by families, and
-//! the contract of each says that what it does up to the next part is the row of the meaning. [`Machine::resume`] carries
-//! the law of cuts: after it answered `More`, the world is that of the run cut after exactly these units, and what is left
-//! is what was left, later; after `Done` both are those of the end of the run.
+//! (`specs/Table.antt`). The functions of the rows stand in modules by families, and the contract of each says by one word
+//! (`specs/Does.antt`) that what it does up to the next part is the row of the meaning. A [`Machine`] is a run
+//! (`rip_runs::Run`) of these rows, with where the texts of its program stand. [`Machine::resume`] carries the law of cuts:
+//! after it answered `More`, the world is that of the run cut after exactly these units, and what is left is what was left,
+//! later; after `Done` both are those of the end of the run.
 //!
 //! Every form of node has its row. What a row asks of the host is made at once, and counts no unit.
 //!
 //! | what | its definition in `specs/` |
 //! |---|---|
-//! | the row of each form | `Table.row_by`; what remains of it at each frame `Table.rest_by` |
+//! | the row of each form | `Table.row_by`; what remains of it at each place where it waits `Table.own_rest`, `Table.hosted_rest` |
+//! | that what is answered is a row | `Does.Does`, `Does.DoesPurely`, `Does.DoesWithHost` and those beside them |
 //! | names, and the errors that are thrown | `Rows/Names.antt` |
 //! | expressions; literals of arrays and objects | `Rows/Expressions.antt`, `Rows/Literals.antt` |
 //! | functions; calls; `new` | `Rows/Functions.antt`, `Rows/Calls.antt`, `Rows/Constructing.antt` |
@@ -30,31 +32,18 @@
 //! never written, so that the law holds for every program, heap and machine.
 #![tactic(auto)]
 
-mod arguments;
-mod calls;
-mod constructing;
-mod dispatch;
-mod exceptions;
-mod expressions;
-mod functions;
-mod hosted;
 mod law;
-mod leaves;
-mod literals;
 mod loading;
 mod machine;
-mod members;
-mod names;
 mod outcome;
-mod scripts;
+mod rows;
 mod source;
-mod statements;
-mod steps;
-mod switch;
+mod starting;
 mod whole;
 mod worked;
 
 pub use law::{begun_is_whole, loops_are_their_rows, started_runs_on};
 pub use machine::Machine;
-pub use outcome::{Outcome, Start, Turned};
+pub use outcome::Start;
+pub use rip_runs::{Outcome, Turned};
 pub use worked::{closing_is_worked, counting_is_worked};

@@ -1,7 +1,8 @@
 ghost use Rattle.std.specs.Prelude.{◌≡◌, length};
-ghost use Rattle.rip_machine.specs.Reading.{child, child_at, form_of, is_postfix, literal, logical_operator, operator, part, part_at, scoping, step_operator, target_at, unary_operator, logical_in, operator_in, step_in, unary_in, is_postfix_form};
+ghost use Rattle.rip_tree.specs.Program.{root_of};
+ghost use Rattle.rip_machine.specs.Reading.{child, child_at, form_of, is_postfix, inner_at, inner_target, literal, logical_operator, operator, scoping, step_operator, unary_operator, logical_in, operator_in, step_in, unary_in, is_postfix_form};
 
-use rip_frames::{Part, Role};
+use rip_runs::{Inner, Part, Role};
 use rip_tree::{Form, Program, Scoping};
 use rip_values::{BinaryOperator, LogicalOperator, Span, StepOperator, UnaryOperator};
 use std::marker::Model;
@@ -29,6 +30,13 @@ impl Source<'_> {
         self.program.count()
     }
 
+    /// The root of a script, which are numbered from 1.
+    pub fn root(&self, script: u32) -> u32
+        ensures { result ≡ root_of self.now.code.grove script }
+    {
+        self.program.root(script)
+    }
+
     /// The form of a node; past the last it is that of an empty statement.
     pub fn form(&self, id: u32) -> Form
         ensures { result ≡ form_of self.now id }
@@ -54,21 +62,20 @@ impl Source<'_> {
     }
 
     /// The child at a place as a part of the open part.
-    pub fn part_at(&self, at: &Part, place: u32) -> Part
-        ensures { result ≡ part_at self.now at.now place }
+    pub fn part_at(&self, at: &Part, place: u32) -> Inner
+        ensures { result ≡ inner_at self.now at.now place }
     {
-        part(at, self.child(at.node, place))
+        at.inner(self.child(at.node, place))
     }
 
     /// The same child as a target.
-    pub fn target_at(&self, at: &Part, place: u32) -> Part
-        ensures { result ≡ target_at self.now at.now place }
+    pub fn target_at(&self, at: &Part, place: u32) -> Inner
+        ensures { result ≡ inner_target self.now at.now place }
     {
-        Part {
+        Inner {
             node: self.child(at.node, place),
             scope: at.scope,
             this: at.this,
-            room: at.room.saturating_sub(1),
             role: Role::Target,
         }
     }
@@ -122,19 +129,6 @@ impl Source<'_> {
         ensures { result ≡ is_postfix self.now id }
     {
         is_postfix_form(self.form(id))
-    }
-}
-
-/// A node as a part of the open part: one of depth less is left for it.
-pub(crate) fn part(at: &Part, id: u32) -> Part
-    ensures { result ≡ part at.now id }
-{
-    Part {
-        node: id,
-        scope: at.scope,
-        this: at.this,
-        room: at.room.saturating_sub(1),
-        role: Role::Value,
     }
 }
 

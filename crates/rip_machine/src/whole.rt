@@ -4,8 +4,9 @@ ghost use Rattle.rip_machine.specs.Run.{Ran};
 ghost use Rattle.rip_machine.specs.Starting.{started_of};
 
 use crate::machine::Machine;
-use crate::outcome::{Outcome, Start, Turned};
+use crate::outcome::Start;
 use rip_heap::{Heap, Host};
+use rip_runs::{Outcome, Turned};
 use rip_tree::Program;
 use rip_values::Refused;
 use std::alloc::Global;

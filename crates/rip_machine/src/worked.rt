@@ -2,7 +2,7 @@ ghost use Rattle.std.specs.Prelude.{◌≡◌, pos, Some};
 ghost use Rattle.rip_values.specs.declared.value.Limit.{Limit};
 ghost use Rattle.rip_values.specs.declared.value.Limit.TheVariants.{Cells, Fuel};
 ghost use Rattle.rip_values.specs.declared.value.Value.TheVariants.{Num, Undefined};
-ghost use Rattle.rip_frames.specs.declared.completion.Stop.TheVariants.{Limit as AtLimit};
+ghost use Rattle.rip_runs.specs.declared.completion.Stop.TheVariants.{Limit as AtLimit};
 ghost use Rattle.rip_machine.specs.Worked.{counting, closing, shows, Ended, Stopped, Open};
 
 /// The script `"use strict";var i=0;while(i<3){i++;}` takes 29 units. After 11 units `i` is 0, and the loop, its block, the

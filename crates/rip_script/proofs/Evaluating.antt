@@ -4,15 +4,15 @@ use Rattle.std.specs.Prelude.{Result, Ok}
 use Rattle.rip_values.specs.declared.value.Refused.{Refused}
 use Rattle.std.proofs.lemmas.Bool.{le-leb}
 use Rattle.rip_heap.specs.World.{World}
-use Rattle.rip_frames.specs.Cut.{conclude}
-use Rattle.rip_frames.specs.Row.{Table}
-use Rattle.rip_frames.specs.Run.{Answer, Completes, Stops, Cuts, Calling}
+use Rattle.rip_runs.specs.Cut.{conclude}
+use Rattle.rip_runs.specs.Row.{Table}
+use Rattle.rip_runs.specs.Run.{Answer, Completes, Stops, Cuts, Calling}
 use Rattle.rip_machine.specs.Law.{Resumes, Standing}
-use Rattle.rip_machine.specs.declared.outcome.Turned.{Turned}
-use Rattle.rip_machine.specs.declared.outcome.Turned.TheVariants.{More, Done}
+use Rattle.rip_runs.specs.declared.outcome.Turned.{Turned}
+use Rattle.rip_runs.specs.declared.outcome.Turned.TheVariants.{More, Done}
 use Rattle.rip_machine.specs.Law.{loaded}
 use Rattle.rip_machine.specs.Table.{table}
-use Rattle.rip_machine.specs.declared.outcome.Outcome.{Outcome}
+use Rattle.rip_runs.specs.declared.outcome.Outcome.{Outcome}
 use Rattle.rip_tree.specs.Program.{Code}
 use Rattle.rip_script.specs.Evaluation.{IsEvaluated, empty_host, no_host}
 use Rattle.rip_script.specs.Steps.{BeginsRun, IsOver}

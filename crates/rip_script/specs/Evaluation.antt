@@ -10,16 +10,16 @@ use Rattle.rip_heap.specs.World.{World, empty_world}
 use Rattle.rip_heap.specs.declared.host.EmptyHost.{EmptyHost}
 use Rattle.rip_heap.specs.declared.host.HostDone.TheVariants.{Fault}
 use Rattle.rip_values.specs.declared.value.Fault.TheVariants.{NotInProfile}
-use Rattle.rip_frames.specs.declared.completion.Completion.TheVariants.{Normal}
-use Rattle.rip_frames.specs.declared.next.Control.TheVariants.{Give}
-use Rattle.rip_frames.specs.Run.{Calling}
+use Rattle.rip_runs.specs.declared.completion.Completion.TheVariants.{Normal}
+use Rattle.rip_runs.specs.declared.next.Control.TheVariants.{Give}
+use Rattle.rip_runs.specs.Run.{Calling}
 use Rattle.rip_machine.specs.Law.{Resumes, Standing, Starts, loaded}
 use Rattle.rip_machine.specs.Loading.{Loads}
 use Rattle.rip_machine.specs.Starting.{Beginning, begun}
 use Rattle.rip_machine.specs.Table.{table}
-use Rattle.rip_machine.specs.declared.outcome.Outcome.TheVariants.{Limit as LimitPassed}
+use Rattle.rip_runs.specs.declared.outcome.Outcome.TheVariants.{Limit as LimitPassed}
 use Rattle.rip_machine.specs.declared.outcome.Start.TheVariants.{Script}
-use Rattle.rip_machine.specs.declared.outcome.Turned.TheVariants.{Done}
+use Rattle.rip_runs.specs.declared.outcome.Turned.TheVariants.{Done}
 use Rattle.rip_script.specs.declared.evaluate.Ended.{Ended}
 use Rattle.rip_script.specs.declared.words.RunLimits.{RunLimits}
 

@@ -9,8 +9,8 @@ use Rattle.rip_values.specs.declared.value.Value.{Value}
 use Rattle.rip_tree.specs.Program.{Code}
 use Rattle.rip_heap.specs.Scopes.{binding, bindings_of}
 use Rattle.rip_heap.specs.World.{World, scope_at}
-use Rattle.rip_machine.specs.declared.outcome.Outcome.{Outcome}
-use Rattle.rip_machine.specs.declared.outcome.Outcome.TheVariants as outcome
+use Rattle.rip_runs.specs.declared.outcome.Outcome.{Outcome}
+use Rattle.rip_runs.specs.declared.outcome.Outcome.TheVariants as outcome
 use Rattle.rip_script.specs.Lines.{lines_text}
 use Rattle.rip_script.specs.Values.{name_text, value_text}
 use Rattle.rip_script.specs.declared.evaluate.Ended.{Ended}

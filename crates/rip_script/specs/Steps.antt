@@ -12,9 +12,9 @@ use Rattle.rip_early.specs.Mistakes.{AreClean}
 use Rattle.rip_early.specs.Program.{program_of}
 use Rattle.rip_heap.specs.World.{World}
 use Rattle.rip_machine.specs.Law.{Standing}
-use Rattle.rip_machine.specs.declared.outcome.Turned.{Turned}
-use Rattle.rip_machine.specs.declared.outcome.Turned.TheVariants.{More}
-use Rattle.rip_machine.specs.declared.outcome.Turned.TheVariants as turned
+use Rattle.rip_runs.specs.declared.outcome.Turned.{Turned}
+use Rattle.rip_runs.specs.declared.outcome.Turned.TheVariants.{More}
+use Rattle.rip_runs.specs.declared.outcome.Turned.TheVariants as turned
 use Rattle.rip_script.specs.Evaluation.{IsEvaluated, IsStarted, stopped}
 use Rattle.rip_script.specs.declared.words.RunLimits.{RunLimits}
 use Rattle.rip_tree.specs.declared.node.Node.{Node}

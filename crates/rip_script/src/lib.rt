@@ -25,6 +25,8 @@ mod print;
 mod read;
 mod refusal;
 mod report;
+#[cfg(test)]
+mod start_tests;
 mod status;
 #[cfg(test)]
 mod tests;

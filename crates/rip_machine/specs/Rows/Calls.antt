@@ -12,19 +12,21 @@ use Rattle.rip_heap.specs.declared.class.Class.TheVariants.{ThrownTypeError}
 use Rattle.rip_heap.specs.World.{World, charging, code_of, object_at}
 use Rattle.rip_members.specs.Calls.{builtin_of}
 use Rattle.rip_builtins.specs.Builtins.{builtin}
-use Rattle.rip_frames.specs.declared.completion.Completion.{Completion}
-use Rattle.rip_frames.specs.declared.completion.Completion.TheVariants.{Normal, Thrown, Returned, Broken, Continued, Referred, Method}
-use Rattle.rip_frames.specs.declared.completion.Stop.TheVariants.{Fault as AtFault, Limit as AtLimit}
-use Rattle.rip_frames.specs.declared.frame.Ending.{Ending}
-use Rattle.rip_frames.specs.declared.frame.Ending.TheVariants as ending
-use Rattle.rip_frames.specs.declared.part.Part.{Part}
-use Rattle.rip_frames.specs.declared.part.Role.TheVariants as role
-use Rattle.rip_frames.specs.Row.{Row, Asks, Ends, Halts, value_of, with_value}
-use Rattle.rip_machine.specs.declared.calls.Answerer.{Answerer}
-use Rattle.rip_machine.specs.declared.calls.Answerer.TheVariants.{Evaluator, BuiltinTable, HostItself}
-use Rattle.rip_machine.specs.declared.calls.Invocable.{Invocable}
-use Rattle.rip_machine.specs.declared.calls.Invocable.TheVariants.{OfScript, OfBuiltin, NotCallable}
-use Rattle.rip_machine.specs.Reading.{Loaded, child, children_from, part}
+use Rattle.rip_runs.specs.declared.completion.Completion.{Completion}
+use Rattle.rip_runs.specs.declared.completion.Completion.TheVariants.{Normal, Thrown, Returned, Broken, Continued, Referred, Method}
+use Rattle.rip_runs.specs.declared.completion.Stop.TheVariants.{Fault as AtFault, Limit as AtLimit}
+use Rattle.rip_runs.specs.declared.frame.Ending.{Ending}
+use Rattle.rip_runs.specs.declared.frame.Ending.TheVariants as ending
+use Rattle.rip_runs.specs.declared.part.Inner.{Inner}
+use Rattle.rip_runs.specs.declared.part.Part.{Part}
+use Rattle.rip_runs.specs.declared.part.Role.TheVariants as role
+use Rattle.rip_runs.specs.Frame.{inside}
+use Rattle.rip_runs.specs.Row.{Row, Asks, Ends, Halts, value_of, with_value}
+use Rattle.rip_machine.specs.declared.rows.calls.Answerer.{Answerer}
+use Rattle.rip_machine.specs.declared.rows.calls.Answerer.TheVariants.{Evaluator, BuiltinTable, HostItself}
+use Rattle.rip_machine.specs.declared.rows.calls.Invocable.{Invocable}
+use Rattle.rip_machine.specs.declared.rows.calls.Invocable.TheVariants.{OfScript, OfBuiltin, NotCallable}
+use Rattle.rip_machine.specs.Reading.{Loaded, children_from, inner_at, part}
 use Rattle.rip_machine.specs.Rows.Expressions.{gives, with_outcome}
 use Rattle.rip_machine.specs.Rows.Functions.{body, function_entered}
 use Rattle.rip_machine.specs.Rows.Host.{asks_call}
@@ -55,12 +57,12 @@ callable w (Text span) = NotCallable
 -- FUNCTIONS OF THE SCRIPT (13.2.1)
 
 -- the function runs: one of depth less is left for it
-abbrev pub running : Part → ℕ → ℕ → Value → Part
-running at f scope this = record { node = f; scope = scope; this = this; room = at.room - 1; role = role.Value }
+abbrev pub running : ℕ → ℕ → Value → Inner
+running f scope this = record { node = f; scope = scope; this = this; role = role.Value }
 
 abbrev pub body_row : Loaded → Part → ℕ → Value → Ending → Option (ℕ × World) → World → Row
 body_row p at f this ending None w = Halts (AtLimit Cells) w
-body_row p at f this ending (Some made) w = statements p (running at f made.0 this) ending (body p f) made.1
+body_row p at f this ending (Some made) w = statements p (inside at (running f made.0 this)) ending (body p f) made.1
 
 -- a function of the script is entered: the depth that it takes, and then its cells
 abbrev pub enters : Loaded → Part → ℕ → ℕ → Value → List Value → Ending → World → Row
@@ -146,8 +148,8 @@ with_callee Continued w go = Ends Continued w
 with_callee (Referred r) w go = Ends (Referred r) w
 
 -- the child that is called
-abbrev pub callee_part : Loaded → Part → Part
-callee_part p at = record (part at (child p at.node 0)) { role = role.Callee }
+abbrev pub callee : Loaded → Part → Inner
+callee p at = record (inner_at p at 0) { role = role.Callee }
 
 -- after the callee: the arguments, and the call
 abbrev pub callee_end : Loaded → Part → Completion → World → Row
@@ -155,4 +157,4 @@ callee_end p at c w = with_callee c w (λ f this. arguments p at f this [] (chil
 
 -- the row of a call
 abbrev pub call_row : Loaded → Part → World → Row
-call_row p at w = Asks (callee_part p at) w (callee_end p at)
+call_row p at w = Asks (inside at (callee p at)) w (callee_end p at)

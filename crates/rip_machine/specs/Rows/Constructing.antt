@@ -16,15 +16,15 @@ use Rattle.rip_members.specs.declared.base.Base.{Base}
 use Rattle.rip_members.specs.declared.base.Base.TheVariants as base
 use Rattle.rip_members.specs.Base.{base_of}
 use Rattle.rip_builtins.specs.Builtins.{builtin}
-use Rattle.rip_frames.specs.declared.completion.Completion.{Completion}
-use Rattle.rip_frames.specs.declared.completion.Stop.TheVariants.{Fault as AtFault, Limit as AtLimit}
-use Rattle.rip_frames.specs.declared.frame.Ending.TheVariants as ending
-use Rattle.rip_frames.specs.declared.part.Part.{Part}
-use Rattle.rip_frames.specs.Row.{Row, Halts, value_of, with_value}
-use Rattle.rip_machine.specs.declared.calls.Invocable.{Invocable}
-use Rattle.rip_machine.specs.declared.calls.Invocable.TheVariants.{OfScript, OfBuiltin, NotCallable}
-use Rattle.rip_machine.specs.declared.constructing.Making.{Making}
-use Rattle.rip_machine.specs.declared.constructing.Making.TheVariants.{Errors, OutsideProfile, Nothing}
+use Rattle.rip_runs.specs.declared.completion.Completion.{Completion}
+use Rattle.rip_runs.specs.declared.completion.Stop.TheVariants.{Fault as AtFault, Limit as AtLimit}
+use Rattle.rip_runs.specs.declared.frame.Ending.TheVariants as ending
+use Rattle.rip_runs.specs.declared.part.Part.{Part}
+use Rattle.rip_runs.specs.Row.{Row, Halts, value_of, with_value}
+use Rattle.rip_machine.specs.declared.rows.calls.Invocable.{Invocable}
+use Rattle.rip_machine.specs.declared.rows.calls.Invocable.TheVariants.{OfScript, OfBuiltin, NotCallable}
+use Rattle.rip_machine.specs.declared.rows.constructing.Making.{Making}
+use Rattle.rip_machine.specs.declared.rows.constructing.Making.TheVariants.{Errors, OutsideProfile, Nothing}
 use Rattle.rip_machine.specs.Reading.{Loaded, children_from, part, part_at}
 use Rattle.rip_machine.specs.Rows.Calls.{callable, charged, enters}
 use Rattle.rip_machine.specs.Rows.Expressions.{gives, with_outcome}
@@ -78,14 +78,14 @@ making_of b = Nothing
 
 -- what `new` makes of a built-in function: an error; conversions are outside the profile (15.5.2, 15.7.2), and the others
 -- construct nothing
-abbrev pub made_by : Loaded → Making → Builtin → List Value → World → Row
-made_by p Errors b args w = charged (length args) w (λ x. with_outcome (builtin x b Undefined args) x gives)
-made_by p OutsideProfile b args w = Halts (AtFault NotInProfile) w
-made_by p Nothing b args w = throws ThrownTypeError w
+abbrev pub made_by : Making → Builtin → List Value → World → Row
+made_by Errors b args w = charged (length args) w (λ x. with_outcome (builtin x b Undefined args) x gives)
+made_by OutsideProfile b args w = Halts (AtFault NotInProfile) w
+made_by Nothing b args w = throws ThrownTypeError w
 
 abbrev pub constructs_by : Loaded → Part → Invocable → Value → List Value → World → Row
 constructs_by p at (OfScript f scope) constructor args w = constructed_from p at f scope args (prototype_of w constructor) w
-constructs_by p at (OfBuiltin b) constructor args w = made_by p (making_of b) b args w
+constructs_by p at (OfBuiltin b) constructor args w = made_by (making_of b) b args w
 constructs_by p at NotCallable constructor args w = throws ThrownTypeError w
 
 abbrev pub constructs : Loaded → Part → Value → List Value → World → Row

@@ -4,11 +4,13 @@ use Rattle.rip_values.specs.declared.value.Limit.TheVariants.{Cells}
 use Rattle.rip_values.specs.declared.value.Value.{Value}
 use Rattle.rip_heap.specs.Scopes.{new_scope, with_binding}
 use Rattle.rip_heap.specs.World.{World}
-use Rattle.rip_frames.specs.declared.completion.Completion.{Completion}
-use Rattle.rip_frames.specs.declared.completion.Completion.TheVariants.{Normal, Thrown, Returned, Broken, Continued, Referred, Method}
-use Rattle.rip_frames.specs.declared.completion.Stop.TheVariants.{Limit as AtLimit}
-use Rattle.rip_frames.specs.declared.part.Part.{Part}
-use Rattle.rip_frames.specs.Row.{Row, Asks, Ends, Halts, with_value}
+use Rattle.rip_runs.specs.declared.completion.Completion.{Completion}
+use Rattle.rip_runs.specs.declared.completion.Completion.TheVariants.{Normal, Thrown, Returned, Broken, Continued, Referred, Method}
+use Rattle.rip_runs.specs.declared.completion.Stop.TheVariants.{Limit as AtLimit}
+use Rattle.rip_runs.specs.declared.part.Inner.{Inner}
+use Rattle.rip_runs.specs.declared.part.Part.{Part}
+use Rattle.rip_runs.specs.Frame.{inner, inside}
+use Rattle.rip_runs.specs.Row.{Row, Asks, Ends, Halts, with_value}
 use Rattle.rip_machine.specs.Reading.{Loaded, child, child_at, part, part_at}
 
 -- 12.13
@@ -38,13 +40,13 @@ abbrev pub finally_row : Loaded → Part → Completion → World → Row
 finally_row p at before w = finally_by at (child_at p at.node 2) before w
 
 -- the block of a `catch` clause, in a scope of its own
-abbrev pub catch_part : Loaded → Part → ℕ → ℕ → Part
-catch_part p at clause scope = record (part at (child p clause 0)) { scope = scope }
+abbrev pub catch_part : Loaded → Part → ℕ → ℕ → Inner
+catch_part p at clause scope = record (inner at (child p clause 0)) { scope = scope }
 
 -- `catch` has a scope of one binding, which is the value that was thrown
 abbrev pub caught_in : Loaded → Part → ℕ → Value → Option (ℕ × World) → World → Row
 caught_in p at clause v None w = Halts (AtLimit Cells) w
-caught_in p at clause v (Some made) w = Asks (catch_part p at clause made.0) (with_binding made.1 made.0 0 v) (finally_row p at)
+caught_in p at clause v (Some made) w = Asks (inside at (catch_part p at clause made.0)) (with_binding made.1 made.0 0 v) (finally_row p at)
 
 abbrev pub caught_by : Loaded → Part → Option ℕ → Value → World → Row
 caught_by p at None v w = finally_row p at (Thrown v) w

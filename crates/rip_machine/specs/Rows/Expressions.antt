@@ -28,14 +28,16 @@ use Rattle.rip_ops.specs.Operators.{binary, unary as unary_outcome}
 use Rattle.rip_heap.specs.Outcome.{Outcome, Gives, Throws, Faults, Exceeds, value_of as value_of_number}
 use Rattle.rip_tree.specs.declared.form.Form.{Form}
 use Rattle.rip_tree.specs.declared.form.Form.TheVariants as form
-use Rattle.rip_frames.specs.declared.completion.Completion.{Completion}
-use Rattle.rip_frames.specs.declared.completion.Completion.TheVariants.{Normal}
-use Rattle.rip_frames.specs.declared.completion.Stop.TheVariants.{Fault as AtFault, Limit as AtLimit}
-use Rattle.rip_frames.specs.declared.part.Part.{Part}
-use Rattle.rip_frames.specs.declared.part.Role.{Role}
-use Rattle.rip_frames.specs.declared.part.Role.TheVariants as role
-use Rattle.rip_frames.specs.Row.{Row, Ends, Halts, Asks, value_of, with_value}
-use Rattle.rip_machine.specs.Reading.{Loaded, child, form_of, is_postfix, logical_operator, operator, part_at, scoping, step_operator, target_at, unary_operator}
+use Rattle.rip_runs.specs.declared.completion.Completion.{Completion}
+use Rattle.rip_runs.specs.declared.completion.Completion.TheVariants.{Normal}
+use Rattle.rip_runs.specs.declared.completion.Stop.TheVariants.{Fault as AtFault, Limit as AtLimit}
+use Rattle.rip_runs.specs.declared.part.Inner.{Inner}
+use Rattle.rip_runs.specs.declared.part.Part.{Part}
+use Rattle.rip_runs.specs.declared.part.Role.{Role}
+use Rattle.rip_runs.specs.declared.part.Role.TheVariants as role
+use Rattle.rip_runs.specs.Frame.{inside}
+use Rattle.rip_runs.specs.Row.{Row, Ends, Halts, Asks, value_of, with_value}
+use Rattle.rip_machine.specs.Reading.{Loaded, child, form_of, inner_at, inner_target, is_postfix, logical_operator, operator, part_at, scoping, step_operator, target_at, unary_operator}
 use Rattle.rip_machine.specs.Rows.Members.{deletes, target_of, with_read, with_target, with_writing}
 use Rattle.rip_machine.specs.Rows.Names.{found, throws, with_found, with_written, written}
 
@@ -137,8 +139,8 @@ is_member f = false
 abbrev pub is_deleted : Loaded → Part → Bool
 is_deleted p at = is_delete (unary_operator p at.node) && is_member (form_of p (child p at.node 0))
 
-abbrev pub operand : Loaded → Part → Part
-operand p at = if is_unread p at || is_deleted p at then target_at p at 0 else part_at p at 0
+abbrev pub operand : Loaded → Part → Inner
+operand p at = if is_unread p at || is_deleted p at then inner_target p at 0 else inner_at p at 0
 
 -- 11.4.1 to 11.4.3, 11.4.6 to 11.4.9: what an operator of one operand gives for its value; of `delete` it is no member
 abbrev pub operated : Loaded → Part → UnaryOperator → Value → World → Row
@@ -157,7 +159,7 @@ operand_end p at op c w = with_value c w (λ a. operated p at op a w)
 
 -- the row of an operator of one operand
 abbrev pub unary_row : Loaded → Part → World → Row
-unary_row p at w = Asks (operand p at) w (operand_end p at (unary_operator p at.node))
+unary_row p at w = Asks (inside at (operand p at)) w (operand_end p at (unary_operator p at.node))
 
 -- ASSIGNMENT. A target is a name or a member, and is not read where it is entered
 

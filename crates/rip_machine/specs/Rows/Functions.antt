@@ -8,9 +8,9 @@ use Rattle.rip_heap.specs.Scopes.{new_scope, with_binding}
 use Rattle.rip_heap.specs.World.{World, charging, cost_of_function, cost_of_scope}
 use Rattle.rip_tree.specs.declared.form.Form.{Form}
 use Rattle.rip_tree.specs.declared.form.Form.TheVariants as form
-use Rattle.rip_frames.specs.declared.completion.Stop.TheVariants.{Limit as AtLimit}
-use Rattle.rip_frames.specs.declared.part.Part.{Part}
-use Rattle.rip_frames.specs.Row.{Row, Halts}
+use Rattle.rip_runs.specs.declared.completion.Stop.TheVariants.{Limit as AtLimit}
+use Rattle.rip_runs.specs.declared.part.Part.{Part}
+use Rattle.rip_runs.specs.Row.{Row, Halts}
 use Rattle.rip_machine.specs.Reading.{Loaded, child, children_from, form_of, scoping}
 use Rattle.rip_machine.specs.Rows.Expressions.{gives}
 use Rattle.rip_machine.specs.Rows.Names.{bound}

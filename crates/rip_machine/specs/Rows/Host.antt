@@ -11,10 +11,10 @@ use Rattle.rip_heap.specs.declared.host.HostDone.TheVariants as host
 use Rattle.rip_heap.specs.Conversions.{span_of}
 use Rattle.rip_heap.specs.Objects.{new_of, put}
 use Rattle.rip_heap.specs.World.{World}
-use Rattle.rip_frames.specs.declared.completion.Completion.TheVariants.{Thrown}
-use Rattle.rip_frames.specs.declared.completion.Stop.TheVariants.{Fault as AtFault, Limit as AtLimit}
+use Rattle.rip_runs.specs.declared.completion.Completion.TheVariants.{Thrown}
+use Rattle.rip_runs.specs.declared.completion.Stop.TheVariants.{Fault as AtFault, Limit as AtLimit}
 use Rattle.rip_heap.specs.Host.{Reads, Writes, Calls}
-use Rattle.rip_frames.specs.Row.{Row, Ends, Halts, AsksHost}
+use Rattle.rip_runs.specs.Row.{Row, Ends, Halts, AsksHost}
 use Rattle.rip_machine.specs.Rows.Names.{throws}
 
 -- CODES OF THE DOCUMENT (DOM Level 2 Core 1.2)

@@ -9,10 +9,10 @@ use Rattle.rip_heap.specs.Arrays.{new_array, push_item}
 use Rattle.rip_heap.specs.Keys.{is_underscored}
 use Rattle.rip_heap.specs.Objects.{new_object, put}
 use Rattle.rip_heap.specs.World.{World}
-use Rattle.rip_frames.specs.declared.completion.Completion.{Completion}
-use Rattle.rip_frames.specs.declared.completion.Stop.TheVariants.{Fault as AtFault, Limit as AtLimit}
-use Rattle.rip_frames.specs.declared.part.Part.{Part}
-use Rattle.rip_frames.specs.Row.{Row, Halts, value_of, with_value}
+use Rattle.rip_runs.specs.declared.completion.Completion.{Completion}
+use Rattle.rip_runs.specs.declared.completion.Stop.TheVariants.{Fault as AtFault, Limit as AtLimit}
+use Rattle.rip_runs.specs.declared.part.Part.{Part}
+use Rattle.rip_runs.specs.Row.{Row, Halts, value_of, with_value}
 use Rattle.rip_machine.specs.Reading.{Loaded, child, children_from, literal, part}
 use Rattle.rip_machine.specs.Rows.Expressions.{gives}
 

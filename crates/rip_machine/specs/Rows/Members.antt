@@ -14,13 +14,13 @@ use Rattle.rip_members.specs.Deleting.{deleted}
 use Rattle.rip_members.specs.Keys.{Keying, Keys as IsKey, Throws as KeyThrows, Faults as KeyFaults, Exceeds as KeyExceeds, key_of}
 use Rattle.rip_members.specs.Reading.{read}
 use Rattle.rip_members.specs.Writing.{Writing, Writes as IsWritten, Throws as WriteThrows, Faults as WriteFaults, Exceeds as WriteExceeds, AsksHost as HostWrites}
-use Rattle.rip_frames.specs.declared.completion.Completion.{Completion}
-use Rattle.rip_frames.specs.declared.completion.Completion.TheVariants.{Normal, Thrown, Returned, Broken, Continued, Referred, Method}
-use Rattle.rip_frames.specs.declared.completion.Stop.TheVariants.{Fault as AtFault, Limit as AtLimit}
-use Rattle.rip_frames.specs.declared.part.Part.{Part}
-use Rattle.rip_frames.specs.declared.part.Role.{Role}
-use Rattle.rip_frames.specs.declared.part.Role.TheVariants as role
-use Rattle.rip_frames.specs.Row.{Row, Ends, Halts, Asks, value_of, with_value}
+use Rattle.rip_runs.specs.declared.completion.Completion.{Completion}
+use Rattle.rip_runs.specs.declared.completion.Completion.TheVariants.{Normal, Thrown, Returned, Broken, Continued, Referred, Method}
+use Rattle.rip_runs.specs.declared.completion.Stop.TheVariants.{Fault as AtFault, Limit as AtLimit}
+use Rattle.rip_runs.specs.declared.part.Part.{Part}
+use Rattle.rip_runs.specs.declared.part.Role.{Role}
+use Rattle.rip_runs.specs.declared.part.Role.TheVariants as role
+use Rattle.rip_runs.specs.Row.{Row, Ends, Halts, Asks, value_of, with_value}
 use Rattle.rip_machine.specs.Reading.{Loaded, literal, part_at}
 use Rattle.rip_machine.specs.Rows.Host.{asks_read, asks_write}
 use Rattle.rip_machine.specs.Rows.Names.{throws}
@@ -76,12 +76,12 @@ abbrev pub member_row : Loaded → Part → World → Row
 member_row p at w = value_of (part_at p at 0) w (λ base x. with_base base x (member_for at.role base (Name (literal p at.node)) x))
 
 -- `a[b]`: the base, then the expression; then the base is checked, and the key is made (11.2.1)
-abbrev pub subscript_end : Loaded → Part → Value → Completion → World → Row
-subscript_end p at base c w = with_value c w (λ b. with_key (key_of w base b) w (λ key x. member_for at.role base key x))
+abbrev pub subscript_end : Part → Value → Completion → World → Row
+subscript_end at base c w = with_value c w (λ b. with_key (key_of w base b) w (λ key x. member_for at.role base key x))
 
 -- the row of `a[b]`
 abbrev pub index_row : Loaded → Part → World → Row
-index_row p at w = value_of (part_at p at 0) w (λ base x. Asks (part_at p at 1) x (subscript_end p at base))
+index_row p at w = value_of (part_at p at 0) w (λ base x. Asks (part_at p at 1) x (subscript_end at base))
 
 -- TARGETS
 

@@ -12,9 +12,9 @@ use Rattle.rip_heap.specs.World.{World, scope_at}
 use Rattle.rip_tree.specs.declared.program.Resolved.{Resolved}
 use Rattle.rip_tree.specs.declared.program.Resolved.TheVariants.{Binding, Global}
 use Rattle.rip_tree.specs.declared.program.Scoping.{Scoping}
-use Rattle.rip_frames.specs.declared.completion.Completion.TheVariants.{Thrown}
-use Rattle.rip_frames.specs.declared.completion.Stop.TheVariants.{Limit as AtLimit}
-use Rattle.rip_frames.specs.Row.{Row, Ends, Halts}
+use Rattle.rip_runs.specs.declared.completion.Completion.TheVariants.{Thrown}
+use Rattle.rip_runs.specs.declared.completion.Stop.TheVariants.{Limit as AtLimit}
+use Rattle.rip_runs.specs.Row.{Row, Ends, Halts}
 
 -- THROWN ERRORS
 

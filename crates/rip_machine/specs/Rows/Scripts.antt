@@ -5,10 +5,10 @@ use Rattle.rip_values.specs.declared.value.Value.TheVariants.{Undefined}
 use Rattle.rip_heap.specs.Scopes.{binding, with_binding}
 use Rattle.rip_heap.specs.World.{World, cost_of_function}
 use Rattle.rip_tree.specs.Program.{root_of, vars_of}
-use Rattle.rip_frames.specs.declared.frame.Ending.TheVariants as ending
-use Rattle.rip_frames.specs.declared.part.Part.{Part}
-use Rattle.rip_frames.specs.declared.part.Role.TheVariants as role
-use Rattle.rip_frames.specs.Row.{Row}
+use Rattle.rip_runs.specs.declared.frame.Ending.TheVariants as ending
+use Rattle.rip_runs.specs.declared.part.Part.{Part}
+use Rattle.rip_runs.specs.declared.part.Role.TheVariants as role
+use Rattle.rip_runs.specs.Row.{Row}
 use Rattle.rip_machine.specs.Reading.{Loaded, children_from}
 use Rattle.rip_machine.specs.Rows.Functions.{declared_functions, with_functions}
 use Rattle.rip_machine.specs.Rows.Statements.{statements}

@@ -1,19 +1,23 @@
 -- The rows of statements (ECMA-262 12), and of lists of statements (12.1, 13.2.1, 14).
-use Rattle.std.specs.Prelude.{ℕ, ◌+◌, Bool, true, false, if◌then◌else◌, List, [], ◌∷◌, Option, None, Some}
+use Rattle.std.specs.Prelude.{◌≡◌, ℕ, ◌+◌, Bool, true, false, if◌then◌else◌, List, [], ◌∷◌, Option, None, Some, MatchOption}
 use Rattle.rip_values.specs.declared.value.Value.{Value}
 use Rattle.rip_values.specs.declared.value.Value.TheVariants.{Undefined, Object}
 use Rattle.rip_heap.specs.Conversions.{boolean_of}
 use Rattle.rip_heap.specs.World.{World}
 use Rattle.rip_tree.specs.declared.form.Form.{Form}
 use Rattle.rip_tree.specs.declared.form.Form.TheVariants as form
-use Rattle.rip_frames.specs.declared.completion.Completion.{Completion}
-use Rattle.rip_frames.specs.declared.completion.Completion.TheVariants.{Normal, Thrown, Returned, Broken, Continued, Referred, Method}
-use Rattle.rip_frames.specs.declared.frame.Ending.{Ending}
-use Rattle.rip_frames.specs.declared.frame.Ending.TheVariants as ending
-use Rattle.rip_frames.specs.declared.frame.Frame.TheVariants as frame
-use Rattle.rip_frames.specs.declared.part.Part.{Part}
-use Rattle.rip_frames.specs.Row.{Row, Ends, Asks, Again, value_of, with_value}
-use Rattle.rip_frames.specs.Stack.{framed}
+use Rattle.rip_runs.specs.declared.completion.Completion.{Completion}
+use Rattle.rip_runs.specs.declared.completion.Completion.TheVariants.{Normal, Thrown, Returned, Broken, Continued, Referred, Method}
+use Rattle.rip_runs.specs.declared.frame.Ending.{Ending}
+use Rattle.rip_runs.specs.declared.frame.Ending.TheVariants as ending
+use Rattle.rip_runs.specs.declared.frame.OwnWait.{OwnWait}
+use Rattle.rip_runs.specs.declared.frame.OwnWait.TheVariants as wait
+use Rattle.rip_runs.specs.declared.frame.Wait.TheVariants.{Own}
+use Rattle.rip_runs.specs.declared.part.Part.{Part}
+use Rattle.rip_runs.specs.Frame.{waiting}
+use Rattle.rip_runs.specs.Row.{Row, Ends, Asks, Again, value_of, with_value}
+use Rattle.rip_runs.specs.Stack.{Open, framed}
+use Rattle.rip_machine.specs.declared.rows.statements.Listed.{Listed}
 use Rattle.rip_machine.specs.Reading.{Loaded, child, child_at, children_from, form_of, part, part_at, scoping}
 use Rattle.rip_machine.specs.Rows.Expressions.{gives, last}
 use Rattle.rip_machine.specs.Rows.Names.{with_written, written}
@@ -86,6 +90,11 @@ statements p at ending (s ∷ ss) w =
 abbrev pub statement_end : Loaded → Part → Ending → ℕ → Completion → World → Row
 statement_end p at ending place c w = carried ending c w (statements p at ending (children_from p at.node (place + 1)) w)
 
+-- of a list with this row: its first statement that is no declaration, and its place; or none, and then the list ends
+abbrev pub IsFirst : Loaded → Part → Ending → Option Listed → World → Row → Type 0
+IsFirst p at ending first w row =
+    MatchOption first (row ≡ Ends (ended ending (Normal Undefined)) w) (λ s. row ≡ Asks (part at s.node) w (statement_end p at ending s.place))
+
 -- 12.1
 abbrev pub block_row : Loaded → Part → World → Row
 block_row p at w = statements p at ending.Block (children_from p at.node 0) w
@@ -118,6 +127,10 @@ return_row p at w = return_of at (child_at p at.node 0) w
 
 -- LOOPS (12.6). Each turn begins with a part, and so with a unit
 
+-- the loop is open, and waits so
+abbrev pub turning : Part → OwnWait → Open
+turning at wait = framed (waiting at (Own wait)) []
+
 -- whether a loop goes on after its statement: `break` leaves it, and `continue` ends the statement alone (12.7, 12.8)
 abbrev pub goes_on : Completion → World → Row → Row
 goes_on (Normal v) w again = again
@@ -134,31 +147,31 @@ tested c w again = with_value c w (λ v. if boolean_of w.pool v then again else 
 
 -- 12.6.1
 abbrev pub do_row : Loaded → Part → World → Row
-do_row p at w = Again (part_at p at 0) w (framed (frame.DoBody at) [])
+do_row p at w = Again (part_at p at 0) w (turning at wait.DoBody)
 
 abbrev pub do_body : Loaded → Part → Completion → World → Row
-do_body p at c w = goes_on c w (Again (part_at p at 1) w (framed (frame.DoTest at) []))
+do_body p at c w = goes_on c w (Again (part_at p at 1) w (turning at wait.DoTest))
 
 abbrev pub do_test : Loaded → Part → Completion → World → Row
 do_test p at c w = tested c w (do_row p at w)
 
 -- 12.6.2
 abbrev pub while_row : Loaded → Part → World → Row
-while_row p at w = Again (part_at p at 0) w (framed (frame.WhileTest at) [])
+while_row p at w = Again (part_at p at 0) w (turning at wait.WhileTest)
 
 abbrev pub while_test : Loaded → Part → Completion → World → Row
-while_test p at c w = tested c w (Again (part_at p at 1) w (framed (frame.WhileBody at) []))
+while_test p at c w = tested c w (Again (part_at p at 1) w (turning at wait.WhileBody))
 
 abbrev pub while_body : Loaded → Part → Completion → World → Row
 while_body p at c w = goes_on c w (while_row p at w)
 
 -- 12.6.3: each of test and update may be absent
 abbrev pub for_statement : Loaded → Part → World → Row
-for_statement p at w = Again (part_at p at 3) w (framed (frame.ForBody at) [])
+for_statement p at w = Again (part_at p at 3) w (turning at wait.ForBody)
 
 abbrev pub for_turn_by : Loaded → Part → Option ℕ → World → Row
 for_turn_by p at None w = for_statement p at w
-for_turn_by p at (Some test) w = Again (part at test) w (framed (frame.ForTest at) [])
+for_turn_by p at (Some test) w = Again (part at test) w (turning at wait.ForTest)
 
 abbrev pub for_turn : Loaded → Part → World → Row
 for_turn p at w = for_turn_by p at (child_at p at.node 1) w
@@ -168,7 +181,7 @@ for_test p at c w = tested c w (for_statement p at w)
 
 abbrev pub for_update_by : Loaded → Part → Option ℕ → World → Row
 for_update_by p at None w = for_turn p at w
-for_update_by p at (Some update) w = Again (part at update) w (framed (frame.ForUpdate at) [])
+for_update_by p at (Some update) w = Again (part at update) w (turning at wait.ForUpdate)
 
 abbrev pub for_body : Loaded → Part → Completion → World → Row
 for_body p at c w = goes_on c w (for_update_by p at (child_at p at.node 2) w)

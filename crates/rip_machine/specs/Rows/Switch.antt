@@ -5,10 +5,10 @@ use Rattle.rip_heap.specs.Conversions.{strictly_equal}
 use Rattle.rip_heap.specs.World.{World}
 use Rattle.rip_tree.specs.declared.form.Form.{Form}
 use Rattle.rip_tree.specs.declared.form.Form.TheVariants as form
-use Rattle.rip_frames.specs.declared.completion.Completion.{Completion}
-use Rattle.rip_frames.specs.declared.frame.Ending.TheVariants as ending
-use Rattle.rip_frames.specs.declared.part.Part.{Part}
-use Rattle.rip_frames.specs.Row.{Row, Asks, value_of, with_value}
+use Rattle.rip_runs.specs.declared.completion.Completion.{Completion}
+use Rattle.rip_runs.specs.declared.frame.Ending.TheVariants as ending
+use Rattle.rip_runs.specs.declared.part.Part.{Part}
+use Rattle.rip_runs.specs.Row.{Row, Asks, value_of, with_value}
 use Rattle.rip_machine.specs.Reading.{Loaded, child, children_from, form_of, part, part_at}
 use Rattle.rip_machine.specs.Rows.Statements.{carried, done}
 

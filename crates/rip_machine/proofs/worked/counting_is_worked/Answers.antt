@@ -1,5 +1,5 @@
 use Rattle.std.proofs.Common.{refl}
-use Rattle.rip_frames.specs.Run.{run_to}
+use Rattle.rip_runs.specs.Run.{run_to}
 use Rattle.rip_machine.specs.Rows.Names.{scope_up}
 use Rattle.rip_machine.proofs.worked.counting_is_worked.Goals as goal
 

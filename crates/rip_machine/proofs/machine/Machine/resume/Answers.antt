@@ -1,25 +1,14 @@
-use Rattle.std.proofs.Common.{◌≡◌, ℕ, ◌+◌, ◌-◌, ◌≤◌, min, nat_lt, List, refl, ap, ◌∙◌, subst}
+use Rattle.std.proofs.Common.{List, subst}
 use Rattle.rip_values.specs.declared.value.Span.{Span}
-use Rattle.rip_frames.specs.Rest.{rest}
-use Rattle.rip_machine.specs.Law.{Standing, Resumes}
+use Rattle.rip_machine.specs.Law.{Resumes, Standing, standing}
 use Rattle.rip_machine.specs.Table.{table}
-use Rattle.rip_machine.proofs.Resumes.{resumes}
 use Rattle.rip_machine.proofs.machine.Machine.resume.Goals as goal
 
-pub returns-in-Ok-clause-law : goal.returns-in-Ok-clause-law
-returns-in-Ok-clause-law g c =
+pub returns-clause-law : goal.returns-clause-law
+returns-clause-law g c =
     let h = g.H.Host.answers in
-    let t = table (record { code = c.args.program.now; literals = c.as_slice.result.now }) in
-    let u : ℕ = c.in-Ok.left in
-    let old : Standing = record { control = c.self.inside.control; frames = c.self.inside.stack.frames; fuel = c.self.inside.fuel; spent = c.self.inside.spent; depth = c.self.inside.depth; literals = c.self.inside.literals.items; value_room = c.self.inside.stack.room } in
-    let new : Standing = record { control = c.steps.new.control; frames = c.steps.new.stack.frames; fuel = c.self.inside.fuel - (c.min-budget.result - u); spent = c.self.inside.spent + (c.min-budget.result - u); depth = c.self.inside.depth; literals = c.self.inside.literals.items; value_room = c.steps.new.stack.room } in
-    let budget : c.min-budget.result ≡ min c.args.n c.self.inside.fuel = c.min-budget.ensures in
-    let B : ℕ → Type 0 = λ b. u ≤ b in
-    let within : u ≤ min c.args.n c.self.inside.fuel = subst B budget c.in-Ok.ensures.within in
-    let law : Resumes h t old c.args.heap.now c.args.host.now c.args.n new c.steps.new.heap c.steps.new.host c.turned_of.result =
-    rw c.turned_of.ensures (resumes h t old new c.args.heap.now c.steps.new.heap c.args.host.now c.steps.new.host c.args.n u c.steps.new.control (nat_lt c.args.n c.self.inside.fuel)
-    (λ j. c.in-Ok.ensures.rest j ∙ ap (λ b. rest h t old.control old.frames (b + j) c.args.heap.now c.args.host.now) budget)
-    c.in-Ok.ensures.stands within refl (ap (λ b. c.self.inside.fuel - (b - u)) budget) (ap (λ b. c.self.inside.spent + (b - u)) budget) refl refl) in
-    let L : List Span → Type 0 = λ ls. Resumes h (table (record { code = c.args.program.now; literals = ls })) old c.args.heap.now c.args.host.now c.args.n new c.steps.new.heap c.steps.new.host c.turned_of.result in
-    let M : Standing → Type 0 = λ m. Resumes h (table (record { code = c.args.program.now; literals = m.literals })) m c.args.heap.now c.args.host.now c.args.n new c.steps.new.heap c.steps.new.host c.turned_of.result in
-    subst M c.self.view_is (subst L c.as_slice.ensures.value law)
+    let literals = c.self.inside.literals.items in
+    let new = standing c.resume.new.self literals in
+    let L : List Span → Type 0 = λ ls. Resumes h (table (record { code = c.args.program.now; literals = ls })) (standing c.self.inside.run literals) c.args.heap.now c.args.host.now c.args.n new c.resume.new.heap c.resume.new.host c.resume.result in
+    let M : Standing → Type 0 = λ m. Resumes h (table (record { code = c.args.program.now; literals = m.literals })) m c.args.heap.now c.args.host.now c.args.n new c.resume.new.heap c.resume.new.host c.resume.result in
+    subst M c.self.view_is (subst L c.as_slice.ensures.value c.resume.ensures.law)

@@ -1,6 +1,6 @@
 use Rattle.std.proofs.Common.{List, ap, subst}
 use Rattle.rip_values.specs.declared.value.Span.{Span}
-use Rattle.rip_machine.specs.declared.outcome.Turned.TheVariants.{Done}
+use Rattle.rip_runs.specs.declared.outcome.Turned.TheVariants.{Done}
 use Rattle.rip_machine.specs.Law.{Resumes, loaded}
 use Rattle.rip_machine.specs.Run.{IsStarted}
 use Rattle.rip_machine.specs.Starting.{started_of}

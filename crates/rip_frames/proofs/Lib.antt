@@ -1,4 +1,0 @@
-pub mod Joined
-pub mod Laws
-pub mod Runs
-pub mod Settles

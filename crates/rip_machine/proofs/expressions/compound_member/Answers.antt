@@ -1,4 +1,0 @@
-use Rattle.rip_machine.proofs.expressions.compound_member.Goals as goal
-
-pub returns-in-Err-clause-nests : goal.returns-in-Err-clause-nests
-returns-in-Err-clause-nests g c = rw c.in-Err.is at (c.in_ok-old.ensures.nests c.args.at.now.room)

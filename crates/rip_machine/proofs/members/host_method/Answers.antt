@@ -1,4 +1,0 @@
-use Rattle.rip_machine.proofs.members.host_method.Goals as goal
-
-pub returns-in-Err-clause-nests : goal.returns-in-Err-clause-nests
-returns-in-Err-clause-nests g c room = rw c.in-Err.is at (c.in_ok-function.ensures.nests room)

@@ -1,0 +1,41 @@
+use Rattle.std.proofs.Common.{◌≡◌, ℕ, Some, refl, sym, ap, ◌∙◌, subst}
+use Rattle.rip_heap.specs.World.{World}
+use Rattle.rip_runs.specs.declared.frame.Ending.TheVariants.{Call}
+use Rattle.rip_runs.specs.declared.part.Inner.{Inner}
+use Rattle.rip_runs.specs.declared.part.Part.{Part}
+use Rattle.rip_runs.specs.Frame.{inside}
+use Rattle.rip_runs.specs.Law.{Begins}
+use Rattle.rip_machine.specs.declared.rows.calls.Invocable.TheVariants.{OfScript}
+use Rattle.rip_machine.specs.Rows.Calls.{running}
+use Rattle.rip_machine.specs.Rows.Functions.{body, function_entered}
+use Rattle.rip_machine.specs.Rows.Statements.{statements}
+use Rattle.rip_machine.specs.Starting.{call_begun, function_part, outside}
+use Rattle.rip_machine.specs.Table.{table}
+use Rattle.rip_machine.proofs.Beginnings.{Stood, runs_function, starts, stood}
+use Rattle.rip_machine.proofs.starting.start_call.Goals as goal
+
+pub returns-in-Ok-Some-clause-starts : goal.returns-in-Ok-Some-clause-starts
+returns-in-Ok-Some-clause-starts c =
+    let p = c.args.p.now in
+    let m = c.args.run.now in
+    let n = c.stand_at.new.run in
+    let x = c.enter_with.new.heap in
+    let f : ℕ = c.args.function.0 in
+    let scope : ℕ = c.args.function.1 in
+    let made : ℕ = c.in-Ok-Some.made in
+    let this = c.args.this.now in
+    let args = c.args.args.now in
+    let entered : function_entered p f scope args c.args.heap.now ≡ Some (made, x) = rw c.in-Ok-Some.field-0-is at c.in-Ok-Some.ensures.entered in
+    let some : m.depth ≡ 0 → ⊥ = λ e. c.if-depth-eq0.false (c.greatest_depth-depth.ensures.depth ∙ e) in
+    let at : Part = c.outside-at.result in
+    let function : Inner = c.running.result in
+    let F : Type 0 = Stood c.call_statements-first.result at c.args.fuel n in
+    let A : Part → Type 0 = λ at. Begins (table p) (statements p (inside at function) Call (body p function.node) x) c.args.fuel x n in
+    let G : Inner → Type 0 = λ function. Begins (table p) (statements p (inside (outside m.depth this) function) Call (body p function.node) x) c.args.fuel x n in
+    let D : ℕ → Type 0 = λ depth. A (outside depth this) in
+    let whole : F → Begins (table p) (statements p (function_part f made this m.depth) Call (body p f) x) c.args.fuel x n =
+    λ b. subst G c.running.ensures (subst D c.greatest_depth-depth.ensures.depth (subst A c.outside-at.ensures
+    (stood c.call_statements-first.result (table p) at (statements p (inside at function) Call (body p function.node)) c.args.fuel n c.call_statements-first.ensures.row b x))) in
+    starts (table p) (call_begun p m.depth this args (OfScript f scope) c.args.heap.now) (statements p (function_part f made this m.depth) Call (body p f) x) c.args.fuel c.args.heap.now x m n c.stand_at.result
+    F c.stand_at.ensures.begins c.stand_at.ensures.memory
+    (λ b. (runs_function p m.depth this args (OfScript f scope) c.args.heap.now x f scope made some refl entered, whole b))

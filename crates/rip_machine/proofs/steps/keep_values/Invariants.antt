@@ -1,9 +1,0 @@
-use Rattle.std.proofs.Common.{◌≡◌, [], ◌∷◌, take}
-use Rattle.rip_frames.specs.Stack.{framed}
-use Rattle.rip_machine.proofs.steps.keep_values.Given as goal
-
-abbrev pub invariant-loop-v : goal.invariant-loop-v
-invariant-loop-v l = record {
-  kept : l.fn.stack.frames ≡ framed l.frame [] ∷ [] → l.stack.frames ≡ framed l.frame (take l.v-index l.values) ∷ [];
-  most : l.stack.most ≡ l.fn.stack.most;
-}

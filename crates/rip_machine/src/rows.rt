@@ -1,0 +1,233 @@
+ghost use Rattle.rip_heap.specs.Growth.{Grows};
+ghost use Rattle.rip_machine.specs.Does.{Does, DoesBeside, DoesBesideWithHost};
+ghost use Rattle.rip_machine.specs.Table.{hosted_rest, own_rest, row_by};
+
+pub(crate) mod answers;
+pub(crate) mod arguments;
+pub(crate) mod assignment;
+pub(crate) mod calls;
+pub(crate) mod constructing;
+pub(crate) mod exceptions;
+pub(crate) mod functions;
+pub(crate) mod host;
+pub(crate) mod leaves;
+pub(crate) mod literals;
+pub(crate) mod members;
+pub(crate) mod names;
+pub(crate) mod operators;
+pub(crate) mod scripts;
+pub(crate) mod statements;
+pub(crate) mod switch;
+pub(crate) mod unary;
+
+use crate::rows::answers::{end, give};
+use crate::rows::assignment::{
+    after_assign_target, after_assign_value, after_compound_target, after_compound_value,
+    after_step_target, begin_assign, begin_compound, begin_step,
+};
+use crate::rows::calls::{after_argument, after_called, after_callee, begin_call};
+use crate::rows::constructing::{after_constructor, after_new_argument, begin_new};
+use crate::rows::exceptions::{
+    after_finally_block, after_throw_value, after_try_block, begin_throw, begin_try, finally,
+};
+use crate::rows::functions::begin_function;
+use crate::rows::leaves::value_at_once;
+use crate::rows::literals::{after_element, after_entry, begin_array, begin_object};
+use crate::rows::members::{
+    after_index_base, after_member_base, after_subscript, begin_index, begin_member,
+};
+use crate::rows::names::begin_name;
+use crate::rows::operators::{
+    after_comma_left, after_conditional_test, after_left, after_logical_left, after_right,
+    begin_binary, begin_comma, begin_conditional, begin_logical,
+};
+use crate::rows::statements::{
+    after_do_body, after_do_test, after_expression, after_for_body, after_for_start,
+    after_for_test, after_for_update, after_if_test, after_initialiser, after_return_value,
+    after_statement, after_while_body, after_while_test, begin_block, begin_do, begin_expression,
+    begin_for, begin_if, begin_return, begin_var, begin_while,
+};
+use crate::rows::switch::{
+    after_case_test, after_clause_statement, after_discriminant, begin_switch,
+};
+use crate::rows::unary::{after_operand, begin_unary};
+use crate::source::Source;
+use rip_heap::{Heap, Host};
+use rip_runs::{Completion, Frame, HostedWait, Next, OwnWait, Part, Rows, Wait};
+use rip_tree::Form;
+use rip_values::{NoMemory, Value};
+use std::alloc::Global;
+
+impl Rows for Source<'_> {
+    ghost use Rattle.rip_machine.specs.Table.{table as table_of};
+
+    ghost table = { table_of };
+
+    fn begin(&self, alloc: Global, heap: &mut Heap, at: &Part) -> Result<Next, NoMemory> {
+        begin_form(alloc, self, heap, at, &self.form(at.node))
+    }
+
+    fn value_at_once(&self, heap: &Heap, at: &Part) -> Option<Value> {
+        value_at_once(self, heap, at)
+    }
+
+    fn finish<H: Host>(
+        &self,
+        alloc: Global,
+        heap: &mut Heap,
+        host: &mut H,
+        frame: &Frame,
+        values: &[Value],
+        c: &Completion,
+    ) -> Result<Next, NoMemory> {
+        match &frame.wait {
+            Wait::Own(wait) => finish_own(alloc, self, heap, &frame.at, wait, values, c),
+            Wait::Hosted(wait) => {
+                finish_hosted(alloc, self, heap, host, &frame.at, wait, values, c)
+            },
+        }
+    }
+}
+
+/// What a part does that was entered, by the form of its node.
+fn begin_form(
+    alloc: Global,
+    p: &Source,
+    heap: &mut Heap,
+    at: &Part,
+    form: &Form,
+) -> Result<Next, NoMemory>
+    ensures row { Does p.now at.now result heap.new (row_by p.now at.now form.now heap.old) }
+    ensures grows { Grows heap.old heap.new }
+{
+    match form {
+        Form::This => give(at.this),
+        Form::Null => give(Value::Null),
+        Form::Boolean(b) => give(Value::Bool(*b)),
+        Form::Number(number) => give(Value::Num(*number)),
+        Form::Text(_) => give(Value::Text(p.literal(at.node))),
+        Form::Name(_) => begin_name(alloc, p, heap, at),
+        Form::Function(_) => begin_function(alloc, p, heap, at),
+        Form::Call => begin_call(p, at),
+        Form::Unary(_) => begin_unary(p, at),
+        Form::Postfix(_) | Form::Prefix(_) => begin_step(p, at),
+        Form::Binary(_) => begin_binary(p, at),
+        Form::Logical(_) => begin_logical(p, at),
+        Form::Conditional => begin_conditional(p, at),
+        Form::Comma => begin_comma(p, at),
+        Form::Assign => begin_assign(p, at),
+        Form::Compound(_) => begin_compound(p, at),
+        Form::Block => begin_block(p, at),
+        Form::Var => begin_var(p, at),
+        Form::Expression => begin_expression(p, at),
+        Form::If => begin_if(p, at),
+        Form::DoWhile => begin_do(p, at),
+        Form::While => begin_while(p, at),
+        Form::For => begin_for(p, at),
+        Form::Continue => end(&Completion::Continued),
+        Form::Break => end(&Completion::Broken),
+        Form::Return => begin_return(p, at),
+        Form::Array => begin_array(alloc, p, heap, at),
+        Form::Object => begin_object(alloc, p, heap, at),
+        Form::Switch => begin_switch(p, at),
+        Form::Throw => begin_throw(p, at),
+        Form::Try => begin_try(p, at),
+        Form::New => begin_new(p, at),
+        Form::Member(_) => begin_member(p, at),
+        Form::Index => begin_index(p, at),
+        _ => give(Value::Undefined),
+    }
+}
+
+/// What is done where a part waited, and the host is asked for nothing before its next part.
+fn finish_own(
+    alloc: Global,
+    p: &Source,
+    heap: &mut Heap,
+    at: &Part,
+    wait: &OwnWait,
+    values: &[Value],
+    c: &Completion,
+) -> Result<Next, NoMemory>
+    ensures row { DoesBeside p.now at.now values.now result heap.new (own_rest p.now at.now wait.now values.now c.now heap.old) }
+    ensures grows { Grows heap.old heap.new }
+{
+    match wait {
+        OwnWait::Statement { place, ending } => after_statement(p, at, *place, *ending, c),
+        OwnWait::Initialiser { place } => after_initialiser(alloc, p, heap, at, *place, c),
+        OwnWait::Expression => after_expression(c),
+        OwnWait::IfTest => after_if_test(p, heap, at, c),
+        OwnWait::DoBody => after_do_body(p, at, c),
+        OwnWait::DoTest => after_do_test(p, heap, at, c),
+        OwnWait::WhileTest => after_while_test(p, heap, at, c),
+        OwnWait::WhileBody => after_while_body(p, at, c),
+        OwnWait::ForStart => after_for_start(p, at, c),
+        OwnWait::ForTest => after_for_test(p, heap, at, c),
+        OwnWait::ForUpdate => after_for_update(p, at, c),
+        OwnWait::ForBody => after_for_body(p, at, c),
+        OwnWait::ReturnValue => after_return_value(c),
+        OwnWait::Constructor => after_constructor(alloc, p, heap, at, c),
+        OwnWait::NewArgument { place, constructor } => {
+            after_new_argument(alloc, p, heap, at, *place, constructor, values, c)
+        },
+        OwnWait::Operand => after_operand(alloc, p, heap, at, c),
+        OwnWait::Left => after_left(p, at, c),
+        OwnWait::Right { left } => after_right(alloc, p, heap, at, *left, c),
+        OwnWait::LogicalLeft => after_logical_left(p, heap, at, c),
+        OwnWait::ConditionalTest => after_conditional_test(p, heap, at, c),
+        OwnWait::AssignTarget => after_assign_target(p, at, c),
+        OwnWait::CommaLeft => after_comma_left(p, at, c),
+        OwnWait::Last => end(c),
+        OwnWait::Discriminant => after_discriminant(p, at, c),
+        OwnWait::CaseTest { clause, value } => after_case_test(p, heap, at, *clause, *value, c),
+        OwnWait::ClauseStatement { clause, place } => {
+            after_clause_statement(p, at, *clause, *place, c)
+        },
+        OwnWait::ThrowValue => after_throw_value(c),
+        OwnWait::TryBlock => after_try_block(alloc, p, heap, at, c),
+        OwnWait::CatchBlock => finally(p, at, c),
+        OwnWait::FinallyBlock { before } => after_finally_block(before, c),
+        OwnWait::Element { place, array } => after_element(alloc, p, heap, at, *place, *array, c),
+        OwnWait::Entry { place, object } => after_entry(alloc, p, heap, at, *place, *object, c),
+        OwnWait::IndexBase => after_index_base(p, at, c),
+    }
+}
+
+/// The same where the host may be asked. Its calls with which the row goes on are made.
+fn finish_hosted<H: Host>(
+    alloc: Global,
+    p: &Source,
+    heap: &mut Heap,
+    host: &mut H,
+    at: &Part,
+    wait: &HostedWait,
+    values: &[Value],
+    c: &Completion,
+) -> Result<Next, NoMemory>
+    requires { H.fits host.old heap.old }
+    ensures row { DoesBesideWithHost H.answers p.now at.now values.now result heap.new host.new (hosted_rest p.now at.now wait.now values.now c.now heap.old) host.old }
+    ensures fits { H.fits host.new heap.new }
+    ensures grows { Grows heap.old heap.new }
+{
+    match wait {
+        HostedWait::Callee => after_callee(alloc, p, heap, host, at, c),
+        HostedWait::Argument {
+            place,
+            callee,
+            this,
+        } => { after_argument(alloc, p, heap, host, at, *place, callee, this, values, c) },
+        HostedWait::Called { function, this } => {
+            after_called(alloc, p, heap, host, at, *function, this, values)
+        },
+        HostedWait::MemberBase => after_member_base(alloc, p, heap, host, at, c),
+        HostedWait::Subscript { base } => after_subscript(alloc, p, heap, host, at, base, c),
+        HostedWait::StepTarget => after_step_target(alloc, p, heap, host, at, c),
+        HostedWait::AssignValue { target } => {
+            after_assign_value(alloc, p, heap, host, at, target, c)
+        },
+        HostedWait::CompoundTarget => after_compound_target(alloc, p, heap, host, at, c),
+        HostedWait::CompoundValue { target, old } => {
+            after_compound_value(alloc, p, heap, host, at, target, old, c)
+        },
+    }
+}

@@ -1,0 +1,65 @@
+ghost use Rattle.std.specs.Prelude.{◌≡◌, ◌+◌, ◌<◌, ◌^◌, fold, Some, None, IfOk};
+ghost use Rattle.std.specs.Bool.{MatchBool};
+ghost use Rattle.rip_heap.specs.Growth.{Grows};
+ghost use Rattle.rip_machine.specs.Rows.Scripts.{script_entered, script_part, with_var};
+
+use crate::rows::functions::{bind_functions, declared_functions};
+use crate::source::Source;
+use rip_heap::Heap;
+use rip_runs::{Part, Role};
+use rip_values::{NoMemory, Value};
+use std::alloc::Global;
+
+/// Declares names of `var`, by their places in the top scope: each keeps its value, or begins as undefined.
+fn declare_vars(heap: &mut Heap, places: &[u32])
+    ensures declared { heap.new ≡ fold with_var heap.old places.now }
+    ensures grows { Grows heap.old heap.new }
+{
+    for place in places {
+        declare_var(heap, *place);
+    }
+}
+
+/// Declares a name of `var`, by its place in the top scope.
+fn declare_var(heap: &mut Heap, place: u32)
+    ensures declared { heap.new ≡ with_var heap.old place }
+    ensures grows { Grows heap.old heap.new }
+{
+    if heap.binding(0, place).is_none() {
+        heap.set_binding(0, place, Value::Undefined);
+    }
+}
+
+/// Binds what a script declares, and tells whether its charge fits; where it does not, nothing is done.
+pub(crate) fn enter_script(
+    alloc: Global,
+    p: &Source,
+    heap: &mut Heap,
+    script: u32,
+) -> Result<bool, NoMemory>
+    ensures entered { IfOk result (λ fits. MatchBool fits (script_entered p.now script heap.old ≡ Some heap.new) ((script_entered p.now script heap.old ≡ None) × (heap.new ≡ heap.old))) }
+    ensures grows { Grows heap.old heap.new }
+{
+    let root = p.program.root(script);
+    let cost = 4 * u64::from(declared_functions(p, root, 0)?);
+    if cost > u64::from(heap.free_cells()) {
+        return Ok(false);
+    }
+    bind_functions(alloc, p, heap, 0, root, 0)?;
+    declare_vars(heap, p.program.vars(script));
+    Ok(true)
+}
+
+/// The part of a script.
+pub(crate) fn script_part(root: u32, depth: u32) -> Part
+    requires { depth + 1 < 2 ^ 32 }
+    ensures { result ≡ script_part root depth }
+{
+    Part {
+        node: root,
+        scope: 0,
+        this: Value::Undefined,
+        room: depth + 1,
+        role: Role::Value,
+    }
+}

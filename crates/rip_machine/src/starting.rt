@@ -1,0 +1,244 @@
+ghost use Rattle.std.specs.Prelude.{◌≡◌, ◌+◌, ◌<◌, ◌^◌, [], ⊤, length, IfErr, IfOk, MatchOption, MatchResult, OnOk, None, Some};
+ghost use Rattle.rip_heap.specs.Growth.{Grows};
+ghost use Rattle.rip_heap.specs.World.{World, charging};
+ghost use Rattle.rip_tree.specs.Program.{root_of};
+ghost use Rattle.rip_runs.specs.Law.{Begins};
+ghost use Rattle.rip_runs.specs.Nesting.{IsInside};
+ghost use Rattle.rip_runs.specs.Rest.{as_row};
+ghost use Rattle.rip_runs.specs.Row.{Table};
+ghost use Rattle.rip_machine.specs.Law.{StartsRun};
+ghost use Rattle.rip_machine.specs.Reading.{Loaded};
+ghost use Rattle.rip_machine.specs.Rows.Calls.{callable};
+ghost use Rattle.rip_machine.specs.Rows.Functions.{function_entered};
+ghost use Rattle.rip_machine.specs.Rows.Scripts.{script_entered};
+ghost use Rattle.rip_machine.specs.Starting.{begun, builtin_begun, call_begun, outside, script_begun};
+ghost use Rattle.rip_machine.specs.Table.{table};
+
+use crate::outcome::Start;
+use crate::rows::arguments::Arguments;
+use crate::rows::calls::{Invocable, call_statements, callable, running};
+use crate::rows::functions::enter_function;
+use crate::rows::names::throw;
+use crate::rows::scripts::{enter_script, script_part};
+use crate::rows::statements::statements;
+use crate::source::Source;
+use rip_heap::{Class, Heap};
+use rip_runs::{Ending, Frame, HostedWait, Next, Part, Role, Run, Wait};
+use rip_values::{Builtin, Limit, NoMemory, Refused, Value};
+use std::alloc::Global;
+
+/// Stands at the beginning of a run: at what a part does next, which has all the depth.
+fn stand_at(
+    run: &mut Run,
+    at: &Part,
+    next: &Result<Next, NoMemory>,
+    fuel: u64,
+) -> Result<(), Refused>
+    requires { at.now.room ≡ run.old.depth + 1 }
+    ensures begins { OnOk result (MatchResult next.now (λ next. (t : Table) (w : World) → Begins t (as_row t at.now next [] w) fuel w run.new) (λ _. ⊥)) }
+    ensures memory { IfErr result (λ refused. refused ≡ Refused.Memory) }
+    ensures depth { run.new.depth ≡ run.old.depth }
+    ensures nested { IsInside (run.new.depth + 1) run.new.control run.new.frames }
+{
+    let _ = run.greatest_depth();
+    match next {
+        Ok(next) => match run.begin(at, next, fuel) {
+            Ok(()) => Ok(()),
+            Err(NoMemory) => Err(Refused::Memory),
+        },
+        Err(NoMemory) => Err(Refused::Memory),
+    }
+}
+
+/// Begins a run of a script or of a function.
+pub(crate) fn start_run(
+    run: &mut Run,
+    alloc: Global,
+    p: &Source,
+    heap: &mut Heap,
+    s: &Start<'_>,
+    fuel: u64,
+) -> Result<(), Refused>
+    ensures starts { StartsRun (table p.now) (begun p.now run.old.depth s.now heap.old) fuel heap.old heap.new run.old run.new result }
+    ensures depth { run.new.depth ≡ run.old.depth }
+    ensures nested { IsInside (run.new.depth + 1) run.new.control run.new.frames }
+    ensures grows { Grows heap.old heap.new }
+{
+    match s {
+        Start::Script(script) => start_script(run, alloc, p, heap, *script, fuel),
+        Start::Function {
+            function,
+            this,
+            args,
+        } => start_function(run, alloc, p, heap, *function, this, args, fuel),
+    }
+}
+
+/// Begins the run of a script, at its first statement.
+fn start_script(
+    run: &mut Run,
+    alloc: Global,
+    p: &Source,
+    heap: &mut Heap,
+    script: u32,
+    fuel: u64,
+) -> Result<(), Refused>
+    ensures starts { StartsRun (table p.now) (script_begun p.now run.old.depth (root_of p.now.code.grove script) (script_entered p.now script heap.old)) fuel heap.old heap.new run.old run.new result }
+    ensures depth { run.new.depth ≡ run.old.depth }
+    ensures nested { IsInside (run.new.depth + 1) run.new.control run.new.frames }
+    ensures grows { Grows heap.old heap.new }
+{
+    let depth = run.greatest_depth();
+    match enter_script(alloc, p, heap, script) {
+        Ok(true) => {
+            let at = script_part(p.root(script), depth);
+            let first = statements(p, &at, Ending::Script, 0);
+            stand_at(run, &at, &first, fuel)
+        },
+        Ok(false) => Err(Refused::Limit(Limit::Cells)),
+        Err(NoMemory) => Err(Refused::Memory),
+    }
+}
+
+/// Begins the call of an object, as it is called from outside a script.
+fn start_function(
+    run: &mut Run,
+    alloc: Global,
+    p: &Source,
+    heap: &mut Heap,
+    function: u32,
+    this: &Value,
+    args: &[Value],
+    fuel: u64,
+) -> Result<(), Refused>
+    ensures starts { StartsRun (table p.now) (call_begun p.now run.old.depth this.now args.now (callable heap.old (Value.Object function)) heap.old) fuel heap.old heap.new run.old run.new result }
+    ensures depth { run.new.depth ≡ run.old.depth }
+    ensures nested { IsInside (run.new.depth + 1) run.new.control run.new.frames }
+    ensures grows { Grows heap.old heap.new }
+{
+    match callable(heap, &Value::Object(function)) {
+        Invocable::OfScript(f, scope) => {
+            start_call(run, alloc, p, heap, (f, scope), this, args, fuel)
+        },
+        Invocable::OfBuiltin(b) => start_builtin(run, heap, b, this, args, fuel),
+        Invocable::NotCallable => start_throw(run, alloc, heap, this, args, fuel),
+    }
+}
+
+/// The place outside all code where a function is called.
+fn outside(depth: u32, this: &Value) -> Part
+    requires { depth + 1 < 2 ^ 32 }
+    ensures { result ≡ outside depth this.now }
+{
+    Part {
+        node: 0,
+        scope: 0,
+        this: *this,
+        room: depth + 1,
+        role: Role::Value,
+    }
+}
+
+/// Begins the call of a function of the script, at its first statement.
+fn start_call(
+    run: &mut Run,
+    alloc: Global,
+    p: &Source,
+    heap: &mut Heap,
+    function: (u32, u32),
+    this: &Value,
+    args: &[Value],
+    fuel: u64,
+) -> Result<(), Refused>
+    ensures starts { StartsRun (table p.now) (call_begun p.now run.old.depth this.now args.now (Invocable.OfScript function.0 function.1) heap.old) fuel heap.old heap.new run.old run.new result }
+    ensures depth { run.new.depth ≡ run.old.depth }
+    ensures nested { IsInside (run.new.depth + 1) run.new.control run.new.frames }
+    ensures grows { Grows heap.old heap.new }
+{
+    let depth = run.greatest_depth();
+    if depth == 0 {
+        return Err(Refused::Limit(Limit::Depth));
+    }
+    let (f, scope) = function;
+    match enter_with(alloc, p, heap, f, scope, args) {
+        Ok(Some(made)) => {
+            let at = outside(depth, this);
+            let first = call_statements(p, &at, &running(f, made, this), Ending::Call);
+            stand_at(run, &at, &first, fuel)
+        },
+        Ok(None) => Err(Refused::Limit(Limit::Cells)),
+        Err(NoMemory) => Err(Refused::Memory),
+    }
+}
+
+/// The scope of a function that is entered with these arguments; none where the charge would pass the limit.
+fn enter_with(
+    alloc: Global,
+    p: &Source,
+    heap: &mut Heap,
+    f: u32,
+    scope: u32,
+    args: &[Value],
+) -> Result<Option<u32>, NoMemory>
+    ensures entered { IfOk result (λ made. MatchOption made (function_entered p.now f scope args.now heap.old ≡ None) (λ s. function_entered p.now f scope args.now heap.old ≡ Some (s, heap.new))) }
+    ensures kept { IfOk result (λ made. MatchOption made (heap.new ≡ heap.old) (λ _. ⊤)) }
+    ensures grows { Grows heap.old heap.new }
+{
+    let args = Arguments {
+        values: args,
+        last: None,
+    };
+    enter_function(alloc, p, heap, f, scope, &args)
+}
+
+/// Charges the arguments of a built-in function, and stands where it is called from outside.
+fn start_builtin(
+    run: &mut Run,
+    heap: &mut Heap,
+    b: Builtin,
+    this: &Value,
+    args: &[Value],
+    fuel: u64,
+) -> Result<(), Refused>
+    ensures starts { (p : Loaded) → StartsRun (table p) (builtin_begun p run.old.depth b this.now args.now (charging (length args.now) heap.old (λ x. x))) fuel heap.old heap.new run.old run.new result }
+    ensures depth { run.new.depth ≡ run.old.depth }
+    ensures nested { IsInside (run.new.depth + 1) run.new.control run.new.frames }
+    ensures grows { Grows heap.old heap.new }
+{
+    let depth = run.greatest_depth();
+    if args.len() > u32::MAX as usize {
+        return Err(Refused::Memory);
+    }
+    if let Err(limit) = heap.charge(args.len() as u32) {
+        return Err(Refused::Limit(limit));
+    }
+    let frame = Frame {
+        at: outside(depth, this),
+        wait: Wait::Hosted(HostedWait::Called {
+            function: b,
+            this: *this,
+        }),
+    };
+    run.begin_beside(&frame, args, fuel)?;
+    Ok(())
+}
+
+/// Stands where a TypeError was thrown, since what is called is no function.
+fn start_throw(
+    run: &mut Run,
+    alloc: Global,
+    heap: &mut Heap,
+    this: &Value,
+    args: &[Value],
+    fuel: u64,
+) -> Result<(), Refused>
+    ensures starts { (p : Loaded) → StartsRun (table p) (call_begun p run.old.depth this.now args.now Invocable.NotCallable heap.old) fuel heap.old heap.new run.old run.new result }
+    ensures depth { run.new.depth ≡ run.old.depth }
+    ensures nested { IsInside (run.new.depth + 1) run.new.control run.new.frames }
+    ensures grows { Grows heap.old heap.new }
+{
+    let _ = args;
+    let depth = run.greatest_depth();
+    let thrown = throw(alloc, heap, Class::ThrownTypeError);
+    stand_at(run, &outside(depth, this), &thrown, fuel)
+}

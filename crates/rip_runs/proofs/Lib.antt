@@ -1,0 +1,7 @@
+pub mod Joined
+pub mod Laws
+pub mod Nested
+pub mod Resumes
+pub mod Runs
+pub mod Settles
+pub mod StepLaws

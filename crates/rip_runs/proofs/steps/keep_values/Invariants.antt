@@ -1,0 +1,9 @@
+use Rattle.std.proofs.Common.{◌≡◌, [], ◌∷◌, take}
+use Rattle.rip_runs.specs.Stack.{framed}
+use Rattle.rip_runs.proofs.steps.keep_values.Given as goal
+
+abbrev pub invariant-loop-v : goal.invariant-loop-v
+invariant-loop-v l = record {
+  kept : l.fn.stack.frames ≡ framed l.frame [] ∷ [] → l.stack.frames ≡ framed l.frame (take l.v-index l.values) ∷ [];
+  most : l.stack.most ≡ l.fn.stack.most;
+}

@@ -1,0 +1,12 @@
+pub mod Cut
+pub mod Frame
+pub mod Joining
+pub mod Keeping
+pub mod Law
+pub mod Nesting
+pub mod Rest
+pub mod Row
+pub mod Run
+pub mod Settle
+pub mod Stack
+pub mod Started

@@ -1,0 +1,223 @@
+ghost use Rattle.std.specs.Prelude.{◌≡◌, ◌+◌, ◌<◌, ◌≤◌, ◌^◌, [], max, IfOk, OnErr, OnOk};
+ghost use Rattle.rip_heap.specs.Growth.{Grows};
+ghost use Rattle.rip_heap.specs.World.{World};
+ghost use Rattle.rip_runs.specs.Law.{Begins, Resumes, open_depth, outcome_of, stop_outcome, turned_of};
+ghost use Rattle.rip_runs.specs.Nesting.{IsInside};
+ghost use Rattle.rip_runs.specs.Rest.{as_row};
+ghost use Rattle.rip_runs.specs.Row.{Table};
+ghost use Rattle.rip_runs.specs.Stack.{framed};
+
+use crate::completion::{Completion, Stop};
+use crate::frame::Frame;
+use crate::next::{Control, Next};
+use crate::outcome::{Outcome, Turned};
+use crate::part::Part;
+use crate::rows::Rows;
+use crate::stack::Stack;
+use crate::steps::{keep_values, open, pushed, steps};
+use rip_heap::{Heap, Host};
+use rip_values::{Limit, NoMemory, Value};
+use std::alloc::Global;
+use std::marker::Model;
+
+/// A run that stands, and can go on: of any table of rows, which is handed in where rows are run.
+#[derive(Debug, Drop)]
+pub struct Run {
+    stack: Stack,
+    control: Control,
+    fuel: u64,
+    spent: u64,
+    depth: u32,
+}
+
+impl Model for Run {
+    ghost use Rattle.rip_runs.specs.Keeping.{IsRun};
+    ghost use Rattle.rip_runs.specs.Law.{Standing};
+
+    ghost Value = { Standing };
+
+    ghost view = { λ m. record {
+      control = m.control;
+      frames = m.stack.frames;
+      fuel = m.fuel;
+      spent = m.spent;
+      depth = m.depth;
+      value_room = m.stack.room;
+    } };
+
+    ghost invariant = { λ m. IsRun m.fuel m.spent m.depth m.stack.most m.control m.stack.frames };
+}
+
+impl Run {
+    /// Nothing runs yet. Runs may nest so deep; a depth that 32 bits cannot count with one more is want of memory.
+    pub fn make(alloc: Global, depth: u32) -> Result<Run, NoMemory>
+        ensures { IfOk result (λ run. run ≡ record { control = Control.Give (Completion.Normal Value.Undefined); frames = []; fuel = 0; spent = 0; depth = depth; value_room = 0 }) }
+    {
+        if depth == u32::MAX {
+            return Err(NoMemory);
+        }
+        Ok(Run {
+            stack: Stack::make(alloc, depth + 1)?,
+            control: Control::Give(Completion::Normal(Value::Undefined)),
+            fuel: 0,
+            spent: 0,
+            depth,
+        })
+    }
+
+    /// Takes the room for so many values beside frames in all, where there is less.
+    pub fn reserve(&mut self, values: u32) -> Result<(), NoMemory>
+        ensures ok { OnOk result (self.new ≡ record self.old { value_room = max self.old.value_room values }) }
+        ensures err { OnErr result (self.new ≡ self.old) }
+    {
+        let _ = &self.depth;
+        self.stack.reserve(values)
+    }
+
+    /// The greatest depth. The open frames are inside it, as each run keeps.
+    pub fn greatest_depth(&self) -> u32
+        ensures depth { result ≡ self.now.depth }
+        ensures numbered { result + 1 < 2 ^ 32 }
+        ensures nested { IsInside (self.now.depth + 1) self.now.control self.now.frames }
+    {
+        self.depth
+    }
+
+    /// How many nodes are entered and not ended, and how many functions are running. After a fault or a limit they are those
+    /// that were open where the run ended.
+    pub fn depth(&self) -> u32
+        ensures open { result ≡ open_depth self.now }
+        ensures within { result ≤ self.now.depth }
+    {
+        match &self.control {
+            Control::Enter(part) => self.depth.saturating_sub(part.room),
+            Control::Give(_) => match self.stack.top() {
+                Some(frame) => (self.depth + 1).saturating_sub(frame.at.room),
+                None => 0,
+            },
+            Control::Halted { room, .. } => self.depth.saturating_sub(*room),
+        }
+    }
+
+    /// The units that were entered.
+    pub fn spent(&self) -> u64
+        ensures { result ≡ self.now.spent }
+    {
+        self.spent
+    }
+
+    /// Stands at the beginning of a run with so much fuel: at what a part does next that has all the depth.
+    pub fn begin(&mut self, at: &Part, next: &Next, fuel: u64) -> Result<(), NoMemory>
+        requires { at.now.room ≡ self.old.depth + 1 }
+        ensures begins { OnOk result ((t : Table) (w : World) → Begins t (as_row t at.now next.now [] w) fuel w self.new) }
+        ensures nested { IsInside (self.new.depth + 1) self.new.control self.new.frames }
+        ensures depth { self.new.depth ≡ self.old.depth }
+    {
+        self.stack.clear();
+        open(&mut self.stack, at, next, &mut self.control)?;
+        self.fuel = fuel;
+        self.spent = 0;
+        Ok(())
+    }
+
+    /// Stands where undefined is given to this frame, which is the only one and has all the depth, with these values beside
+    /// it. Where they have no room it is want of memory.
+    pub fn begin_beside(
+        &mut self,
+        frame: &Frame,
+        values: &[Value],
+        fuel: u64,
+    ) -> Result<(), NoMemory>
+        requires { frame.now.at.room ≡ self.old.depth + 1 }
+        ensures begins { OnOk result ((t : Table) (w : World) → Begins t (t.rest (framed frame.now values.now) (Completion.Normal Value.Undefined) w) fuel w self.new) }
+        ensures nested { IsInside (self.new.depth + 1) self.new.control self.new.frames }
+        ensures depth { self.new.depth ≡ self.old.depth }
+    {
+        self.control = Control::Give(Completion::Normal(Value::Undefined));
+        self.stack.clear();
+        pushed(&mut self.stack, frame);
+        if let Err(NoMemory) = keep_values(&mut self.stack, frame, values) {
+            self.stack.clear();
+            return Err(NoMemory);
+        }
+        self.fuel = fuel;
+        self.spent = 0;
+        Ok(())
+    }
+
+    /// Goes on for at most `n` units.
+    pub fn resume<R: Rows, H: Host>(
+        &mut self,
+        rows: &R,
+        alloc: Global,
+        heap: &mut Heap,
+        host: &mut H,
+        n: u64,
+    ) -> Turned
+        requires { H.fits host.old heap.old }
+        ensures fits { H.fits host.new heap.new }
+        ensures depth { self.new.depth ≡ self.old.depth }
+        ensures nested { IsInside (self.new.depth + 1) self.new.control self.new.frames }
+        ensures counted { self.new.spent + self.new.fuel ≡ self.old.spent + self.old.fuel }
+        ensures later { self.old.spent ≤ self.new.spent }
+        ensures grows { Grows heap.old heap.new }
+        ensures law { Resumes H.answers (R.table rows.now) self.old heap.old host.old n self.new heap.new host.new result }
+    {
+        let budget = n.min(self.fuel);
+        let more = n < self.fuel;
+        match steps(
+            rows,
+            alloc,
+            heap,
+            host,
+            &mut self.stack,
+            &mut self.control,
+            budget,
+        ) {
+            Ok(left) => {
+                let used = budget - left;
+                self.fuel -= used;
+                self.spent += used;
+                turned_of(&self.control, more)
+            },
+            Err(NoMemory) => Turned::Done(Outcome::Memory),
+        }
+    }
+}
+
+/// What is answered where the run stands so, and whether its fuel reaches further.
+fn turned_of(control: &Control, more: bool) -> Turned
+    ensures { result ≡ turned_of control.now more }
+{
+    match control {
+        Control::Enter(_) => {
+            if more {
+                Turned::More
+            } else {
+                Turned::Done(Outcome::Limit(Limit::Fuel))
+            }
+        },
+        Control::Give(c) => Turned::Done(outcome_of(*c)),
+        Control::Halted { stop, .. } => Turned::Done(stop_outcome(*stop)),
+    }
+}
+
+fn outcome_of(c: Completion) -> Outcome
+    ensures { result ≡ outcome_of c }
+{
+    match c {
+        Completion::Normal(v) => Outcome::Value(v),
+        Completion::Thrown(v) => Outcome::Thrown(v),
+        Completion::Returned(v) => Outcome::Value(v),
+        _ => Outcome::Value(Value::Undefined),
+    }
+}
+
+fn stop_outcome(stop: Stop) -> Outcome
+    ensures { result ≡ stop_outcome stop }
+{
+    match stop {
+        Stop::Fault(fault) => Outcome::Fault(fault),
+        Stop::Limit(limit) => Outcome::Limit(limit),
+    }
+}
