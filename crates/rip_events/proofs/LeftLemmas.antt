@@ -1,10 +1,9 @@
 -- No listener that stands is left out of a flow.
-use Rattle.std.proofs.Common.{◌≡◌, ℕ, zero, suc, ◌+◌, ◌-◌, ◌<◌, ◌≤◌, ◌⊎◌, inl, inr, Bool, true, false, cond, List, [], ◌∷◌, ◌++◌, length, Option, None, Some, refl, sym, ap, ◌∙◌, subst, arith, length-append}
+use Rattle.std.proofs.Common.{◌≡◌, ℕ, zero, suc, ◌+◌, ◌-◌, ◌<◌, ◌≤◌, ◌⊎◌, inl, inr, Bool, true, false, List, [], ◌∷◌, ◌++◌, length, Option, None, Some, refl, sym, ap, ◌∙◌, arith, length-append}
 use Rattle.std.proofs.lemmas.Bool.{cases_Bool, cases_eq, cond-true, cond-false, true≢false}
 use Rattle.rip_values.specs.declared.value.Span.{Span}
 use Rattle.rip_values.specs.Pool.{Texts}
 use Rattle.rip_events.specs.declared.station.Station.{Station}
-use Rattle.rip_events.specs.declared.station.Place.{Place}
 use Rattle.rip_events.specs.Listed.{Listed, fits, first_number}
 use Rattle.rip_events.specs.Flow.{Course, Arrival, wanted_at, called_at, called_here, with_station, here_or_behind, here_or_ahead, goes_on, in_reach, next_arrival, call_at}
 use Rattle.rip_events.specs.Laws.{Moment, go_on, registrations, CallsNext, IsNotPast, NoneIsLeftOut}

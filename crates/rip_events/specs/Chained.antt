@@ -8,9 +8,11 @@ use Rattle.rip_events.specs.Listed.{listener_at, first_number}
 abbrev pub no_ends : Ends
 no_ends = record { first = None; last = None }
 
+-- the ends of the chain of a node
 abbrev pub ends_at : List Ends → ℕ → Ends
 ends_at ends p = slice_index_or ends p no_ends
 
+-- the number that is behind this one in its chain
 abbrev pub link_at : List (Option ℕ) → ℕ → Option ℕ
 link_at links n = slice_index_or links n None
 
@@ -27,6 +29,7 @@ abbrev pub or_this : Option ℕ → ℕ → Option ℕ
 or_this None n = Some n
 or_this (Some m) n = Some m
 
+-- the ends of a chain with this number behind the others
 abbrev pub ends_with : Ends → ℕ → Ends
 ends_with e n = record { first = or_this e.first n; last = Some n }
 
@@ -35,6 +38,7 @@ abbrev pub with_link : List (Option ℕ) → Option ℕ → ℕ → List (Option
 with_link links None n = links
 with_link links (Some l) n = slice_set links l (Some n)
 
+-- each node has the ends that it had
 abbrev pub AreSameEnds : List Ends → List Ends → Type 0
 AreSameEnds old new = (p : ℕ) → ends_at new p ≡ ends_at old p
 
@@ -49,6 +53,7 @@ pub record IsChained (limit : ℕ) (all : List Listener) (standing : List Bool) 
   pub last : (p l : ℕ) → (ends_at ends p).last ≡ Some l → (l < length all) × ((listener_at all l).node ≡ p) × (link_at links l ≡ None)
   pub empty : (p : ℕ) → (ends_at ends p).last ≡ None → first_on all p 0 ≡ None
 
+-- the rooms are as large as the maker was told
 pub record HasRooms (limit nodes all standing links ends : ℕ) : Type 0 where
   pub all_reserved : limit ≤ all
   pub standing_reserved : limit ≤ standing

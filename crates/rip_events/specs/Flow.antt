@@ -21,6 +21,7 @@ number_of Bubbling = 3
 abbrev pub above : Tree → ℕ → List ℕ
 above t n = way_up (length t.nodes) t (parent_of t n)
 
+-- stations at these nodes, in this phase
 abbrev pub in_phase : Phase → List ℕ → List Station
 in_phase phase nodes = map (λ n. record { node = n; phase = phase }) nodes
 
@@ -53,6 +54,7 @@ is_capturing Capturing = true
 is_capturing AtTarget = false
 is_capturing Bubbling = false
 
+-- what is sought among listeners at a station
 abbrev pub wanted_at : Span → Station → Wanted
 wanted_at kind s = record { node = s.node; kind = kind; function = None; capture = is_capturing s.phase }
 

@@ -22,10 +22,12 @@ pub record Called : Type 0 where
   pub call : Place
   pub ahead : ℕ
 
+-- a call that is made, if there is one, before the others
 abbrev pub with_call : Moment → Option Place → Course → List Called → List Called
 with_call m None c calls = calls
 with_call m (Some p) c calls = record { at = m; call = p; ahead = length c.ahead } ∷ calls
 
+-- the next call at a moment, and the flow behind it
 abbrev pub go_on : Moment → Course → Option Place × Course
 go_on m c = next_call m.pool m.listeners m.stopped c
 
@@ -34,6 +36,7 @@ abbrev pub calls_of : Course → List Moment → List Called
 calls_of c [] = []
 calls_of c (m ∷ ms) = with_call m (go_on m c).0 (go_on m c).1 (calls_of (go_on m c).1 ms)
 
+-- the station of a call
 abbrev pub station_of : Place → Station
 station_of p = record { node = p.node; phase = p.phase }
 
@@ -69,6 +72,7 @@ RemovedAreNotCalled =
     (t : Tree) (kind : Span) (target : ℕ) (bubbles : Bool) (c : Course) (ms : List Moment)
     → All (Stands kind) (calls_of (begun t kind target bubbles c) ms)
 
+-- how many listeners were registered up to a moment
 abbrev pub registrations : Moment → ℕ
 registrations m = length m.listeners.registered
 

@@ -26,9 +26,11 @@ cost_of_listener = 1
 abbrev pub no_listener : Listener
 no_listener = record { node = 0; kind = record { start = 0; count = 0 }; function = 0; capture = false }
 
+-- the listener of this number
 abbrev pub listener_at : List Listener → ℕ → Listener
 listener_at all n = slice_index_or all n no_listener
 
+-- whether the listener of this number stands
 abbrev pub stands_at : List Bool → ℕ → Bool
 stands_at standing n = slice_index_or standing n false
 
