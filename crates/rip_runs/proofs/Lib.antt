@@ -1,4 +1,5 @@
 pub mod Joined
+pub mod Later
 pub mod Laws
 pub mod Nested
 pub mod Resumes

@@ -1,9 +1,11 @@
 pub mod Cut
+pub mod Evaluation
 pub mod Frame
 pub mod Joining
 pub mod Keeping
 pub mod Law
 pub mod Nesting
+pub mod Plan
 pub mod Rest
 pub mod Row
 pub mod Run

@@ -21,6 +21,10 @@
 //! | a run cut after any unit, and its fuel | `Cut.run_of`, `Cut.rest_of` |
 //! | [`Run`] | contracts see `Law.Standing`; what each keeps is `Keeping.IsRun`, with `Nesting.IsInside` |
 //! | [`Run::begin`], [`Run::resume`], [`Run::depth`] | `Law.Begins`, `Law.Resumes`, `Law.open_depth` |
+//! | what an item or a batch does, as a program that asks for runs | `Plan.Plan`, joined by `Plan.and_then` |
+//! | what a [`Planner`] answers, a [`Step`] of a plan | `Plan.ahead`: the plan is that step, and then what is left |
+//! | a plan that takes no unit but for fuel, and waits for nothing | `Plan.IsPlain` |
+//! | what plans see of an [`Evaluator`] | `Evaluation.Evaluation`: where its runs stand; `Evaluation.Begins`, `Evaluation.Advances` |
 //! | [`Stack`] | contracts see `Stack.Frames`: the open frames, the outermost first, each with the values beside it |
 //!
 //! | law, for every host and every table | where |
@@ -29,6 +33,7 @@
 //! | the run of a row that asks for a part, or begins a turn | `run-asks`, `run-again` |
 //! | the innermost frame is finished first; a stop and a cut leave through all | `proofs/Laws.antt`: `unwind-push`, `unwind-stops`, `unwind-cuts` |
 //! | what is left after a step is what was left | `rest-next`, `rest-enters`, `rest-gives` |
+//! | more units change no run that has come to its end | `proofs/Later.antt`: `of-later` |
 //! | a row whose calls of the host were made runs on as the row did | `proofs/Settles.antt`: `run-settles`, `settled` |
 //! | open parts are nested within the depth | `proofs/Nested.antt`: `next_inside` |
 //! | what the steps of a call leave is what `resume` promises; a run that begins is the whole run of its row | `proofs/Resumes.antt`: `resumes`, `begins_whole` |
@@ -36,23 +41,31 @@
 //! Frames own no memory. The room of a stack is taken by [`Run::make`] and [`Run::reserve`].
 #![tactic(auto)]
 
+mod close;
 mod completion;
+mod evaluator;
 mod frame;
 mod next;
 mod outcome;
 mod part;
+mod planner;
 mod rows;
 mod run;
 mod stack;
+mod step;
 mod steps;
 #[cfg(test)]
 mod tests;
 
+pub use close::Close;
 pub use completion::{Completion, Stop};
+pub use evaluator::{Advance, Evaluator};
 pub use frame::{Ending, Frame, HostedWait, OwnWait, Wait};
 pub use next::{Control, Next};
 pub use outcome::{Outcome, Turned};
 pub use part::{Inner, Part, Role};
+pub use planner::Planner;
 pub use rows::Rows;
 pub use run::Run;
 pub use stack::Stack;
+pub use step::{Opening, Phase, Step};

@@ -106,6 +106,13 @@ impl Run {
         self.spent
     }
 
+    /// The fuel that is left.
+    pub fn fuel(&self) -> u64
+        ensures { result ≡ self.now.fuel }
+    {
+        self.fuel
+    }
+
     /// Stands at the beginning of a run with so much fuel: at what a part does next that has all the depth.
     pub fn begin(&mut self, at: &Part, next: &Next, fuel: u64) -> Result<(), NoMemory>
         requires { at.now.room ≡ self.old.depth + 1 }

@@ -1,0 +1,17 @@
+use Rattle.std.proofs.Common.{◌≤◌, []}
+use Rattle.rip_heap.specs.Growth.{Grows}
+use Rattle.rip_runner.specs.Going.{Keeps, LeadsWith, going, turns}
+use Rattle.rip_runner.proofs.runner.Runner.resume.Given as goal
+
+abbrev pub invariant-loop-units : goal.invariant-loop-units
+invariant-loop-units g l = record {
+  fits : g.H.Host.fits l.host l.heap;
+  grows : Grows l.fn.heap l.heap;
+  keeps : Keeps (g.E.Evaluator.evaluation l.program) (going g.P.Planner.plan l.fn.self) (going g.P.Planner.plan l.self);
+  leads : LeadsWith (g.E.Evaluator.evaluation l.program) [] (going g.P.Planner.plan l.fn.self) l.fn.heap l.fn.host l.fn.n (going g.P.Planner.plan l.self) l.heap l.host l.left;
+  within : l.left ≤ l.fn.n;
+  later : turns (g.P.Planner.steps l.self.planner) l.self.phase ≤ turns (g.P.Planner.steps l.fn.self.planner) l.fn.self.phase;
+}
+
+abbrev pub decreases-loop-units : goal.decreases-loop-units
+decreases-loop-units g l = turns (g.P.Planner.steps l.self.planner) l.self.phase
