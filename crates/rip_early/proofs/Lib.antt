@@ -1,3 +1,4 @@
+pub mod Answering
 pub mod Earliest
 pub mod Firsts
 pub mod Gathering
@@ -8,4 +9,5 @@ pub mod Making
 pub mod Parents
 pub mod Positions
 pub mod Repeating
+pub mod Resolving
 pub mod Surrounding

@@ -1,16 +1,26 @@
 -- The scopes around a node, from the nearest node that makes one.
-use Rattle.std.proofs.Common.{◌≡◌, ℕ, zero, suc, ◌<◌, ◌≤◌, List, [], ◌++◌, length, Option, Some, None, IfSome, Bool, true, false, if◌then◌else◌, refl, sym, ap, ◌∙◌, arith}
+use Rattle.std.proofs.Common.{◌≡◌, ℕ, zero, suc, ◌+◌, ◌<◌, ◌≤◌, List, [], ◌++◌, length, Option, Some, None, IfSome, Bool, true, false, if◌then◌else◌, refl, sym, ap, ◌∙◌, arith}
 use Rattle.rip_tree.specs.declared.form.Form.{Form}
 use Rattle.rip_tree.specs.Branches.{Plant, ChildrenFollow}
 use Rattle.rip_early.specs.Around.{parent_of, parent_first, around_within, around, form_of, first_with}
 use Rattle.rip_early.specs.Contexts.{makes_scope}
-use Rattle.rip_early.specs.Looking.{after, left_of, scopes_from}
+use Rattle.rip_early.specs.Looking.{after}
 use Rattle.rip_early.specs.Names.{Name}
 use Rattle.rip_early.specs.declared.meaning.Looked.{Looked}
 use Rattle.rip_early.specs.declared.meaning.Looked.TheVariants.{Past}
 use Rattle.rip_early.specs.declared.meaning.Meaning.{Meaning}
 use Rattle.rip_early.specs.Scopes.{Scope, meaning_in, scopes_made, scopes_among, scopes_around}
 use Rattle.rip_early.proofs.Surrounding.{parent-below, around_within-same}
+
+-- the scopes that a node makes and those around it, where there is such a node
+abbrev pub scopes_from : List Name → Plant → Option ℕ → List Scope
+scopes_from top t None = []
+scopes_from top t (Some id) = scopes_made top t id (form_of t id) ++ scopes_around top t id
+
+-- the number of a node, counted from 1, and 0 where there is none
+abbrev pub left_of : Option ℕ → ℕ
+left_of None = 0
+left_of (Some id) = id + 1
 
 first_with-pick : (t : Plant) (id p q : ℕ) (b : Bool) (inner : Option ℕ) → (q < id) × (q < length t.branches) → (inner ≡ Some p → (p < q) × (p < length t.branches))
     → (if b then Some q else inner) ≡ Some p → (p < id) × (p < length t.branches)

@@ -18,7 +18,8 @@
 //! | [`check`]: no script has an early error | `Mistakes.AreClean` |
 //! | [`check`]: the program is their trees joined, with what the rules of scope say of each node | `Program.program_of`, `Scopes.scoping_at` |
 //! | [`check`]: the refusal is the first early error of all | `Mistakes.IsRefusalOf`, `Mistakes.IsFirst` |
-//! | [`refusals_are_one`]: there is one first early error, and none where the scripts are clean | `Laws.HaveOneFirst`, `Laws.AreNotClean` |
+//! | [`refusals_are_one`]: scripts are clean or have one first early error, and never both | `Laws.HaveAnAnswer`, `Laws.HaveOneFirst`, `Laws.AreNotClean` |
+//! | [`names_are_resolved`]: a node without a name is resolved to nothing, a name that is read to something | `Laws.NamesAreResolved` |
 //! | how a refusal is printed | `Printed.kind_text`, `Printed.refusal_text` |
 //!
 //! The files `Contexts`, `Gathered`, `Indexed`, `Least` and `Looking` of `specs/` say what the functions within the crate
@@ -44,5 +45,5 @@ mod strict;
 mod tests;
 mod uses;
 
-pub use program::{check, refusals_are_one};
+pub use program::{check, names_are_resolved, refusals_are_one};
 pub use refusal::{EarlyKind, EarlyRefusal};

@@ -5,7 +5,7 @@ ghost use Rattle.rip_early.specs.Around.{form_of};
 ghost use Rattle.rip_early.specs.Contexts.{AreContexts};
 ghost use Rattle.rip_early.specs.Gathered.{AreScopes};
 ghost use Rattle.rip_early.specs.Indexed.{names_of, IsIndexed};
-ghost use Rattle.rip_early.specs.Laws.{AreNotClean, HaveOneFirst};
+ghost use Rattle.rip_early.specs.Laws.{AreNotClean, HaveAnAnswer, HaveOneFirst, NamesAreResolved};
 ghost use Rattle.rip_early.specs.Least.{IsLeast};
 ghost use Rattle.rip_early.specs.Mistakes.{mistakes, AreClean, IsRefusalOf};
 ghost use Rattle.rip_early.specs.Names.{function_scope, top_scope};
@@ -49,10 +49,16 @@ pub fn check(alloc: Global, trees: &Trees) -> Result<Program, EarlyRefusal>
     Ok(program)
 }
 
-/// Two refusals of the same scripts are equal, and scripts that are refused are not clean.
+/// Scripts are clean or have one first early error, and never both.
 pub fn refusals_are_one()
+    ensures some { HaveAnAnswer }
     ensures one { HaveOneFirst }
     ensures apart { AreNotClean }
+{}
+
+/// In a program a node that reads and binds no name is resolved to nothing, and each name that is read means something.
+pub fn names_are_resolved()
+    ensures { NamesAreResolved }
 {}
 
 /// What the rules of scope say of all scripts, or their first early error.

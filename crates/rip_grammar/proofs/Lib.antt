@@ -2,6 +2,7 @@ pub mod Beginnings
 pub mod CommaLists
 pub mod Complete
 pub mod CompoundStatements
+pub mod Continuing
 pub mod Declarators
 pub mod Endings
 pub mod Finished

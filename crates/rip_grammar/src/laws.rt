@@ -1,4 +1,4 @@
-ghost use Rattle.rip_grammar.specs.Laws.{EndIsLast, EveryScriptIsTold, RefusedBeginsNone, ScriptsAreToldOnce, TakenBeginsOne, TakenIsScript};
+ghost use Rattle.rip_grammar.specs.Laws.{EndIsLast, EveryScriptIsTold, GoesOnBehindName, GoesOnBehindPostfix, RefusedBeginsNone, ScriptsAreToldOnce, TakenBeginsOne, TakenIsScript};
 
 /// The machine takes every script and tells what is told of its body; so the body of a script is told once, whatever
 /// derives it; and no script begins with lexemes that the machine refuses.
@@ -14,4 +14,11 @@ pub fn scripts_alone_are_taken()
     ensures script { TakenIsScript }
     ensures viable { TakenBeginsOne }
     ensures last { EndIsLast }
+{}
+
+/// The words of which the grammar says that they continue an expression are those with which the machine goes on in one
+/// behind a line end.
+pub fn continuing_words_are_taken()
+    ensures name { GoesOnBehindName }
+    ensures postfix { GoesOnBehindPostfix }
 {}

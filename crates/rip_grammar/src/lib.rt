@@ -5,7 +5,8 @@
 //! forms on a stack of its own, and tells [`Event`]s, the parts of a phrase before it. A parser is code that does what
 //! the machine does. What it may rest on: the machine takes every script and tells what is told of the script's phrase,
 //! so a script is told in one way ([`scripts_are_told_once`]); it takes nothing else to the end, and refuses a lexeme
-//! exactly where no script goes on with it ([`scripts_alone_are_taken`]).
+//! exactly where no script goes on with it ([`scripts_alone_are_taken`]). The table of the words that continue an
+//! expression, which grammar and machine share, is what the machine does ([`continuing_words_are_taken`]).
 //!
 //! | what | its definition in `specs/` |
 //! |---|---|
@@ -20,7 +21,7 @@
 //! | how tightly the open forms hold, and what may stand in them | `Frames` |
 //! | what it does where an operand is wanted, behind one, where a statement is wanted, in headers | `Operands`, `Continuations`, `Statements`, `Headers` |
 //! | what it does with one lexeme, and with all | `Machine.step`, `Machine.go`, `Machine.begins` |
-//! | what holds of all scripts | `Laws` |
+//! | what holds of all scripts, and of the words that continue an expression | `Laws` |
 #![tactic(auto)]
 
 mod event;
@@ -31,6 +32,6 @@ mod word;
 
 pub use event::{Event, Head};
 pub use frame::{Frame, Header, Invocation, Owner, Pending, VarRole};
-pub use laws::{scripts_alone_are_taken, scripts_are_told_once};
+pub use laws::{continuing_words_are_taken, scripts_alone_are_taken, scripts_are_told_once};
 pub use mode::{Mode, Shape};
 pub use word::{Lexeme, Word};

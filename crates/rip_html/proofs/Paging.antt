@@ -91,7 +91,7 @@ scripts_by : (b : Bool) (n x : ℕ) (numbers : List ℕ) → x < n → AllBelow 
 scripts_by true n x numbers h k = (h, k)
 scripts_by false n x numbers h k = k
 
-scripts_within : (number : ℕ) (nodes : List PageNode) → AllBelow (number + length nodes) (script_numbers number nodes)
+pub scripts_within : (number : ℕ) (nodes : List PageNode) → AllBelow (number + length nodes) (script_numbers number nodes)
 scripts_within number [] = tt
 scripts_within number (x ∷ others) =
     scripts_by (is_element x.kind && is_script x.name) (number + suc (length others)) (text_number number others) (script_numbers (suc number) others) (text_within number others)

@@ -33,10 +33,11 @@ Declares-among [] e left (f ∷ fs) h = (f, h.0)
 Declares-among (d ∷ done) e left [] h = absurd h
 Declares-among (d ∷ done) e left (f ∷ fs) h = Declares-among done e left fs h.1
 
-named : List ℕ → Operation
+-- the operation of a word that is one
+pub named : List ℕ → Operation
 named word = cond (bytes_eq word (codes "get")) O.Get (cond (bytes_eq word (codes "put")) O.Put (cond (bytes_eq word (codes "add")) O.Add (cond (bytes_eq word (codes "take")) O.Take (cond (bytes_eq word (codes "push")) O.Push O.List))))
 
-named-word_of : (op : Operation) → named (word_of op) ≡ op
+pub named-word_of : (op : Operation) → named (word_of op) ≡ op
 unfolding named
 named-word_of O.Get = refl
 named-word_of O.Put = refl
@@ -66,7 +67,7 @@ Declares-unique name value f g h k =
     prefixes : (a b c d : List ℕ) → array (item (string a) (item (string b) no_items)) ≡ array (item (string c) (item (string d) no_items)) → b ≡ d
     prefixes a b c d e = cc
 
-DeclareAll-unique : (ms : Members) (fs gs : List Function) → DeclareAll ms fs → DeclareAll ms gs → fs ≡ gs
+pub DeclareAll-unique : (ms : Members) (fs gs : List Function) → DeclareAll ms fs → DeclareAll ms gs → fs ≡ gs
 DeclareAll-unique no_members [] [] h k = refl
 DeclareAll-unique no_members [] (g ∷ gs) h k = absurd k
 DeclareAll-unique no_members (f ∷ fs) gs h k = absurd h

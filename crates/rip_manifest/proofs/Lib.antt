@@ -1,4 +1,5 @@
 pub mod AnswerLemmas
+pub mod Answering
 pub mod FunctionLemmas
 pub mod JsonLemmas
 pub mod LimitLemmas

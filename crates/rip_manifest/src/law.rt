@@ -1,6 +1,7 @@
-ghost use Rattle.rip_manifest.specs.Laws.{HasOneAnswer};
+ghost use Rattle.rip_manifest.specs.Laws.{HasAnAnswer, HasOneAnswer};
 
-/// The law of manifests: bytes have at most one answer.
-pub fn at_most_one()
-    ensures { HasOneAnswer }
+/// The law of manifests: bytes are one manifest, or they are refused for one cause, and never both.
+pub fn exactly_one()
+    ensures some { HasAnAnswer }
+    ensures one { HasOneAnswer }
 {}

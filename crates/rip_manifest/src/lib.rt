@@ -10,7 +10,7 @@
 //! | why they are none ([`ManifestKind`], [`ManifestRefusal`]) | `Manifest.IsRefused`, a line for each, in order |
 //! | the functions ([`Functions`]): each has a name, one of six operations, and a prefix | `Functions.AreFunctions`, by `Functions.Declares` and the table `Functions.word_of` |
 //! | the limits | `Limits.AreLimits`, by the tables `Limits.default` and `Limits.greatest`; `Limits.memory_of` |
-//! | [`at_most_one`] | `Laws.HasOneAnswer`: no two answers stand for the same bytes |
+//! | [`exactly_one`]: any bytes have one answer | `Laws.HasAnAnswer`, `Laws.HasOneAnswer` |
 //! | names and prefixes | `Names.IsName`, `Names.IsPrefix` |
 //!
 //! A layer above may rest on this: for any bytes one answer alone stands, a manifest or the first cause of refusal; want
@@ -30,7 +30,7 @@ mod tests;
 
 pub use function::{Function, Functions, Operation};
 pub use functions::MOST_FUNCTIONS;
-pub use law::at_most_one;
+pub use law::exactly_one;
 pub use limits::MOST_MEMORY;
 pub use manifest::{Manifest, read_manifest};
 pub use name::MOST_LETTERS;

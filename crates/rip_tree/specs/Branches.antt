@@ -8,7 +8,9 @@ pub record Branch : Type 0 where
   pub node : Node
   pub children : List (Option ℕ)
 
--- what a tree holds: the branches from the root on, and the units of the script, behind them those of its texts
+-- What a tree holds: the branches from the root on, and the units of the script, behind them those of its texts. In the
+-- tree of a script each branch but the root is the child of one branch, once; of any other list of branches nothing is
+-- said but that a child's number is above its parent's.
 pub record Plant : Type 0 where
   pub branches : List Branch
   pub units : List ℕ

@@ -1,7 +1,7 @@
 use Rattle.std.proofs.Common.{◌≡◌, ◌<◌, length, IfSome}
 use Rattle.rip_early.specs.Indexed.{names_of}
-use Rattle.rip_early.specs.Looking.{left_of, scopes_from}
 use Rattle.rip_early.specs.Scopes.{scopes_around, meaning_in}
+use Rattle.rip_early.proofs.Making.{left_of, scopes_from}
 use Rattle.rip_early.proofs.meaning.meaning_of.Given as goal
 
 abbrev pub invariant-loop-maker : goal.invariant-loop-maker

@@ -1,5 +1,9 @@
 use Rattle.rip_manifest.proofs.AnswerLemmas.{one_answer}
-use Rattle.rip_manifest.proofs.law.at_most_one.Goals as goal
+use Rattle.rip_manifest.proofs.Answering.{an_answer}
+use Rattle.rip_manifest.proofs.law.exactly_one.Goals as goal
 
-pub returns : goal.returns
-returns c = one_answer
+pub returns-clause-some : goal.returns-clause-some
+returns-clause-some c = an_answer
+
+pub returns-clause-one : goal.returns-clause-one
+returns-clause-one c = one_answer
