@@ -46,7 +46,8 @@ use Rattle.rip_parser.specs.Parsed.{IsBody, IsUnexpected, IsTooDeepAt, IsTreeOf,
 use Rattle.rip_parser.specs.Laws.{HasReading}
 use Rattle.rip_parser.specs.Search.{found}
 use Rattle.rip_parser.specs.Shows.{spelling_of, piece_of, text_of, IsText, IsSingle, IsKey}
-use Rattle.rip_parser.specs.Building.{State, numbers, last_parts, other_parts, part_of, place_over, wrapped, absent, beginning, rooted, deeper, greatest, plain_form, IsFormOf, IsPut, IsReadable, HasForm, IsTakeable, Takes, Comes, Builds, node_count}
+use Rattle.rip_parser.specs.Building.{State, numbers, last_parts, other_parts, part_of, place_over, wrapped, absent, beginning, rooted, deeper, greatest, plain_form, IsFormOf, IsPut, IsReadable, HasForm, IsTakeable, Takes, Comes, node_count}
+use Rattle.rip_parser.proofs.Courses.{Builds}
 use Rattle.rip_parser.proofs.Literals.{text_stands, text_read, closed_by_first}
 use Rattle.rip_parser.proofs.Textless.{plain-put, plain-told}
 use Rattle.rip_parser.proofs.Kept.{builds-kept}

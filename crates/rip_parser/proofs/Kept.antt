@@ -9,7 +9,8 @@ use Rattle.rip_tree.specs.declared.form.TextLiteral.{TextLiteral}
 use Rattle.rip_parser.specs.Shows.{text_of, text_count, texts_end, LiesAt, AreLaid}
 use Rattle.rip_grammar.specs.declared.event.Event.{Event}
 use Rattle.rip_grammar.specs.declared.event.Event.TheVariants as E
-use Rattle.rip_parser.specs.Building.{State, numbers, beginning, absent, wrapped, last_parts, other_parts, part_of, place_over, IsPut, Takes, Builds, Fits, HasRoom, node_count}
+use Rattle.rip_parser.specs.Building.{State, numbers, beginning, absent, wrapped, last_parts, other_parts, part_of, place_over, IsPut, Takes, Fits, HasRoom, node_count}
+use Rattle.rip_parser.proofs.Courses.{Builds}
 use Rattle.rip_parser.proofs.Parts.{AreBetween-range, AreBetween-behind, AreBetween-lower, numbers-append}
 
 -- ---- what is told, up to an event

@@ -1,3 +1,4 @@
+pub mod Courses
 pub mod Readings
 pub mod Reducing
 pub mod Steps

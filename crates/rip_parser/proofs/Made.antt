@@ -9,7 +9,8 @@ use Rattle.rip_tree.specs.Making.{Growth, with_branch, with_units}
 use Rattle.rip_grammar.specs.declared.event.Head.{Head}
 use Rattle.rip_parser.specs.declared.part.Part.{Part}
 use Rattle.rip_parser.specs.Shows.{Row, Shown, IsNode, IsLeaf, IsAbsent, Then}
-use Rattle.rip_parser.specs.Building.{State, numbers, greatest, capped, deeper, is_part, levels_over, place_over, last_parts, other_parts, part_of, wrapped, absent, Makes, Wraps, IsFormOf}
+use Rattle.rip_parser.specs.Building.{State, numbers, greatest, deeper, is_part, levels_over, place_over, last_parts, other_parts, part_of, wrapped, absent, Makes, Wraps, IsFormOf}
+use Rattle.rip_parser.proofs.Courses.{capped}
 use Rattle.rip_parser.proofs.Parts.{numbers-append}
 
 -- the tree has these branches as its last ones, and its units begin with these

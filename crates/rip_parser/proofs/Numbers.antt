@@ -18,7 +18,8 @@ use Rattle.rip_grammar.specs.Depths.{levels}
 use Rattle.rip_grammar.specs.Grammar.{is_assigned, is_statement, is_element, is_entry, is_parameter, is_declarator, is_clause, IsMade}
 use Rattle.rip_parser.specs.declared.part.Part.{Part}
 use Rattle.rip_parser.specs.Shows.{Row, piece_of, place_of, head_of, label_of, item_count, Shown, IsNode, IsLeaf, IsAbsent, Then, Shows}
-use Rattle.rip_parser.specs.Building.{State, IsFormOf, IsReadable, HasForm, Builds, place_over, is_part, plain_form}
+use Rattle.rip_parser.specs.Building.{State, IsFormOf, IsReadable, HasForm, place_over, is_part, plain_form}
+use Rattle.rip_parser.proofs.Courses.{Builds}
 use Rattle.rip_parser.proofs.Made.{Anywhere, over}
 use Rattle.rip_parser.proofs.Told.{Told, told-none, told-absent, told-both, told-node, told-wrapped, told-at}
 use Rattle.rip_parser.proofs.Following.{Each, behind}

@@ -13,7 +13,8 @@ use Rattle.rip_grammar.specs.Depths.{levels, depth}
 use Rattle.rip_grammar.specs.Grammar.{is_element}
 use Rattle.rip_parser.specs.Parsed.{IsBody}
 use Rattle.rip_parser.specs.Shows.{Shows, ShowsScript}
-use Rattle.rip_parser.specs.Building.{State, Fits, HasRoom, numbers as numbers_of, greatest, capped, deeper, beginning, Builds, IsTakeable, node_count, rooted}
+use Rattle.rip_parser.specs.Building.{State, Fits, HasRoom, numbers as numbers_of, greatest, deeper, beginning, IsTakeable, node_count, rooted}
+use Rattle.rip_parser.proofs.Courses.{Builds, capped}
 use Rattle.rip_parser.proofs.Made.{After, Extends, left}
 use Rattle.rip_parser.proofs.Told.{Comes-after}
 use Rattle.rip_parser.proofs.Following.{Each}

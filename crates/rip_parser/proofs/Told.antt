@@ -9,7 +9,8 @@ use Rattle.rip_grammar.specs.declared.event.Event.{Event}
 use Rattle.rip_grammar.specs.declared.event.Event.TheVariants as E
 use Rattle.rip_parser.specs.declared.part.Part.{Part}
 use Rattle.rip_parser.specs.Shows.{Row, Shown, IsNode, IsLeaf, IsAbsent, Then}
-use Rattle.rip_parser.specs.Building.{State, IsFormOf, HasForm, Comes, Builds, place_over, is_part}
+use Rattle.rip_parser.specs.Building.{State, IsFormOf, HasForm, Comes, place_over, is_part}
+use Rattle.rip_parser.proofs.Courses.{Builds}
 use Rattle.rip_parser.proofs.Made.{After, Anywhere, over, after-none, after-both, after-node, after-absent, after-wrapped}
 
 -- parts were put behind those of a state, if there was one

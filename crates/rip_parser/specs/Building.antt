@@ -38,10 +38,6 @@ abbrev pub greatest : List Part → ℕ
 greatest [] = 0
 greatest (p ∷ ps) = max p.levels (greatest ps)
 
--- levels, of which the first that is too many stands for all of them
-abbrev pub capped : ℕ → ℕ
-capped n = min n 201
-
 -- one level more
 abbrev pub deeper : ℕ → ℕ
 deeper n = min (n + 1) 201
@@ -181,11 +177,6 @@ abbrev pub Comes : List ℕ → List Token → Event → Option State → Option
 Comes script tokens event None after = after ≡ None
 Comes script tokens event (Some s) None = IsTakeable script tokens event s → ⊥
 Comes script tokens event (Some s) (Some t) = Takes script event s t
-
--- what comes of all that is told, the latest first
-abbrev pub Builds : List ℕ → List Token → ℕ → List Event → Option State → Type 0
-Builds script tokens total [] after = after ≡ Some (beginning script total)
-Builds script tokens total (event ∷ told) after = (before : Option State) × Builds script tokens total told before × Comes script tokens event before after
 
 -- how many nodes are told
 abbrev pub node_count : List Event → ℕ

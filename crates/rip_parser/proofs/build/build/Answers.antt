@@ -2,7 +2,8 @@ use Rattle.std.proofs.Common.{rules, ◌≡◌, reverse, Some, None, sym, ◌∙
 use Rattle.rip_grammar.specs.declared.event.Event.TheVariants as E
 use Rattle.std.specs.Prelude.{min}
 use Rattle.rip_grammar.specs.Depths.{depth}
-use Rattle.rip_parser.specs.Building.{Builds, rooted, deeper, greatest}
+use Rattle.rip_parser.specs.Building.{rooted, deeper, greatest}
+use Rattle.rip_parser.proofs.Courses.{Builds}
 use Rattle.rip_parser.specs.Shows.{ShowsScript}
 use Rattle.rip_lexer.proofs.Lexing.{tokens_stand}
 use Rattle.rip_lexer.specs.Tokens.{Whole}

@@ -1,5 +1,5 @@
 use Rattle.std.proofs.Common.{Some, take, reverse}
-use Rattle.rip_parser.specs.Building.{Builds}
+use Rattle.rip_parser.proofs.Courses.{Builds}
 use Rattle.rip_parser.proofs.build.build.Given as goal
 
 abbrev pub invariant-loop-event : goal.invariant-loop-event
