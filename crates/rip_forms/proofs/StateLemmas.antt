@@ -89,3 +89,6 @@ AreReserved-set room n capacity more xs ys s a g e m =
       within = omega (arith, a.within, l, same, g);
       reserved = omega (arith, a.reserved, m);
     }
+
+pub filled-room : (room capacity : ℕ) (xs : List ControlState) → AreReserved room xs capacity → room ≡ length (filled room xs)
+filled-room room capacity xs a = let l = filled-length room xs in omega (arith, l, a.within)

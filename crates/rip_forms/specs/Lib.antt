@@ -1,6 +1,7 @@
 pub mod Choices
 pub mod Controls
 pub mod Kept
+pub mod Laws
 pub mod Options
 pub mod OptionSteps
 pub mod Reports

@@ -1,5 +1,5 @@
 -- The state of controls: what a report or a write set of it. What was set no longer follows the attributes
--- (HTML 4.10.18.1: the dirty value flag; HTML 4.10.5.4: the dirty checkedness flag).
+-- (HTML 4.10.18.1: the dirty value flag; HTML 4.10.5: the dirty checkedness flag).
 use Rattle.std.specs.Prelude.{ℕ, ◌-◌, ◌≤◌, Bool, false, None, Some, List, ◌++◌, length, replicate, slice_index_or, slice_set}
 use Rattle.rip_forms.specs.declared.state.ControlState.{ControlState}
 use Rattle.rip_forms.specs.declared.state.FormState.{FormState}

@@ -18,12 +18,16 @@
 //! | [`legal`] | `Reports.refusal_of`: the first refusal |
 //! | [`Forms::apply`], [`Forms::undo_click`] | `Reports.effect_of`, refused as `Reports.is_past` says |
 //!
+//! Laws stand in `Laws`, each the contract of a function: what is set is read ([`states_are_read`]), and a click that is
+//! undone leaves what was before it ([`clicks_are_undone`]).
+//!
 //! A layer above may rest on this: a state that was set is read as it was set, and no other node's state changes; a
 //! refused call changes nothing; no call but the maker takes memory.
 #![tactic(auto)]
 
 mod choice;
 mod control;
+mod laws;
 mod options;
 mod report;
 mod state;
@@ -34,5 +38,6 @@ mod words;
 
 pub use choice::place_of_value;
 pub use control::{FormPart, part_of};
+pub use laws::{clicks_are_undone, states_are_read};
 pub use report::legal;
 pub use state::{ControlState, FormState, Forms};

@@ -55,6 +55,13 @@ impl Forms {
         })
     }
 
+    /// How many nodes have room: those below this number.
+    pub fn room(&self) -> u32
+        ensures { result ≡ length self.now.nodes }
+    {
+        self.room
+    }
+
     /// The value of the node that was set last, if one was.
     pub fn given(&self, n: u32) -> Option<Span>
         ensures { result ≡ (state_at self.now n).value }

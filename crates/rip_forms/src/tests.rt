@@ -1,12 +1,11 @@
 use super::*;
 use rip_dom::{Dom, TextRefused};
-use rip_values::{
-    BadReport, EventKind, Limit, List, NodeKind, Page, PageNode, Pool, Refused, Report, Span, Units,
-};
+use rip_values::{BadReport, EventKind, List, NodeKind, Page, PageNode, Pool, Report, Span, Units};
 use std::alloc::Global;
 use std::test::Fail;
 
 /// A document with the states of its controls.
+#[derive(Drop)]
 struct Small {
     dom: Dom,
     pool: Pool,
@@ -193,16 +192,6 @@ fn reads(alloc: Global, s: &mut Small, n: u32, expected: &str) -> Result<bool, F
     }
 }
 
-/// What `apply` answers; want of memory where the node has no room.
-fn apply(alloc: Global, s: &mut Small, row: &ReportRow) -> Result<Result<(), Refused>, Fail> {
-    let report = report(alloc, row)?;
-    if report.node < 60 {
-        Ok(s.forms.apply(alloc, &s.dom, &mut s.pool, &report))
-    } else {
-        Ok(Err(Refused::Memory))
-    }
-}
-
 #[test]
 fn values_begin_as_the_tree_says(rt: HostRuntime) -> Result<(), Fail> {
     let rows: [(u32, &str); 11] = [
@@ -245,73 +234,109 @@ fn a_written_value_chooses_the_first_option(rt: HostRuntime) -> Result<(), Fail>
     Ok(())
 }
 
-#[test]
-fn a_click_is_undone(rt: HostRuntime) -> Result<(), Fail> {
-    let alloc = rt.alloc();
-    let mut s = page(alloc)?;
-    let done = apply(alloc, &mut s, &(EventKind::Click, 5, None, None, Ok(())))?;
-    assert_eq!(rt;
-        (done, s.forms.checked(&s.dom, &s.pool, 5)),
-        (Ok(()), false)
-    );
-    s.forms.set(5, FormState::Checked(false));
-    s.forms.undo_click(5);
-    assert_eq!(rt; s.forms.checked(&s.dom, &s.pool, 5), true);
-    Ok(())
+/// Something that is done to a page.
+#[derive(Drop)]
+enum Act {
+    Report(ReportRow),
+    Set(u32, FormState),
+    Undo(u32),
+    TakeOut(u32, u32),
 }
 
-#[test]
-fn an_input_sets_the_value_of_its_control(rt: HostRuntime) -> Result<(), Fail> {
-    let alloc = rt.alloc();
-    let mut s = page(alloc)?;
-    let before = s.pool.used();
-    let done = apply(
-        alloc,
-        &mut s,
-        &(EventKind::Input, 3, Some("xyz"), None, Ok(())),
-    )?;
-    assert_eq!(rt; (done, s.pool.used()), (Ok(()), before + 3));
-    let long = apply(
-        alloc,
-        &mut s,
-        &(EventKind::Input, 3, Some("01234567"), None, Ok(())),
-    )?;
-    assert_eq!(rt;
-        (long, s.pool.used()),
-        (Err(Refused::Limit(Limit::Units)), before + 3)
-    );
-    let same = (
-        reads(alloc, &mut s, 3, "xyz")?,
-        reads(alloc, &mut s, 7, "ab")?,
-    );
-    assert_eq!(rt;
-        (same, s.forms.given(3).is_some(), s.forms.given(7)),
-        ((true, true), true, None)
-    );
-    Ok(())
-}
-
-#[test]
-fn a_choice_follows_its_place(rt: HostRuntime) -> Result<(), Fail> {
-    let alloc = rt.alloc();
-    let mut s = page(alloc)?;
-    let done = apply(
-        alloc,
-        &mut s,
-        &(EventKind::Change, 8, None, Some(0), Ok(())),
-    )?;
-    assert_eq!(rt; (done, reads(alloc, &mut s, 8, "x")?), (Ok(()), true));
-    if 9 < s.dom.made() {
-        let _done = s.dom.remove(8, 9);
+/// Does it; a report answers whether it is refused.
+fn perform(alloc: Global, s: &mut Small, act: &Act) -> Result<bool, Fail> {
+    match act {
+        Act::Report(row) => {
+            let report = report(alloc, row)?;
+            if report.node < s.forms.room() {
+                return Ok(s.forms.apply(alloc, &s.dom, &mut s.pool, &report).is_err());
+            }
+        }
+        Act::Set(n, set) => {
+            if *n < s.forms.room() {
+                s.forms.set(*n, *set);
+            }
+        }
+        Act::Undo(n) => {
+            if *n < s.forms.room() {
+                s.forms.undo_click(*n);
+            }
+        }
+        Act::TakeOut(parent, n) => {
+            if *parent < s.dom.made() && *n < s.dom.made() {
+                let _done = s.dom.remove(*parent, *n);
+            }
+        }
     }
-    assert_eq!(rt; reads(alloc, &mut s, 8, "ab")?, true);
-    s.forms.set(8, FormState::Selected(5));
-    assert_eq!(rt;
+    Ok(false)
+}
+
+const fn of(kind: EventKind, node: u32, text: Option<&'static str>, place: Option<u32>) -> Act {
+    Act::Report((kind, node, text, place, Ok(())))
+}
+
+#[test]
+fn states_are_as_they_were_set_last(rt: HostRuntime) -> Result<(), Fail> {
+    // What is done, whether it is refused, a node and its value, `checked` of 5, `selectedIndex` of 8.
+    let rows: [(Act, bool, u32, &str, bool, i64); 9] = [
         (
-            s.forms.selected(&s.dom, &s.pool, 8),
-            reads(alloc, &mut s, 8, "")?
+            of(EventKind::Input, 3, Some("xyz"), None),
+            false,
+            3,
+            "xyz",
+            true,
+            1,
         ),
-        (-1, true)
+        (
+            of(EventKind::Input, 3, Some("01234567"), None),
+            true,
+            3,
+            "xyz",
+            true,
+            1,
+        ),
+        (of(EventKind::Click, 5, None, None), false, 4, "1", false, 1),
+        (
+            Act::Set(5, FormState::Checked(false)),
+            false,
+            5,
+            "on",
+            false,
+            1,
+        ),
+        (Act::Undo(5), false, 5, "on", true, 1),
+        (
+            of(EventKind::Change, 8, None, Some(0)),
+            false,
+            8,
+            "x",
+            true,
+            0,
+        ),
+        (Act::TakeOut(8, 9), false, 8, "ab", true, 0),
+        (Act::Set(8, FormState::Selected(5)), false, 8, "", true, -1),
+        (
+            of(EventKind::Focus, 7, None, None),
+            false,
+            7,
+            "ab",
+            true,
+            -1,
+        ),
+    ];
+    let mut s = page(rt.alloc())?;
+    for (step, refused, n, expected, checked, place) in &rows {
+        let done = perform(rt.alloc(), &mut s, step)?;
+        let same = reads(rt.alloc(), &mut s, *n, *expected)?;
+        let found = (
+            s.forms.checked(&s.dom, &s.pool, 5),
+            s.forms.selected(&s.dom, &s.pool, 8),
+        );
+        assert_eq!(rt; (done, same, found), (*refused, true, (*checked, *place)));
+    }
+    assert_eq!(rt;
+        (s.forms.given(3).is_some(), s.forms.given(7)),
+        (true, None)
     );
     Ok(())
 }
