@@ -41,10 +41,10 @@ one_value t u d e td ue h g same =
 abbrev pub item_list : List Reported → Tree
 item_list items = list_tree (map item_tree items)
 
-item_list_data : (items : List Reported) → data_of (item_list items) ≡ list_of (map item_value items)
+pub item_list_data : (items : List Reported) → data_of (item_list items) ≡ list_of (map item_value items)
 item_list_data items = list_data (map item_tree items) ∙ ap list_of (items_data items)
 
-item_list_datum : (items : List Reported) → AreItems items → IsDatum (item_list items)
+pub item_list_datum : (items : List Reported) → AreItems items → IsDatum (item_list items)
 item_list_datum items h = all_data (map item_tree items) (items_datum items h.each)
 
 item_list_depth : (items : List Reported) → AreItems items → nesting (item_list items) ≤ 127
@@ -88,10 +88,10 @@ other_items text written found is wrote other items h e =
 abbrev pub call_tree : List ℕ → List Tree → Tree
 call_tree name args = list_tree (tree.text name ∷ args_tree args ∷ [])
 
-call_data : (name : List ℕ) (args : List Tree) → data_of (call_tree name args) ≡ call_value name args
+pub call_data : (name : List ℕ) (args : List Tree) → data_of (call_tree name args) ≡ call_value name args
 call_data name args = list_data (tree.text name ∷ args_tree args ∷ [])
 
-call_datum : (name : List ℕ) (args : List Tree) → IsName name → AreArgs args → IsDatum (call_tree name args)
+pub call_datum : (name : List ℕ) (args : List Tree) → IsName name → AreArgs args → IsDatum (call_tree name args)
 call_datum name args h g = all_data (tree.text name ∷ args_tree args ∷ []) (IsUtf16-IsName name h, (g.are, tt))
 
 call_depth : (name : List ℕ) (args : List Tree) → AreArgs args → nesting (call_tree name args) ≤ 127
