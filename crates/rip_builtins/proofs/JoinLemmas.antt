@@ -12,9 +12,9 @@ use Rattle.rip_values.specs.declared.value.Limit.TheVariants.{Units}
 use Rattle.rip_values.specs.Pool.{span_behind, with_text}
 use Rattle.rip_heap.specs.declared.outcome.Halt.{Halt}
 use Rattle.rip_heap.specs.declared.outcome.Halt.TheVariants.{Fault as HaltFault, Limit as HaltLimit}
-use Rattle.rip_heap.specs.declared.outcome.OpDone.{OpDone}
-use Rattle.rip_heap.specs.Conversions.{text_made, halted}
-use Rattle.rip_heap.specs.Outcome.{Outcome, Faults, Exceeds, AnswersOrLacks, halting, judged, text_or_limit}
+use Rattle.rip_heap.specs.declared.outcome.Abrupt.{Abrupt}
+use Rattle.rip_heap.specs.Conversions.{text_made}
+use Rattle.rip_heap.specs.Outcome.{Outcome, Faults, Exceeds, AnswersOrLacks, cause_of_halt, halting, judged, text_or_limit}
 use Rattle.rip_heap.specs.Step.{Makes, TakesNoMemory}
 use Rattle.rip_heap.specs.Texts.{new_text}
 use Rattle.rip_values.specs.declared.value.Refused.{Refused}
@@ -179,6 +179,6 @@ none-made step u new (At limit) made room = made.1
 none-made step u new Memory made room = absurd room
 
 -- how a halt is answered
-pub halt-answers : (w : World) (halt : Halt) (done : OpDone) → done ≡ halted halt → AnswersOrLacks (halting halt) w done w
-halt-answers w (HaltFault fault) done e = subst (λ d. AnswersOrLacks (Faults fault) w d w) (sym e) (refl, refl)
-halt-answers w (HaltLimit limit) done e = subst (λ d. AnswersOrLacks (Exceeds limit) w d w) (sym e) (refl, refl)
+pub halt-answers : (w : World) (halt : Halt) (cause : Abrupt) → cause ≡ cause_of_halt halt → AnswersOrLacks (halting halt) w (Err cause) w
+halt-answers w (HaltFault fault) cause e = subst (λ x. AnswersOrLacks (Faults fault) w (Err x) w) (sym e) (refl, refl)
+halt-answers w (HaltLimit limit) cause e = subst (λ x. AnswersOrLacks (Exceeds limit) w (Err x) w) (sym e) (refl, refl)

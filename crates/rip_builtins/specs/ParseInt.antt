@@ -9,7 +9,8 @@ use Rattle.rip_values.specs.Blank.{trimmed_start}
 use Rattle.rip_values.specs.NumberScan.{is_digit, signed_value}
 use Rattle.rip_values.specs.Pool.{Texts, text_at}
 use Rattle.rip_heap.specs.Conversions.{number_of, int32_of, ranged, text_of_value}
-use Rattle.rip_heap.specs.Outcome.{Outcome, after_text, value_of}
+use Rattle.rip_values.specs.Values.{value_of_number}
+use Rattle.rip_heap.specs.Outcome.{Outcome, after_text}
 use Rattle.rip_heap.specs.World.{World}
 use Rattle.rip_builtins.specs.Arguments.{argument, then_gives, then_tries, value_or_fault}
 
@@ -54,7 +55,7 @@ integer_by_radix pool radix text = then_tries (number_of pool radix) (λ n. inte
 
 -- the same as a value
 abbrev pub value_by_radix : Texts → Value → List ℕ → Result Value Fault
-value_by_radix pool radix text = then_gives (integer_by_radix pool radix text) value_of
+value_by_radix pool radix text = then_gives (integer_by_radix pool radix text) value_of_number
 
 -- `parseInt`
 abbrev pub parse_int : World → List Value → Outcome

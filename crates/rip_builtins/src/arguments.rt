@@ -1,10 +1,9 @@
-ghost use Rattle.std.specs.Prelude.{◌≡◌, pos};
-ghost use Rattle.rip_values.specs.declared.value.Value.TheVariants.{Num};
+ghost use Rattle.std.specs.Prelude.{◌≡◌};
 ghost use Rattle.rip_heap.specs.Conversions.{span_of};
 ghost use Rattle.rip_builtins.specs.Arguments.{argument, integer_in};
 
 use rip_heap::{Heap, to_integer, to_number};
-use rip_values::{Fault, FixedText, Span, Value, Whole};
+use rip_values::{Fault, FixedText, Span, Value};
 
 // The argument at this place; one that is absent is undefined (ECMA-262 15).
 pub fn argument(args: &[Value], place: usize) -> Value
@@ -17,20 +16,8 @@ pub fn argument(args: &[Value], place: usize) -> Value
 pub fn integer_of(heap: &Heap, v: Value) -> Result<i64, Fault>
     ensures { result ≡ integer_in heap.now.pool v }
 {
-    match to_number(heap, v) {
-        Ok(number) => Ok(to_integer(number)),
-        Err(fault) => Err(fault),
-    }
-}
-
-// A count as a value.
-pub fn count_value(count: u32) -> Value
-    ensures { result ≡ Num (pos count) }
-{
-    match Whole::new(i64::from(count)) {
-        Some(whole) => Value::Num(whole),
-        None => Value::NaN,
-    }
+    let number = to_number(heap, v)?;
+    Ok(to_integer(number))
 }
 
 // The place of a fixed text in every pool.

@@ -8,59 +8,55 @@ ghost use Rattle.rip_heap.specs.Outcome.{Answers, AnswersOrLacks};
 ghost use Rattle.rip_builtins.specs.Arguments.{value_or_fault, object_or_limit};
 ghost use Rattle.rip_builtins.specs.Arrays.{push, pop, slice, slice_between, index_of, index_in, place_from_end, place_or_none, place_of_value, first_equal};
 
-use crate::arguments::{argument, count_value, integer_of};
+use crate::arguments::{argument, integer_of};
 use crate::texts::end_of;
-use rip_heap::{Heap, OpDone, strictly_equal};
-use rip_values::{Fault, Limit, NoMemory, Refused, Value, Whole};
+use rip_heap::{Abrupt, Heap, strictly_equal};
+use rip_values::{NoMemory, Value, Whole};
 use std::alloc::Global;
 
 // `push` (ECMA-262 15.4.4.7).
-pub fn push(alloc: Global, heap: &mut Heap, array: u32, args: &[Value]) -> OpDone
+pub fn push(alloc: Global, heap: &mut Heap, array: u32, args: &[Value]) -> Result<Value, Abrupt>
     ensures answers { AnswersOrLacks (push heap.old array args.now) heap.old result heap.new }
     ensures grows { Grows heap.old heap.new }
 {
-    match heap.push_items(alloc, array, args) {
-        Ok(()) => OpDone::Value(count_value(heap.count(array))),
-        Err(Refused::Limit(limit)) => OpDone::Limit(limit),
-        Err(Refused::Memory) => OpDone::Memory,
-    }
+    heap.push_items(alloc, array, args)?;
+    Ok(heap.count(array).into())
 }
 
 // `pop` (ECMA-262 15.4.4.6).
-pub fn pop(heap: &mut Heap, array: u32) -> OpDone
+pub fn pop(heap: &mut Heap, array: u32) -> Result<Value, Abrupt>
     ensures answers { Answers (pop heap.old array) heap.old result heap.new }
     ensures grows { Grows heap.old heap.new }
 {
-    OpDone::Value(heap.pop_item(array).unwrap_or(Value::Undefined))
+    Ok(heap.pop_item(array).unwrap_or(Value::Undefined))
 }
 
 // `slice` (ECMA-262 15.4.4.10).
-pub fn slice(alloc: Global, heap: &mut Heap, array: u32, args: &[Value]) -> OpDone
+pub fn slice(alloc: Global, heap: &mut Heap, array: u32, args: &[Value]) -> Result<Value, Abrupt>
     ensures answers { AnswersOrLacks (slice heap.old array args.now) heap.old result heap.new }
     ensures grows { Grows heap.old heap.new }
 {
-    match integer_of(heap, argument(args, 0)) {
-        Ok(a) => match end_of(heap, heap.count(array) as usize, argument(args, 1)) {
-            Ok(b) => slice_between(alloc, heap, array, a, b),
-            Err(fault) => OpDone::Fault(fault),
-        },
-        Err(fault) => OpDone::Fault(fault),
-    }
+    let a = integer_of(heap, argument(args, 0))?;
+    let b = end_of(heap, heap.count(array) as usize, argument(args, 1))?;
+    slice_between(alloc, heap, array, a, b)
 }
 
 // A new array of the elements between two places.
-fn slice_between(alloc: Global, heap: &mut Heap, array: u32, a: i64, b: i64) -> OpDone
+fn slice_between(
+    alloc: Global,
+    heap: &mut Heap,
+    array: u32,
+    a: i64,
+    b: i64,
+) -> Result<Value, Abrupt>
     ensures answers { AnswersOrLacks (slice_between heap.old (elements_at heap.old array) a b) heap.old result heap.new }
     ensures grows { Grows heap.old heap.new }
 {
     let count = heap.count(array);
     let from = place_from_end(count, a);
     let to = place_from_end(count, b);
-    match heap.new_piece(alloc, array, from, to) {
-        Ok(made) => OpDone::Value(Value::Object(made)),
-        Err(Refused::Limit(limit)) => OpDone::Limit(limit),
-        Err(Refused::Memory) => OpDone::Memory,
-    }
+    let made = heap.new_piece(alloc, array, from, to)?;
+    Ok(Value::Object(made))
 }
 
 // The place in a list of so many, which negative integers count from its end.
@@ -94,16 +90,16 @@ pub fn elements(
 }
 
 // `indexOf` (ECMA-262 15.4.4.14).
-pub fn index_of(heap: &Heap, array: u32, args: &[Value]) -> OpDone
+pub fn index_of(heap: &Heap, array: u32, args: &[Value]) -> Result<Value, Abrupt>
     ensures { Answers (index_of heap.now array args.now) heap.now result heap.now }
 {
     let count = heap.count(array);
     if count == 0 {
-        return OpDone::Value(place_or_none(None));
+        return Ok(place_or_none(None));
     }
     match integer_of(heap, argument(args, 1)) {
-        Ok(from) => OpDone::Value(place_of_value(heap, array, argument(args, 0), from)),
-        Err(fault) => OpDone::Fault(fault),
+        Ok(from) => Ok(place_of_value(heap, array, argument(args, 0), from)),
+        Err(fault) => Err(Abrupt::Fault(fault)),
     }
 }
 
@@ -120,7 +116,7 @@ pub fn place_or_none(place: Option<u32>) -> Value
     ensures { result ≡ place_or_none place }
 {
     match place {
-        Some(place) => count_value(place),
+        Some(place) => place.into(),
         None => match Whole::new(-1) {
             Some(whole) => Value::Num(whole),
             None => Value::NaN,

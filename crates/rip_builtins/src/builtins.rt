@@ -14,7 +14,7 @@ use crate::parse_int::parse_int;
 use crate::receivers::{array_of, refused, text_of};
 use crate::text_search::place_of;
 use crate::texts::{char_at, char_code_at, substring};
-use rip_heap::{Class, Heap, OpDone};
+use rip_heap::{Abrupt, Class, Heap};
 use rip_values::{Builtin, Fault, Value};
 use std::alloc::Global;
 
@@ -47,7 +47,7 @@ pub fn builtin(
     which: Builtin,
     this: Value,
     args: &[Value],
-) -> OpDone
+) -> Result<Value, Abrupt>
     ensures answers { AnswersOrLacks (builtin heap.old which this args.now) heap.old result heap.new }
     ensures grows { Grows heap.old heap.new }
 {
@@ -73,7 +73,7 @@ pub fn builtin(
         Builtin::TextCharCodeAt => on_text(alloc, heap, TextFunction::CharCodeAt, this, args),
         Builtin::TextSubstring => on_text(alloc, heap, TextFunction::Substring, this, args),
         Builtin::TextIndexOf => on_text(alloc, heap, TextFunction::PlaceOf, this, args),
-        _ => OpDone::Fault(Fault::NotInProfile),
+        _ => Err(Abrupt::Fault(Fault::NotInProfile)),
     }
 }
 
@@ -84,7 +84,7 @@ fn on_array(
     function: ArrayFunction,
     this: Value,
     args: &[Value],
-) -> OpDone
+) -> Result<Value, Abrupt>
     ensures answers { AnswersOrLacks (on (array_of heap.old this) (λ array. array_function function heap.old array args.now)) heap.old result heap.new }
     ensures grows { Grows heap.old heap.new }
 {
@@ -107,7 +107,7 @@ fn on_text(
     function: TextFunction,
     this: Value,
     args: &[Value],
-) -> OpDone
+) -> Result<Value, Abrupt>
     ensures answers { AnswersOrLacks (on (text_of this) (λ text. text_function function heap.old text args.now)) heap.old result heap.new }
     ensures grows { Grows heap.old heap.new }
 {

@@ -5,12 +5,12 @@ ghost use Rattle.rip_heap.specs.Objects.{new_of};
 ghost use Rattle.rip_builtins.specs.Arguments.{object_or_limit};
 
 use crate::arguments::argument;
-use rip_heap::{Class, Heap, OpDone};
-use rip_values::{Refused, Value};
+use rip_heap::{Abrupt, Class, Heap};
+use rip_values::Value;
 use std::alloc::Global;
 
 // `Error`, `TypeError` and `RangeError` (ECMA-262 15.11.1.1).
-pub fn error(alloc: Global, heap: &mut Heap, class: Class, args: &[Value]) -> OpDone
+pub fn error(alloc: Global, heap: &mut Heap, class: Class, args: &[Value]) -> Result<Value, Abrupt>
     ensures answers { AnswersOrLacks (error_call class heap.old args.now) heap.old result heap.new }
     ensures grows { Grows heap.old heap.new }
 {
@@ -20,13 +20,10 @@ pub fn error(alloc: Global, heap: &mut Heap, class: Class, args: &[Value]) -> Op
     }
 }
 
-fn bare_error(alloc: Global, heap: &mut Heap, class: Class) -> OpDone
+fn bare_error(alloc: Global, heap: &mut Heap, class: Class) -> Result<Value, Abrupt>
     ensures answers { AnswersOrLacks (object_or_limit (new_of heap.old class)) heap.old result heap.new }
     ensures grows { Grows heap.old heap.new }
 {
-    match heap.new_of(alloc, class) {
-        Ok(error) => OpDone::Value(Value::Object(error)),
-        Err(Refused::Limit(limit)) => OpDone::Limit(limit),
-        Err(Refused::Memory) => OpDone::Memory,
-    }
+    let error = heap.new_of(alloc, class)?;
+    Ok(Value::Object(error))
 }

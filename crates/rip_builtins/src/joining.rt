@@ -9,31 +9,34 @@ ghost use Rattle.rip_builtins.specs.Joining.{join, join_items, converted, charge
 
 use crate::arguments::{argument, fixed_span};
 use crate::arrays::elements;
-use rip_heap::{Halt, Heap, OpDone, to_text};
+use rip_heap::{Abrupt, Halt, Heap, to_text};
 use rip_values::{Fault, FixedText, Limit, NoMemory, Span, Value, text_of_whole};
 use std::alloc::Global;
 
 const COMMA: [u16; 1] = [0x2C];
 
 // `join` (ECMA-262 15.4.4.5).
-pub fn join(alloc: Global, heap: &mut Heap, array: u32, args: &[Value]) -> OpDone
+pub fn join(alloc: Global, heap: &mut Heap, array: u32, args: &[Value]) -> Result<Value, Abrupt>
     ensures answers { AnswersOrLacks (join heap.old array args.now) heap.old result heap.new }
     ensures grows { Grows heap.old heap.new }
 {
     let count = heap.count(array);
-    match elements(alloc, heap, array, 0, count) {
-        Ok(items) => join_items(alloc, heap, &argument(args, 0), &items),
-        Err(NoMemory) => OpDone::Memory,
-    }
+    let items = elements(alloc, heap, array, 0, count)?;
+    join_items(alloc, heap, &argument(args, 0), &items)
 }
 
-fn join_items(alloc: Global, heap: &mut Heap, separator: &Value, items: &[Value]) -> OpDone
+fn join_items(
+    alloc: Global,
+    heap: &mut Heap,
+    separator: &Value,
+    items: &[Value],
+) -> Result<Value, Abrupt>
     ensures answers { AnswersOrLacks (join_items heap.old separator.now items.now) heap.old result heap.new }
     ensures grows { Grows heap.old heap.new }
 {
     match all_charged(heap, separator, items) {
         Ok(used) => join_charged(alloc, heap, separator, items, used),
-        Err(halt) => halt.into(),
+        Err(halt) => Err(halt.into()),
     }
 }
 
@@ -85,7 +88,7 @@ fn join_charged(
     separator: &Value,
     items: &[Value],
     used: u32,
-) -> OpDone
+) -> Result<Value, Abrupt>
     requires { all_charged heap.old.pool heap.old.pool.used (separator.now ∷ items.now) ≡ Ok used }
     ensures answers { AnswersOrLacks (join_items heap.old separator.now items.now) heap.old result heap.new }
     ensures grows { Grows heap.old heap.new }
@@ -93,12 +96,12 @@ fn join_charged(
     match joined_text(alloc, heap, separator, items) {
         Ok(Some(text)) => {
             if u64::from(used) + text.len() as u64 > u64::from(heap.pool().limit()) {
-                return OpDone::Limit(Limit::Units);
+                return Err(Abrupt::Limit(Limit::Units));
             }
             add_joined(alloc, heap, separator, items, used, &text)
         }
-        Ok(None) => OpDone::Fault(Fault::TextTooLong),
-        Err(NoMemory) => OpDone::Memory,
+        Ok(None) => Err(Abrupt::Fault(Fault::TextTooLong)),
+        Err(NoMemory) => Err(Abrupt::Memory),
     }
 }
 
@@ -271,7 +274,7 @@ fn add_joined(
     items: &[Value],
     used: u32,
     text: &[u16],
-) -> OpDone
+) -> Result<Value, Abrupt>
     requires charged { all_charged heap.old.pool heap.old.pool.used (separator.now ∷ items.now) ≡ Ok used }
     requires room { used + length text.now ≤ heap.old.pool.limit }
     requires text { text_within heap.old.pool.text_limit (joined_by (separator_in heap.old separator.now) (map (element_in heap.old) items.now)) ≡ Some text.now }
@@ -280,10 +283,10 @@ fn add_joined(
 {
     match convert_all(alloc, heap, separator, items) {
         Ok(()) => match heap.add_text(alloc, text) {
-            Ok(span) => OpDone::Value(Value::Text(span)),
-            Err(_) => OpDone::Memory,
+            Ok(span) => Ok(Value::Text(span)),
+            Err(_) => Err(Abrupt::Memory),
         },
-        Err(_) => OpDone::Memory,
+        Err(_) => Err(Abrupt::Memory),
     }
 }
 

@@ -3,8 +3,8 @@ ghost use Rattle.rip_heap.specs.Outcome.{Answers};
 ghost use Rattle.rip_builtins.specs.Arguments.{then_tries};
 ghost use Rattle.rip_builtins.specs.Numbers.{absolute, math_abs, math_floor, math_extreme, extreme_of, extreme_of_two, numbers_of, is_nan_call, number_call};
 
-use crate::arguments::{argument, count_value};
-use rip_heap::{Heap, OpDone, number_done, to_number, truth_done};
+use crate::arguments::argument;
+use rip_heap::{Abrupt, Heap, number_done, to_number};
 use rip_values::{Fault, Numeral, Value, Whole};
 
 /// Which number of several is asked for.
@@ -15,13 +15,11 @@ pub enum Extreme {
 }
 
 // `Math.abs` (ECMA-262 15.8.2.1).
-pub fn math_abs(heap: &Heap, args: &[Value]) -> OpDone
+pub fn math_abs(heap: &Heap, args: &[Value]) -> Result<Value, Abrupt>
     ensures { Answers (math_abs heap.now args.now) heap.now result heap.now }
 {
-    match to_number(heap, argument(args, 0)) {
-        Ok(number) => number_done(heap, Ok(absolute(number))),
-        Err(fault) => OpDone::Fault(fault),
-    }
+    let number = to_number(heap, argument(args, 0))?;
+    Ok(absolute(number).into())
 }
 
 fn absolute(number: Numeral) -> Numeral
@@ -37,14 +35,14 @@ fn absolute(number: Numeral) -> Numeral
 }
 
 // `Math.floor` (ECMA-262 15.8.2.9).
-pub fn math_floor(heap: &Heap, args: &[Value]) -> OpDone
+pub fn math_floor(heap: &Heap, args: &[Value]) -> Result<Value, Abrupt>
     ensures { Answers (math_floor heap.now args.now) heap.now result heap.now }
 {
     number_done(heap, to_number(heap, argument(args, 0)))
 }
 
 // `Math.min` and `Math.max` (ECMA-262 15.8.2.12, 15.8.2.11).
-pub fn math_extreme(extreme: Extreme, heap: &Heap, args: &[Value]) -> OpDone
+pub fn math_extreme(extreme: Extreme, heap: &Heap, args: &[Value]) -> Result<Value, Abrupt>
     ensures { Answers (math_extreme extreme heap.now args.now) heap.now result heap.now }
 {
     number_done(heap, extreme_of(extreme, heap, args))
@@ -95,21 +93,19 @@ fn extreme_of_two(extreme: Extreme, a: Numeral, b: Numeral) -> Numeral
 }
 
 // `isNaN` (ECMA-262 15.1.2.4).
-pub fn is_nan(heap: &Heap, args: &[Value]) -> OpDone
+pub fn is_nan(heap: &Heap, args: &[Value]) -> Result<Value, Abrupt>
     ensures { Answers (is_nan_call heap.now args.now) heap.now result heap.now }
 {
-    match to_number(heap, argument(args, 0)) {
-        Ok(number) => truth_done(heap, Ok(matches!(number, Numeral::NaN))),
-        Err(fault) => OpDone::Fault(fault),
-    }
+    let number = to_number(heap, argument(args, 0))?;
+    Ok(Value::Bool(matches!(number, Numeral::NaN)))
 }
 
 // `Number` (ECMA-262 15.7.1.1).
-pub fn number(heap: &Heap, args: &[Value]) -> OpDone
+pub fn number(heap: &Heap, args: &[Value]) -> Result<Value, Abrupt>
     ensures { Answers (number_call heap.now args.now) heap.now result heap.now }
 {
     match args {
-        [] => OpDone::Value(count_value(0)),
+        [] => Ok(0.into()),
         [v, ..] => number_done(heap, to_number(heap, *v)),
     }
 }

@@ -4,7 +4,7 @@ ghost use Rattle.rip_heap.specs.Growth.{Grows};
 ghost use Rattle.rip_heap.specs.Outcome.{Answers, after_text};
 ghost use Rattle.rip_builtins.specs.Arguments.{value_or_fault};
 
-use rip_heap::{Heap, OpDone, room_for_numeral, to_text};
+use rip_heap::{Abrupt, Heap, room_for_numeral, to_text};
 use rip_values::{Fault, Value, Whole};
 use std::alloc::Global;
 
@@ -14,18 +14,18 @@ pub fn behind_numeral(
     heap: &mut Heap,
     number: Whole,
     answer: Result<Value, Fault>,
-) -> OpDone
+) -> Result<Value, Abrupt>
     ensures answers { Answers (after_text (text_of_value heap.old (Num number)) (λ text w. value_or_fault w answer)) heap.old result heap.new }
     ensures grows { Grows heap.old heap.new }
 {
     match answer {
-        Ok(v) => match to_text(alloc, heap, Value::Num(number)) {
-            Ok(_) => OpDone::Value(v),
-            Err(halt) => halt.into(),
-        },
-        Err(fault) => match room_for_numeral(heap, number) {
-            Ok(()) => OpDone::Fault(fault),
-            Err(halt) => halt.into(),
-        },
+        Ok(v) => {
+            to_text(alloc, heap, Value::Num(number))?;
+            Ok(v)
+        }
+        Err(fault) => {
+            room_for_numeral(heap, number)?;
+            Err(Abrupt::Fault(fault))
+        }
     }
 }

@@ -15,7 +15,7 @@ ghost use Rattle.rip_builtins.specs.ParseInt.{is_marked, base_of, without_mark, 
 use crate::arguments::argument;
 use crate::numerals::behind_numeral;
 use crate::outcome::value_done;
-use rip_heap::{Heap, OpDone, to_int32, to_number, to_text, value_of};
+use rip_heap::{Abrupt, Heap, to_int32, to_number, to_text};
 use rip_values::{Fault, Numeral, Value, Whole, is_line_end, is_white_space, text_of_whole};
 use std::alloc::Global;
 
@@ -33,28 +33,33 @@ const CAPITAL_X: u16 = 0x58;
 const SMALL_X: u16 = 0x78;
 
 // `parseInt` (ECMA-262 15.1.2.2).
-pub fn parse_int(alloc: Global, heap: &mut Heap, args: &[Value]) -> OpDone
+pub fn parse_int(alloc: Global, heap: &mut Heap, args: &[Value]) -> Result<Value, Abrupt>
     ensures answers { Answers (parse_int heap.old args.now) heap.old result heap.new }
     ensures grows { Grows heap.old heap.new }
 {
     parsed(alloc, heap, argument(args, 0), argument(args, 1))
 }
 
-fn parsed(alloc: Global, heap: &mut Heap, text: Value, radix: Value) -> OpDone
+fn parsed(alloc: Global, heap: &mut Heap, text: Value, radix: Value) -> Result<Value, Abrupt>
     ensures answers { Answers (after_text (text_of_value heap.old text) (λ span v. value_or_fault v (value_by_radix heap.old.pool radix (text_at v.pool span)))) heap.old result heap.new }
     ensures grows { Grows heap.old heap.new }
 {
     match text {
         Value::Num(number) => parsed_numeral(alloc, heap, number, radix),
-        _ => match to_text(alloc, heap, text) {
-            Ok(span) => value_done(heap, value_by_radix(heap, radix, heap.pool().get(span))),
-            Err(halt) => halt.into(),
-        },
+        _ => {
+            let span = to_text(alloc, heap, text)?;
+            value_done(heap, value_by_radix(heap, radix, heap.pool().get(span)))
+        }
     }
 }
 
 // The same of a number, whose numeral is charged where there is an answer.
-fn parsed_numeral(alloc: Global, heap: &mut Heap, number: Whole, radix: Value) -> OpDone
+fn parsed_numeral(
+    alloc: Global,
+    heap: &mut Heap,
+    number: Whole,
+    radix: Value,
+) -> Result<Value, Abrupt>
     ensures answers { Answers (after_text (text_of_value heap.old (Num number)) (λ span v. value_or_fault v (value_by_radix heap.old.pool radix (text_at v.pool span)))) heap.old result heap.new }
     ensures grows { Grows heap.old heap.new }
 {
@@ -68,10 +73,8 @@ fn parsed_numeral(alloc: Global, heap: &mut Heap, number: Whole, radix: Value) -
 fn value_by_radix(heap: &Heap, radix: Value, text: &[u16]) -> Result<Value, Fault>
     ensures { result ≡ value_by_radix heap.now.pool radix text.now }
 {
-    match integer_by_radix(heap, radix, text) {
-        Ok(number) => Ok(value_of(number)),
-        Err(fault) => Err(fault),
-    }
+    let number = integer_by_radix(heap, radix, text)?;
+    Ok(number.into())
 }
 
 // The number that the text begins with, by a radix that is made a number first.

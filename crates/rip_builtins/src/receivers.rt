@@ -3,7 +3,7 @@ ghost use Rattle.rip_builtins.specs.Receivers.{array_of, text_of, refusal};
 ghost use Rattle.rip_heap.specs.Outcome.{Answers};
 ghost use Rattle.rip_heap.specs.World.{is_array, class_of, object_at};
 
-use rip_heap::{Class, Heap, OpDone};
+use rip_heap::{Abrupt, Class, Heap};
 use rip_values::{Fault, Span, Value};
 
 /// Why a value has no function of arrays, or of texts.
@@ -42,12 +42,12 @@ pub fn text_of(this: Value) -> Result<Span, NoReceiver>
 }
 
 // The answer of a call that has no receiver.
-pub fn refused(heap: &Heap, reason: NoReceiver) -> OpDone
+pub fn refused(heap: &Heap, reason: NoReceiver) -> Result<Value, Abrupt>
     ensures { Answers (refusal reason) heap.now result heap.now }
 {
     let _ = heap;
     match reason {
-        NoReceiver::Absent => OpDone::TypeFault,
-        NoReceiver::Other => OpDone::Fault(Fault::NotInProfile),
+        NoReceiver::Absent => Err(Abrupt::TypeError),
+        NoReceiver::Other => Err(Abrupt::Fault(Fault::NotInProfile)),
     }
 }

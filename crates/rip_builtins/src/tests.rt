@@ -1,7 +1,7 @@
 mod table;
 
 use super::builtin;
-use rip_heap::{Heap, HeapLimits, OpDone};
+use rip_heap::{Abrupt, Heap, HeapLimits};
 use rip_values::{Builtin, Fault, FixedText, Refused, Span, Value, Whole};
 use std::alloc::{AllocError, Global};
 use std::test::Fail;
@@ -72,13 +72,13 @@ fn name(alloc: Global, heap: &mut Heap, letters: &str) -> Result<Span, Refused> 
 }
 
 /// The answer as the tables spell it.
-fn spelled(alloc: Global, heap: &Heap, done: OpDone) -> Result<String, AllocError> {
+fn spelled(alloc: Global, heap: &Heap, done: Result<Value, Abrupt>) -> Result<String, AllocError> {
     match done {
-        OpDone::Value(v) => spelled_value(alloc, heap, v),
-        OpDone::TypeFault => String::from_str(alloc, "throws"),
-        OpDone::Fault(fault) => String::from_str(alloc, fault_word(fault)),
-        OpDone::Limit(limit) => format!(in alloc; "{limit:?}"),
-        OpDone::Memory => String::from_str(alloc, "memory"),
+        Ok(v) => spelled_value(alloc, heap, v),
+        Err(Abrupt::TypeError) => String::from_str(alloc, "throws"),
+        Err(Abrupt::Fault(fault)) => String::from_str(alloc, fault_word(fault)),
+        Err(Abrupt::Limit(limit)) => format!(in alloc; "{limit:?}"),
+        Err(Abrupt::Memory) => String::from_str(alloc, "memory"),
     }
 }
 

@@ -13,31 +13,35 @@ use crate::numerals::behind_numeral;
 use crate::outcome::value_done;
 use crate::search::first_place;
 use crate::texts::clamped;
-use rip_heap::{Heap, OpDone, to_text};
+use rip_heap::{Abrupt, Heap, to_text};
 use rip_values::{Fault, NoMemory, Span, Value, Whole, text_of_whole};
 use std::alloc::Global;
 
 // `indexOf` of texts (ECMA-262 15.5.4.7).
-pub fn place_of(alloc: Global, heap: &mut Heap, text: Span, args: &[Value]) -> OpDone
+pub fn place_of(alloc: Global, heap: &mut Heap, text: Span, args: &[Value]) -> Result<Value, Abrupt>
     ensures answers { AnswersOrLacks (text_index_of heap.old text args.now) heap.old result heap.new }
     ensures grows { Grows heap.old heap.new }
 {
     place_of_value(alloc, heap, text, argument(args, 0), argument(args, 1))
 }
 
-fn place_of_value(alloc: Global, heap: &mut Heap, text: Span, pattern: Value, from: Value) -> OpDone
+fn place_of_value(
+    alloc: Global,
+    heap: &mut Heap,
+    text: Span,
+    pattern: Value,
+    from: Value,
+) -> Result<Value, Abrupt>
     ensures answers { AnswersOrLacks (after_text (text_of_value heap.old pattern) (λ span v. value_or_fault v (place_in_text heap.old.pool text from (text_at v.pool span)))) heap.old result heap.new }
     ensures grows { Grows heap.old heap.new }
 {
     match pattern {
         Value::Num(number) => place_of_numeral(alloc, heap, text, number, from),
-        _ => match to_text(alloc, heap, pattern) {
-            Ok(span) => match place_in(alloc, heap, text, from, heap.pool().get(span)) {
-                Ok(answer) => value_done(heap, answer),
-                Err(NoMemory) => OpDone::Memory,
-            },
-            Err(halt) => halt.into(),
-        },
+        _ => {
+            let span = to_text(alloc, heap, pattern)?;
+            let answer = place_in(alloc, heap, text, from, heap.pool().get(span))?;
+            value_done(heap, answer)
+        }
     }
 }
 
@@ -48,16 +52,14 @@ fn place_of_numeral(
     text: Span,
     number: Whole,
     from: Value,
-) -> OpDone
+) -> Result<Value, Abrupt>
     ensures answers { AnswersOrLacks (after_text (text_of_value heap.old (Num number)) (λ span v. value_or_fault v (place_in_text heap.old.pool text from (text_at v.pool span)))) heap.old result heap.new }
     ensures grows { Grows heap.old heap.new }
 {
     let mut room = [0; 17];
     let count = text_of_whole(number, &mut room);
-    match place_in(alloc, heap, text, from, &room[..count]) {
-        Ok(answer) => behind_numeral(alloc, heap, number, answer),
-        Err(NoMemory) => OpDone::Memory,
-    }
+    let answer = place_in(alloc, heap, text, from, &room[..count])?;
+    behind_numeral(alloc, heap, number, answer)
 }
 
 fn place_in(

@@ -5,19 +5,16 @@ ghost use Rattle.rip_heap.specs.Outcome.{Answers};
 ghost use Rattle.rip_builtins.specs.Arguments.{value_or_fault};
 ghost use Rattle.rip_builtins.specs.Texts.{piece, place_within, clamped, char_at, char_code_at, substring, end_in, piece_between, unit_or_empty, number_or_nan};
 
-use crate::arguments::{argument, count_value, fixed_span, integer_of};
-use crate::outcome::value_done;
-use rip_heap::{Heap, OpDone};
+use crate::arguments::{argument, fixed_span, integer_of};
+use rip_heap::{Abrupt, Heap};
 use rip_values::{Fault, FixedText, Pool, Span, Value};
 
 // `charAt` (ECMA-262 15.5.4.4).
-pub fn char_at(heap: &Heap, text: Span, args: &[Value]) -> OpDone
+pub fn char_at(heap: &Heap, text: Span, args: &[Value]) -> Result<Value, Abrupt>
     ensures { Answers (char_at heap.now text args.now) heap.now result heap.now }
 {
-    match integer_of(heap, argument(args, 0)) {
-        Ok(place) => OpDone::Value(Value::Text(unit_or_empty(heap.pool(), text, place))),
-        Err(fault) => OpDone::Fault(fault),
-    }
+    let place = integer_of(heap, argument(args, 0))?;
+    Ok(Value::Text(unit_or_empty(heap.pool(), text, place)))
 }
 
 // The text of the unit at this place, or the empty text.
@@ -55,13 +52,11 @@ fn piece(text: Span, from: usize, to: usize) -> Span
 }
 
 // `charCodeAt` (ECMA-262 15.5.4.5).
-pub fn char_code_at(heap: &Heap, text: Span, args: &[Value]) -> OpDone
+pub fn char_code_at(heap: &Heap, text: Span, args: &[Value]) -> Result<Value, Abrupt>
     ensures { Answers (char_code_at heap.now text args.now) heap.now result heap.now }
 {
-    match integer_of(heap, argument(args, 0)) {
-        Ok(place) => OpDone::Value(number_or_nan(heap.pool().get(text), place)),
-        Err(fault) => OpDone::Fault(fault),
-    }
+    let place = integer_of(heap, argument(args, 0))?;
+    Ok(number_or_nan(heap.pool().get(text), place))
 }
 
 // The unit at this place as a number, or NaN.
@@ -69,22 +64,18 @@ fn number_or_nan(units: &[u16], place: i64) -> Value
     ensures { result ≡ number_or_nan (option_and_then (slice_get units.now) (place_within (length units.now) place)) }
 {
     match place_within(units.len(), place) {
-        Some(place) => count_value(u32::from(units[place])),
+        Some(place) => u32::from(units[place]).into(),
         None => Value::NaN,
     }
 }
 
 // `substring` (ECMA-262 15.5.4.15).
-pub fn substring(heap: &Heap, text: Span, args: &[Value]) -> OpDone
+pub fn substring(heap: &Heap, text: Span, args: &[Value]) -> Result<Value, Abrupt>
     ensures { Answers (substring heap.now text args.now) heap.now result heap.now }
 {
-    match integer_of(heap, argument(args, 0)) {
-        Ok(a) => match end_of(heap, heap.pool().get(text).len(), argument(args, 1)) {
-            Ok(b) => OpDone::Value(Value::Text(piece_between(heap.pool(), text, a, b))),
-            Err(fault) => OpDone::Fault(fault),
-        },
-        Err(fault) => OpDone::Fault(fault),
-    }
+    let a = integer_of(heap, argument(args, 0))?;
+    let b = end_of(heap, heap.pool().get(text).len(), argument(args, 1))?;
+    Ok(Value::Text(piece_between(heap.pool(), text, a, b)))
 }
 
 // The place that an end of a piece or of a slice is given by; undefined is the length.

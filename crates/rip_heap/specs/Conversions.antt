@@ -21,8 +21,6 @@ use Rattle.rip_values.specs.NumberScan.{signed_value, is_numeral, is_hexadecimal
 use Rattle.rip_values.specs.Pool.{Texts, text_at}
 use Rattle.rip_heap.specs.declared.outcome.Halt.{Halt}
 use Rattle.rip_heap.specs.declared.outcome.Halt.TheVariants.{Fault as HaltFault, Limit as HaltLimit}
-use Rattle.rip_heap.specs.declared.outcome.OpDone.{OpDone}
-use Rattle.rip_heap.specs.declared.outcome.OpDone.TheVariants.{Fault as OpFault, Limit as OpLimit}
 use Rattle.rip_heap.specs.Names.{same_text}
 use Rattle.rip_heap.specs.Texts.{new_text}
 use Rattle.rip_heap.specs.World.{World}
@@ -172,8 +170,3 @@ strictly_equal pool (Num a) (Num b) = int_eq a b
 strictly_equal pool (Text a) (Text b) = same_text pool a b
 strictly_equal pool (Object a) (Object b) = a == b
 strictly_equal pool a b = false
-
--- what an operator answers where a conversion halts
-abbrev pub halted : Halt → OpDone
-halted (HaltFault fault) = OpFault fault
-halted (HaltLimit limit) = OpLimit limit

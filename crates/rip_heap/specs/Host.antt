@@ -3,6 +3,8 @@ use Rattle.rip_values.specs.declared.value.Span.{Span}
 use Rattle.rip_values.specs.declared.value.Value.{Value as ScriptValue}
 use Rattle.rip_heap.specs.declared.host.HostDone.{HostDone}
 use Rattle.rip_heap.specs.declared.host.HostDone.TheVariants.{Value, TypeFault, Dom, Fault, Limit, Memory}
+use Rattle.rip_heap.specs.declared.outcome.Abrupt.{Abrupt}
+use Rattle.rip_heap.specs.declared.outcome.Abrupt.TheVariants as abrupt
 use Rattle.rip_heap.specs.Growth.{Grows, MakesNoFunction, Belongs}
 use Rattle.rip_heap.specs.World.{World}
 
@@ -20,6 +22,13 @@ Gives meant (Dom code) w s = meant ≡ (Dom code, w, s)
 Gives meant (Fault fault) w s = meant ≡ (Fault fault, w, s)
 Gives meant (Limit limit) w s = meant ≡ (Limit limit, w, s)
 Gives meant Memory w s = Unit {0}
+
+-- what a host answers that meets this cause
+abbrev pub done_of_cause : Abrupt → HostDone
+done_of_cause abrupt.TypeError = TypeFault
+done_of_cause (abrupt.Fault fault) = Fault fault
+done_of_cause (abrupt.Limit limit) = Limit limit
+done_of_cause abrupt.Memory = Memory
 
 -- a value that is answered is of this world
 abbrev pub AnswerBelongs : World → HostDone → Type 0

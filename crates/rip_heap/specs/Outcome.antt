@@ -2,17 +2,19 @@
 use Rattle.std.specs.Prelude.{◌≡◌, Bool, List, ℕ, length, nat_le, Option, None, Some, Result, Ok, Err, if◌then◌else◌}
 use Rattle.rip_values.specs.declared.value.Span.{Span}
 use Rattle.rip_values.specs.declared.value.Value.{Value}
-use Rattle.rip_values.specs.declared.value.Value.TheVariants.{Bool as Boolean, Num, NaN, Text}
+use Rattle.rip_values.specs.declared.value.Value.TheVariants.{Bool as Boolean, Text}
 use Rattle.rip_values.specs.declared.value.Numeral.{Numeral}
-use Rattle.rip_values.specs.declared.value.Numeral.TheVariants.{Num as Number, NaN as NotANumber}
+use Rattle.rip_values.specs.declared.value.Refused.{Refused}
+use Rattle.rip_values.specs.declared.value.Refused.TheVariants.{Limit as RefusedAt, Memory as RefusedMemory}
+use Rattle.rip_values.specs.Values.{value_of_number}
 use Rattle.rip_values.specs.declared.value.Fault.{Fault}
 use Rattle.rip_values.specs.declared.value.Fault.TheVariants.{TextTooLong}
 use Rattle.rip_values.specs.declared.value.Limit.{Limit}
 use Rattle.rip_values.specs.declared.value.Limit.TheVariants.{Units}
+use Rattle.rip_heap.specs.declared.outcome.Abrupt.{Abrupt}
+use Rattle.rip_heap.specs.declared.outcome.Abrupt.TheVariants.{TypeError, Fault as AtFault, Limit as AtLimit, Memory}
 use Rattle.rip_heap.specs.declared.outcome.Halt.{Halt}
 use Rattle.rip_heap.specs.declared.outcome.Halt.TheVariants.{Fault as HaltFault, Limit as HaltLimit}
-use Rattle.rip_heap.specs.declared.outcome.OpDone.{OpDone}
-use Rattle.rip_heap.specs.declared.outcome.OpDone.TheVariants.{Value as OpValue, TypeFault, Fault as OpFault, Limit as OpLimit, Memory}
 use Rattle.rip_heap.specs.Texts.{new_text}
 use Rattle.rip_heap.specs.World.{World}
 
@@ -25,29 +27,34 @@ pub data Outcome : Type 0 where
   Exceeds : Limit → Outcome
 
 -- the answer is this outcome; where it is no value the world is as before. Memory is never wanting
-abbrev pub Answers : Outcome → World → OpDone → World → Type 0
-Answers outcome old (OpValue v) new = outcome ≡ Gives v new
-Answers outcome old TypeFault new = (outcome ≡ Throws) × (new ≡ old)
-Answers outcome old (OpFault fault) new = (outcome ≡ Faults fault) × (new ≡ old)
-Answers outcome old (OpLimit limit) new = (outcome ≡ Exceeds limit) × (new ≡ old)
-Answers outcome old Memory new = ⊥
+abbrev pub Answers : Outcome → World → Result Value Abrupt → World → Type 0
+Answers outcome old (Ok v) new = outcome ≡ Gives v new
+Answers outcome old (Err TypeError) new = (outcome ≡ Throws) × (new ≡ old)
+Answers outcome old (Err (AtFault fault)) new = (outcome ≡ Faults fault) × (new ≡ old)
+Answers outcome old (Err (AtLimit limit)) new = (outcome ≡ Exceeds limit) × (new ≡ old)
+Answers outcome old (Err Memory) new = ⊥
 
 -- the same of a call that takes memory, whose want leaves the world as before too
-abbrev pub AnswersOrLacks : Outcome → World → OpDone → World → Type 0
-AnswersOrLacks outcome old (OpValue v) new = outcome ≡ Gives v new
-AnswersOrLacks outcome old TypeFault new = (outcome ≡ Throws) × (new ≡ old)
-AnswersOrLacks outcome old (OpFault fault) new = (outcome ≡ Faults fault) × (new ≡ old)
-AnswersOrLacks outcome old (OpLimit limit) new = (outcome ≡ Exceeds limit) × (new ≡ old)
-AnswersOrLacks outcome old Memory new = new ≡ old
+abbrev pub AnswersOrLacks : Outcome → World → Result Value Abrupt → World → Type 0
+AnswersOrLacks outcome old (Ok v) new = outcome ≡ Gives v new
+AnswersOrLacks outcome old (Err TypeError) new = (outcome ≡ Throws) × (new ≡ old)
+AnswersOrLacks outcome old (Err (AtFault fault)) new = (outcome ≡ Faults fault) × (new ≡ old)
+AnswersOrLacks outcome old (Err (AtLimit limit)) new = (outcome ≡ Exceeds limit) × (new ≡ old)
+AnswersOrLacks outcome old (Err Memory) new = new ≡ old
 
--- a number as a value
-abbrev pub value_of : Numeral → Value
-value_of (Number z) = Num z
-value_of NotANumber = NaN
+-- why an operation has no value where a conversion halts
+abbrev pub cause_of_halt : Halt → Abrupt
+cause_of_halt (HaltFault fault) = AtFault fault
+cause_of_halt (HaltLimit limit) = AtLimit limit
+
+-- why it has none where a charge is refused
+abbrev pub cause_of_refusal : Refused → Abrupt
+cause_of_refusal (RefusedAt limit) = AtLimit limit
+cause_of_refusal RefusedMemory = Memory
 
 -- a number or a fault, in a world that stays as it is
 abbrev pub number_or_fault : World → Result Numeral Fault → Outcome
-number_or_fault w (Ok n) = Gives (value_of n) w
+number_or_fault w (Ok n) = Gives (value_of_number n) w
 number_or_fault w (Err fault) = Faults fault
 
 -- a truth or a fault, in a world that stays as it is

@@ -8,7 +8,7 @@ ghost use Rattle.rip_heap.specs.Outcome.{Exceeds, AnswersOrLacks};
 use crate::class::Class;
 use crate::convert::to_text;
 use crate::heap::Heap;
-use crate::outcome::OpDone;
+use crate::outcome::Abrupt;
 use crate::room::push;
 use crate::stored::StoredObject;
 use rip_values::{FIRST_HEAP_OBJECT, Fault, FixedText, Limit, Span, Value, Whole, text_of_whole};
@@ -20,65 +20,67 @@ const COST_OF_ERROR: u32 = 2;
 impl Heap {
     /// A new error of that class, whose message is the text of the value (ECMA-262 15.11.1.1). The object and its
     /// text are one step: an answer other than a value leaves the heap as it was.
-    pub fn new_error(&mut self, alloc: Global, class: Class, message: Value) -> OpDone
+    pub fn new_error(
+        &mut self,
+        alloc: Global,
+        class: Class,
+        message: Value,
+    ) -> Result<Value, Abrupt>
         ensures answers { AnswersOrLacks (new_error class self.old message) self.old result self.new }
         ensures grows { Grows self.old self.new }
     {
         match message {
             Value::Num(number) => self.error_of_number(alloc, class, number),
-            _ => match to_text(alloc, self, message) {
-                Ok(text) => self.error_of_text(alloc, class, text),
-                Err(halt) => halt.into(),
-            },
+            _ => {
+                let text = to_text(alloc, self, message)?;
+                self.error_of_text(alloc, class, text)
+            }
         }
     }
 
     // A new error with this message, which is there.
-    fn error_of_text(&mut self, alloc: Global, class: Class, message: Span) -> OpDone
+    fn error_of_text(&mut self, alloc: Global, class: Class, message: Span) -> Result<Value, Abrupt>
         ensures answers { AnswersOrLacks (if nat_le (self.old.cells + cost_of_error) self.old.limit then error_made class message self.old else Exceeds Cells) self.old result self.new }
         ensures grows { Grows self.old self.new }
     {
         if self.free_cells() < COST_OF_ERROR {
-            return OpDone::Limit(Limit::Cells);
+            return Err(Abrupt::Limit(Limit::Cells));
         }
         let number = FIRST_HEAP_OBJECT + self.objects.len() as u32;
-        let Ok(error) = StoredObject::error(alloc, class, message) else {
-            return OpDone::Memory;
-        };
-        if push(&mut self.objects, error).is_err() {
-            return OpDone::Memory;
-        }
+        let error = StoredObject::error(alloc, class, message)?;
+        push(&mut self.objects, error)?;
         self.used += COST_OF_ERROR;
-        OpDone::Value(Value::Object(number))
+        Ok(Value::Object(number))
     }
 
     // A new error whose message is the number's numeral. The memory of the object is taken before the text is made.
-    fn error_of_number(&mut self, alloc: Global, class: Class, number: Whole) -> OpDone
+    fn error_of_number(
+        &mut self,
+        alloc: Global,
+        class: Class,
+        number: Whole,
+    ) -> Result<Value, Abrupt>
         ensures answers { AnswersOrLacks (new_error class self.old (Num number)) self.old result self.new }
         ensures grows { Grows self.old self.new }
     {
         let mut room = [0; 17];
         let count = text_of_whole(number, &mut room);
         if count > self.pool.text_limit() as usize {
-            return OpDone::Fault(Fault::TextTooLong);
+            return Err(Abrupt::Fault(Fault::TextTooLong));
         }
         if self.free_cells() < COST_OF_ERROR {
-            return OpDone::Limit(Limit::Cells);
+            return Err(Abrupt::Limit(Limit::Cells));
         }
         if count > self.pool.free() as usize {
-            return OpDone::Limit(Limit::Units);
+            return Err(Abrupt::Limit(Limit::Units));
         }
         let number = FIRST_HEAP_OBJECT + self.objects.len() as u32;
-        let Ok(mut error) = StoredObject::error(alloc, class, FixedText::Empty.span()) else {
-            return OpDone::Memory;
-        };
-        if self.objects.reserve(1).is_err() {
-            return OpDone::Memory;
-        }
+        let mut error = StoredObject::error(alloc, class, FixedText::Empty.span())?;
+        self.objects.reserve(1)?;
         let text = self.pool.add(alloc, &room[..count]).unwrap();
         error.set_value(0, Value::Text(text));
         self.objects.push_reserved(error);
         self.used += COST_OF_ERROR;
-        OpDone::Value(Value::Object(number))
+        Ok(Value::Object(number))
     }
 }

@@ -6,7 +6,7 @@ ghost use Rattle.rip_heap.specs.World.{object_at};
 use crate::class::Class;
 use crate::convert::room_for_numeral;
 use crate::heap::Heap;
-use crate::outcome::OpDone;
+use crate::outcome::Abrupt;
 use rip_values::{Fault, Value};
 
 /// What an object is to a call that asks whether it has a property.
@@ -32,15 +32,15 @@ pub fn holder_of(heap: &Heap, number: u32) -> Holder
 }
 
 /// The fault NotInProfile, behind the conversion of the key.
-pub fn not_in_profile(heap: &Heap, key: Value) -> OpDone
+pub fn not_in_profile(heap: &Heap, key: Value) -> Result<Value, Abrupt>
     ensures { Answers (not_in_profile heap.now key) heap.now result heap.now }
 {
     match key {
-        Value::Object(_) => OpDone::Fault(Fault::ObjectToPrimitive),
-        Value::Num(number) => match room_for_numeral(heap, number) {
-            Ok(()) => OpDone::Fault(Fault::NotInProfile),
-            Err(halt) => halt.into(),
-        },
-        _ => OpDone::Fault(Fault::NotInProfile),
+        Value::Object(_) => Err(Abrupt::Fault(Fault::ObjectToPrimitive)),
+        Value::Num(number) => {
+            room_for_numeral(heap, number)?;
+            Err(Abrupt::Fault(Fault::NotInProfile))
+        }
+        _ => Err(Abrupt::Fault(Fault::NotInProfile)),
     }
 }

@@ -1,6 +1,7 @@
 ghost use Rattle.std.specs.Prelude.{◌≡◌};
 
 use crate::heap::Heap;
+use crate::outcome::Abrupt;
 use rip_values::{Fault, Limit, Span, Value};
 
 /// What a call of a host answers.
@@ -14,6 +15,22 @@ pub enum HostDone {
     Fault(Fault),
     Limit(Limit),
     Memory,
+}
+
+impl From<Abrupt> for HostDone {
+    ghost use Rattle.std.specs.Prelude.{◌≡◌};
+    ghost use Rattle.rip_heap.specs.Host.{done_of_cause};
+
+    ghost from_gives = { λ cause done. done ≡ done_of_cause cause };
+
+    fn from(cause: Abrupt) -> HostDone {
+        match cause {
+            Abrupt::TypeError => HostDone::TypeFault,
+            Abrupt::Fault(fault) => HostDone::Fault(fault),
+            Abrupt::Limit(limit) => HostDone::Limit(limit),
+            Abrupt::Memory => HostDone::Memory,
+        }
+    }
 }
 
 /// What stands behind the objects that are not the heap's: the document, its nodes, and the built-in functions that

@@ -15,12 +15,13 @@
 //! | arrays and scopes | `Arrays`, `Scopes` |
 //! | [`Heap::new_error`] | `Errors.new_error` |
 //! | [`Heap::concat`], [`same_text`] | `Texts.concat`, `Names.same_text` |
+//! | [`Abrupt`], why an operation has no value | `Outcome.Answers`, `Outcome.AnswersOrLacks` |
 //! | what a call answers of its step | `Step.Makes`, `Step.Changes`, `Step.Charges` |
 //! | what every later world keeps of a world | `Growth.Grows` |
 //! | [`to_boolean`], [`to_number`], [`to_integer`], [`to_uint32`], [`to_int32`], [`to_text`], [`strictly_equal`] | `Conversions`, one table each |
 //! | [`room_for_text`], [`room_for_numeral`] | `Conversions.room_for_text`: the limit `text`, and then the units |
 //! | [`holder_of`], [`not_in_profile`] | `Holders`, for `in` and `hasOwnProperty` |
-//! | [`Host`] | its own members; `Host.Gives`, `Host.Keeps` and `Host.LeavesOnRefusal` say what each call answers and keeps |
+//! | [`Host`] | its own `answers` of a `Host.Request`; `Host.Gives`, `Host.Keeps` and `Host.LeavesOnRefusal` say what each call answers and keeps |
 //!
 //! Laws of worlds stand in `Laws`, each the contract of a function: what is put is read ([`puts_are_read`]) and changes no
 //! other property ([`puts_leave_others`]), and each fixed text stands at its span ([`fixed_texts_stand`]).
@@ -69,5 +70,5 @@ pub use laws::{
 };
 pub use limits::{HeapLimits, Used};
 pub use names::same_text;
-pub use outcome::{Halt, OpDone, number_done, truth_done, value_of};
+pub use outcome::{Abrupt, Halt, number_done, truth_done};
 pub use property::Property;

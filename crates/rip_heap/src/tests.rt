@@ -204,8 +204,11 @@ fn numerals_are_judged_against_the_limit_text(rt: HostRuntime) -> Result<(), Fai
         Err(Halt::Fault(too_long))
     );
     let error = heap.new_error(alloc, Class::Error, number(12));
-    assert_eq!(rt; error, OpDone::Fault(too_long));
-    assert_eq!(rt; not_in_profile(&heap, number(12)), OpDone::Fault(too_long));
+    assert_eq!(rt; error, Err(Abrupt::Fault(too_long)));
+    assert_eq!(rt;
+        not_in_profile(&heap, number(12)),
+        Err(Abrupt::Fault(too_long))
+    );
     assert_eq!(rt;
         (heap.pool().used(), heap.pool().free(), heap.used_cells()),
         (1, 9, 0)
@@ -225,20 +228,20 @@ fn errors_are_made_in_one_step(rt: HostRuntime) -> Result<(), Fail> {
         },
     )?;
     let first = heap.new_error(alloc, Class::Error, Value::Null);
-    assert_eq!(rt; first, OpDone::Value(Value::Object(128)));
+    assert_eq!(rt; first, Ok(Value::Object(128)));
     assert_eq!(rt;
         heap.new_error(alloc, Class::RangeError, number(1_000)),
-        OpDone::Limit(Limit::Units)
+        Err(Abrupt::Limit(Limit::Units))
     );
     let second = heap.new_error(alloc, Class::RangeError, number(-10));
-    assert_eq!(rt; second, OpDone::Value(Value::Object(129)));
+    assert_eq!(rt; second, Ok(Value::Object(129)));
     let Some(Value::Text(message)) = heap.own(129, FixedText::Message.span()) else {
         return Err(Fail::new("no message"));
     };
     assert_eq!(rt; heap.pool().get(message), [0x2D, 0x31, 0x30].as_slice());
     assert_eq!(rt;
         heap.new_error(alloc, Class::Error, Value::Null),
-        OpDone::Limit(Limit::Cells)
+        Err(Abrupt::Limit(Limit::Cells))
     );
     assert_eq!(rt; (heap.used_cells(), heap.objects()), (4, 2));
     assert_eq!(rt; holder_of(&heap, 128), Holder::OtherObject);
@@ -280,8 +283,8 @@ fn fixed_texts_cost_nothing(rt: HostRuntime) -> Result<(), Fail> {
     }
     assert_eq!(rt; heap.pool().used(), 0);
     assert_eq!(rt;
-        OpDone::from(fault),
-        OpDone::Fault(Fault::ObjectToPrimitive)
+        Abrupt::from(fault),
+        Abrupt::Fault(Fault::ObjectToPrimitive)
     );
     Ok(())
 }

@@ -11,17 +11,17 @@ ghost use Rattle.rip_ops.specs.Arithmetic.{sum};
 use crate::arithmetic::sum;
 use crate::numbers::numbers_of;
 use crate::order::either_is_object;
-use rip_heap::{Halt, Heap, OpDone, number_done, room_for_text, to_text};
-use rip_values::{Fault, Limit, Numeral, Refused, Span, Value, Whole, text_of_whole};
+use rip_heap::{Abrupt, Halt, Heap, number_done, room_for_text, to_text};
+use rip_values::{Fault, Limit, Numeral, Span, Value, Whole, text_of_whole};
 use std::alloc::Global;
 
 /// `+` (ECMA-262 11.6.1).
-pub fn added(alloc: Global, heap: &mut Heap, a: Value, b: Value) -> OpDone
+pub fn added(alloc: Global, heap: &mut Heap, a: Value, b: Value) -> Result<Value, Abrupt>
     ensures answers { Answers (added heap.old a b) heap.old result heap.new }
     ensures grows { Grows heap.old heap.new }
 {
     if either_is_object(&a, &b) {
-        return OpDone::Fault(Fault::ObjectToPrimitive);
+        return Err(Abrupt::Fault(Fault::ObjectToPrimitive));
     }
     match a {
         Value::Text(x) => text_and(alloc, heap, x, b),
@@ -35,89 +35,72 @@ pub fn added(alloc: Global, heap: &mut Heap, a: Value, b: Value) -> OpDone
 fn sum_of(heap: &Heap, a: Value, b: Value) -> Result<Numeral, Fault>
     ensures { result ≡ of_numbers heap.now.pool sum a b }
 {
-    match numbers_of(heap, a, b) {
-        Ok((x, y)) => sum(x, y),
-        Err(fault) => Err(fault),
-    }
+    let (x, y) = numbers_of(heap, a, b)?;
+    sum(x, y)
 }
 
-fn text_and(alloc: Global, heap: &mut Heap, x: Span, b: Value) -> OpDone
+fn text_and(alloc: Global, heap: &mut Heap, x: Span, b: Value) -> Result<Value, Abrupt>
     ensures answers { Answers (joining heap.old (Text x) b) heap.old result heap.new }
     ensures grows { Grows heap.old heap.new }
 {
     match b {
         Value::Num(number) => text_and_numeral(alloc, heap, x, number),
-        _ => match to_text(alloc, heap, b) {
-            Ok(y) => join(alloc, heap, x, y),
-            Err(halt) => halt.into(),
-        },
+        _ => {
+            let y = to_text(alloc, heap, b)?;
+            join(alloc, heap, x, y)
+        }
     }
 }
 
-fn and_text(alloc: Global, heap: &mut Heap, a: Value, y: Span) -> OpDone
+fn and_text(alloc: Global, heap: &mut Heap, a: Value, y: Span) -> Result<Value, Abrupt>
     ensures answers { Answers (joining heap.old a (Text y)) heap.old result heap.new }
     ensures grows { Grows heap.old heap.new }
 {
     match a {
         Value::Num(number) => numeral_and_text(alloc, heap, number, y),
-        _ => match to_text(alloc, heap, a) {
-            Ok(x) => join(alloc, heap, x, y),
-            Err(halt) => halt.into(),
-        },
+        _ => {
+            let x = to_text(alloc, heap, a)?;
+            join(alloc, heap, x, y)
+        }
     }
 }
 
 // The two texts joined to a new one.
-fn join(alloc: Global, heap: &mut Heap, x: Span, y: Span) -> OpDone
+fn join(alloc: Global, heap: &mut Heap, x: Span, y: Span) -> Result<Value, Abrupt>
     ensures answers { Answers (judged heap.old (joined heap.old.pool x y)) heap.old result heap.new }
     ensures grows { Grows heap.old heap.new }
 {
     let pool = heap.pool();
     let length = pool.get(x).len() + pool.get(y).len();
     if length > pool.text_limit() as usize {
-        return OpDone::Fault(Fault::TextTooLong);
+        return Err(Abrupt::Fault(Fault::TextTooLong));
     }
-    match heap.concat(alloc, x, y) {
-        Ok(span) => OpDone::Value(Value::Text(span)),
-        Err(Refused::Limit(limit)) => OpDone::Limit(limit),
-        Err(Refused::Memory) => OpDone::Memory,
-    }
+    let span = heap.concat(alloc, x, y)?;
+    Ok(Value::Text(span))
 }
 
 // A text with a number behind it. Nothing is made before all is judged.
-fn text_and_numeral(alloc: Global, heap: &mut Heap, x: Span, number: Whole) -> OpDone
+fn text_and_numeral(alloc: Global, heap: &mut Heap, x: Span, number: Whole) -> Result<Value, Abrupt>
     ensures answers { Answers (joining heap.old (Text x) (Num number)) heap.old result heap.new }
     ensures grows { Grows heap.old heap.new }
 {
     let text = heap.pool().held(x);
-    match room_for(heap, number, text.count) {
-        Ok(()) => match to_text(alloc, heap, Value::Num(number)) {
-            Ok(numeral) => match heap.concat(alloc, text, numeral) {
-                Ok(span) => OpDone::Value(Value::Text(span)),
-                Err(_) => OpDone::Memory,
-            },
-            Err(_) => OpDone::Memory,
-        },
-        Err(halt) => halt.into(),
-    }
+    room_for(heap, number, text.count)?;
+    let numeral = to_text(alloc, heap, Value::Num(number))?;
+    let span = heap.concat(alloc, text, numeral)?;
+    Ok(Value::Text(span))
 }
 
 // A number with a text behind it.
-fn numeral_and_text(alloc: Global, heap: &mut Heap, number: Whole, y: Span) -> OpDone
+fn numeral_and_text(alloc: Global, heap: &mut Heap, number: Whole, y: Span) -> Result<Value, Abrupt>
     ensures answers { Answers (joining heap.old (Num number) (Text y)) heap.old result heap.new }
     ensures grows { Grows heap.old heap.new }
 {
     let text = heap.pool().held(y);
-    match room_for(heap, number, text.count) {
-        Ok(()) => match to_text(alloc, heap, Value::Num(number)) {
-            Ok(numeral) => match heap.concat(alloc, numeral, text) {
-                Ok(span) => OpDone::Value(Value::Text(span)),
-                Err(_) => OpDone::Memory,
-            },
-            Err(_) => OpDone::Memory,
-        },
-        Err(halt) => halt.into(),
-    }
+    room_for(heap, number, text.count)?;
+    let numeral = to_text(alloc, heap, Value::Num(number))?;
+    let span = heap.concat(alloc, numeral, text)?;
+    Ok(Value::Text(span))
 }
 
 // Whether the number's numeral, and then it and a text of so many units joined, can be made.

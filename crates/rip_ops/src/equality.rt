@@ -34,10 +34,8 @@ pub fn loosely_equal(heap: &Heap, a: Value, b: Value) -> Result<bool, Fault>
 fn equal_as_numbers(heap: &Heap, a: Value, b: Value) -> Result<bool, Fault>
     ensures { result ≡ of_numbers heap.now.pool equal_numbers a b }
 {
-    match numbers_of(heap, a, b) {
-        Ok((x, y)) => Ok(equal_numbers(x, y)),
-        Err(fault) => Err(fault),
-    }
+    let (x, y) = numbers_of(heap, a, b)?;
+    Ok(equal_numbers(x, y))
 }
 
 fn equal_numbers(a: Numeral, b: Numeral) -> bool
@@ -56,8 +54,6 @@ fn equal_numbers(a: Numeral, b: Numeral) -> bool
 pub fn loosely_unequal(heap: &Heap, a: Value, b: Value) -> Result<bool, Fault>
     ensures { result ≡ negated (loosely_equal heap.now.pool a b) }
 {
-    match loosely_equal(heap, a, b) {
-        Ok(equal) => Ok(!equal),
-        Err(fault) => Err(fault),
-    }
+    let equal = loosely_equal(heap, a, b)?;
+    Ok(!equal)
 }

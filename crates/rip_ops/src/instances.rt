@@ -3,11 +3,11 @@ ghost use Rattle.rip_heap.specs.World.{object_at, class_of};
 ghost use Rattle.rip_ops.specs.Instances.{instance_of, instance_of_builtin, instance_of_class, has_instance, has_above, is_above, is_of, is_error, is_type_error, is_range_error};
 ghost use Rattle.rip_heap.specs.Outcome.{Answers};
 
-use rip_heap::{Class, Heap, OpDone};
+use rip_heap::{Abrupt, Class, Heap};
 use rip_values::{Builtin, FIRST_HEAP_OBJECT, Fault, FixedText, Value};
 
 /// `instanceof` (ECMA-262 11.8.6).
-pub fn instance_of(heap: &Heap, a: Value, b: Value) -> OpDone
+pub fn instance_of(heap: &Heap, a: Value, b: Value) -> Result<Value, Abrupt>
     ensures { Answers (instance_of heap.now a b) heap.now result heap.now }
 {
     match b {
@@ -16,21 +16,21 @@ pub fn instance_of(heap: &Heap, a: Value, b: Value) -> OpDone
         } else {
             instance_of_class(heap, a, number, heap.class(number))
         },
-        _ => OpDone::TypeFault,
+        _ => Err(Abrupt::TypeError),
     }
 }
 
-fn instance_of_builtin(heap: &Heap, a: Value, number: u32) -> OpDone
+fn instance_of_builtin(heap: &Heap, a: Value, number: u32) -> Result<Value, Abrupt>
     ensures { Answers (instance_of_builtin heap.now a number) heap.now result heap.now }
 {
     if number == ERROR {
-        OpDone::Value(Value::Bool(is_error(heap, a)))
+        Ok(Value::Bool(is_error(heap, a)))
     } else if number == TYPE_ERROR {
-        OpDone::Value(Value::Bool(is_type_error(heap, a)))
+        Ok(Value::Bool(is_type_error(heap, a)))
     } else if number == RANGE_ERROR {
-        OpDone::Value(Value::Bool(is_range_error(heap, a)))
+        Ok(Value::Bool(is_range_error(heap, a)))
     } else {
-        OpDone::Fault(Fault::NotInProfile)
+        Err(Abrupt::Fault(Fault::NotInProfile))
     }
 }
 
@@ -78,17 +78,17 @@ fn is_range_error(heap: &Heap, a: Value) -> bool
     }
 }
 
-fn instance_of_class(heap: &Heap, a: Value, number: u32, class: Class) -> OpDone
+fn instance_of_class(heap: &Heap, a: Value, number: u32, class: Class) -> Result<Value, Abrupt>
     ensures { Answers (instance_of_class heap.now a number class) heap.now result heap.now }
 {
     match class {
         Class::Function => has_instance(heap, a, number),
-        _ => OpDone::TypeFault,
+        _ => Err(Abrupt::TypeError),
     }
 }
 
 // HasInstance of a function of the script (ECMA-262 15.3.5.3).
-fn has_instance(heap: &Heap, a: Value, function: u32) -> OpDone
+fn has_instance(heap: &Heap, a: Value, function: u32) -> Result<Value, Abrupt>
     ensures { Answers (has_instance heap.now a function) heap.now result heap.now }
 {
     match a {
@@ -97,19 +97,19 @@ fn has_instance(heap: &Heap, a: Value, function: u32) -> OpDone
             object,
             heap.own(function, FixedText::Prototype.span()),
         ),
-        _ => OpDone::Value(Value::Bool(false)),
+        _ => Ok(Value::Bool(false)),
     }
 }
 
-fn has_above(heap: &Heap, object: u32, prototype: Option<Value>) -> OpDone
+fn has_above(heap: &Heap, object: u32, prototype: Option<Value>) -> Result<Value, Abrupt>
     ensures { Answers (has_above heap.now object prototype) heap.now result heap.now }
 {
     match prototype {
         Some(value) => match value {
-            Value::Object(number) => OpDone::Value(Value::Bool(is_above(heap, object, number))),
-            _ => OpDone::TypeFault,
+            Value::Object(number) => Ok(Value::Bool(is_above(heap, object, number))),
+            _ => Err(Abrupt::TypeError),
         },
-        None => OpDone::TypeFault,
+        None => Err(Abrupt::TypeError),
     }
 }
 

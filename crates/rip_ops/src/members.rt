@@ -3,14 +3,14 @@ ghost use Rattle.rip_ops.specs.Members.{contained, in_holder, in_plain, in_array
 ghost use Rattle.rip_heap.specs.Outcome.{Answers};
 
 use rip_heap::{
-    Found, Heap, Holder, OpDone, holder_of, index_of, is_index, is_named, is_of_object_prototype,
+    Abrupt, Found, Heap, Holder, holder_of, index_of, is_index, is_named, is_of_object_prototype,
     is_underscored, look_up, not_in_profile, to_text,
 };
 use rip_values::{Fault, FixedText, Span, Value, Whole};
 use std::alloc::Global;
 
 /// `in` (ECMA-262 11.8.7).
-pub fn contained(alloc: Global, heap: &mut Heap, a: Value, b: Value) -> OpDone
+pub fn contained(alloc: Global, heap: &mut Heap, a: Value, b: Value) -> Result<Value, Abrupt>
     ensures answers { Answers (contained heap.old a b) heap.old result heap.new }
     ensures grows { Grows heap.old heap.new }
 {
@@ -19,11 +19,17 @@ pub fn contained(alloc: Global, heap: &mut Heap, a: Value, b: Value) -> OpDone
             let holder = holder_of(heap, number);
             in_holder(alloc, heap, holder, a, number)
         }
-        _ => OpDone::TypeFault,
+        _ => Err(Abrupt::TypeError),
     }
 }
 
-fn in_holder(alloc: Global, heap: &mut Heap, holder: Holder, a: Value, number: u32) -> OpDone
+fn in_holder(
+    alloc: Global,
+    heap: &mut Heap,
+    holder: Holder,
+    a: Value,
+    number: u32,
+) -> Result<Value, Abrupt>
     ensures answers { Answers (in_holder holder heap.old a number) heap.old result heap.new }
     ensures grows { Grows heap.old heap.new }
 {
@@ -34,87 +40,90 @@ fn in_holder(alloc: Global, heap: &mut Heap, holder: Holder, a: Value, number: u
     }
 }
 
-fn in_plain_object(alloc: Global, heap: &mut Heap, a: Value, number: u32) -> OpDone
+fn in_plain_object(alloc: Global, heap: &mut Heap, a: Value, number: u32) -> Result<Value, Abrupt>
     ensures answers { Answers (in_holder Holder.PlainObject heap.old a number) heap.old result heap.new }
     ensures grows { Grows heap.old heap.new }
 {
     match a {
         Value::Num(key) => numeral_in_plain(alloc, heap, key, number),
-        _ => match to_text(alloc, heap, a) {
-            Ok(name) => in_plain(heap, number, name),
-            Err(halt) => halt.into(),
-        },
+        _ => {
+            let name = to_text(alloc, heap, a)?;
+            in_plain(heap, number, name)
+        }
     }
 }
 
-fn numeral_in_plain(alloc: Global, heap: &mut Heap, key: Whole, number: u32) -> OpDone
+fn numeral_in_plain(
+    alloc: Global,
+    heap: &mut Heap,
+    key: Whole,
+    number: u32,
+) -> Result<Value, Abrupt>
     ensures answers { Answers (numeral_in_plain heap.old key number) heap.old result heap.new }
     ensures grows { Grows heap.old heap.new }
 {
-    match to_text(alloc, heap, Value::Num(key)) {
-        Ok(name) => OpDone::Value(Value::Bool(heap.find(number, name).is_some())),
-        Err(halt) => halt.into(),
-    }
+    let name = to_text(alloc, heap, Value::Num(key))?;
+    Ok(Value::Bool(heap.find(number, name).is_some()))
 }
 
-fn in_plain(heap: &Heap, number: u32, name: Span) -> OpDone
+fn in_plain(heap: &Heap, number: u32, name: Span) -> Result<Value, Abrupt>
     ensures { Answers (in_plain heap.now number name) heap.now result heap.now }
 {
     if is_underscored(heap.pool().get(name)) {
-        return OpDone::Fault(Fault::NotInProfile);
+        return Err(Abrupt::Fault(Fault::NotInProfile));
     }
     match look_up(heap, number, name) {
-        Found::Here => OpDone::Value(Value::Bool(true)),
-        Found::Barred => OpDone::Fault(Fault::NotInProfile),
+        Found::Here => Ok(Value::Bool(true)),
+        Found::Barred => Err(Abrupt::Fault(Fault::NotInProfile)),
         Found::Nowhere => absent(heap, name),
     }
 }
 
 // The answer for a name that is found nowhere.
-fn absent(heap: &Heap, name: Span) -> OpDone
+fn absent(heap: &Heap, name: Span) -> Result<Value, Abrupt>
     ensures { Answers (absent heap.now name) heap.now result heap.now }
 {
     if is_named(heap, name, FixedText::HasOwnProperty) {
-        OpDone::Value(Value::Bool(true))
+        Ok(Value::Bool(true))
     } else if is_of_object_prototype(heap, name) {
-        OpDone::Fault(Fault::NotInProfile)
+        Err(Abrupt::Fault(Fault::NotInProfile))
     } else {
-        OpDone::Value(Value::Bool(false))
+        Ok(Value::Bool(false))
     }
 }
 
-fn in_array_object(alloc: Global, heap: &mut Heap, a: Value, number: u32) -> OpDone
+fn in_array_object(alloc: Global, heap: &mut Heap, a: Value, number: u32) -> Result<Value, Abrupt>
     ensures answers { Answers (in_holder Holder.ArrayObject heap.old a number) heap.old result heap.new }
     ensures grows { Grows heap.old heap.new }
 {
     match a {
         Value::Num(key) => number_in_array(heap, key, number),
-        _ => match to_text(alloc, heap, a) {
-            Ok(name) => in_array(heap, number, name),
-            Err(halt) => halt.into(),
-        },
+        _ => {
+            let name = to_text(alloc, heap, a)?;
+            in_array(heap, number, name)
+        }
     }
 }
 
-fn number_in_array(heap: &Heap, key: Whole, number: u32) -> OpDone
+fn number_in_array(heap: &Heap, key: Whole, number: u32) -> Result<Value, Abrupt>
     ensures { Answers (number_in_array heap.now key number) heap.now result heap.now }
 {
     if is_index(key.get()) {
-        OpDone::Value(Value::Bool(key.get() < i64::from(heap.count(number))))
+        Ok(Value::Bool(key.get() < i64::from(heap.count(number))))
     } else {
         not_in_profile(heap, Value::Num(key))
     }
 }
 
-fn in_array(heap: &Heap, number: u32, name: Span) -> OpDone
+fn in_array(heap: &Heap, number: u32, name: Span) -> Result<Value, Abrupt>
     ensures { Answers (in_array heap.now number name) heap.now result heap.now }
 {
     match index_of(heap, name) {
-        Some(index) => OpDone::Value(Value::Bool(index < heap.count(number))),
+        Some(index) => Ok(Value::Bool(index < heap.count(number))),
         None => if is_named(heap, name, FixedText::Length) {
-            OpDone::Value(Value::Bool(true))
+            Ok(Value::Bool(true))
         } else {
-            OpDone::Fault(Fault::NotInProfile)
+            Err(Abrupt::Fault(Fault::NotInProfile))
         },
     }
 }

@@ -15,7 +15,7 @@ use crate::instances::instance_of;
 use crate::members::contained;
 use crate::numbers::numbers_of;
 use crate::order::{is_at_least, is_at_most, is_greater, is_less};
-use rip_heap::{Heap, OpDone, number_done, strictly_equal, to_boolean, to_number, truth_done};
+use rip_heap::{Abrupt, Heap, number_done, strictly_equal, to_boolean, to_number, truth_done};
 use rip_values::{BinaryOperator, Fault, Numeral, Value};
 use std::alloc::Global;
 
@@ -30,7 +30,13 @@ pub enum UnaryOp {
 
 /// What the operator answers of these operands, and the heap after it. An answer other than a value leaves the heap as
 /// it was, and memory is never wanting.
-pub fn binary(alloc: Global, heap: &mut Heap, op: BinaryOperator, a: Value, b: Value) -> OpDone
+pub fn binary(
+    alloc: Global,
+    heap: &mut Heap,
+    op: BinaryOperator,
+    a: Value,
+    b: Value,
+) -> Result<Value, Abrupt>
     ensures answers { Answers (binary heap.old op a b) heap.old result heap.new }
     ensures grows { Grows heap.old heap.new }
 {
@@ -44,8 +50,8 @@ pub fn binary(alloc: Global, heap: &mut Heap, op: BinaryOperator, a: Value, b: V
         BinaryOperator::GreaterOrEqual => truth_done(heap, is_at_least(heap, a, b)),
         BinaryOperator::Equal => truth_done(heap, loosely_equal(heap, a, b)),
         BinaryOperator::NotEqual => truth_done(heap, loosely_unequal(heap, a, b)),
-        BinaryOperator::StrictEqual => OpDone::Value(Value::Bool(strictly_equal(heap, a, b))),
-        BinaryOperator::StrictNotEqual => OpDone::Value(Value::Bool(!strictly_equal(heap, a, b))),
+        BinaryOperator::StrictEqual => Ok(Value::Bool(strictly_equal(heap, a, b))),
+        BinaryOperator::StrictNotEqual => Ok(Value::Bool(!strictly_equal(heap, a, b))),
         BinaryOperator::Multiply
         | BinaryOperator::Divide
         | BinaryOperator::Remainder
@@ -60,7 +66,7 @@ pub fn binary(alloc: Global, heap: &mut Heap, op: BinaryOperator, a: Value, b: V
 }
 
 /// What the operator answers of this operand. The heap stays as it is.
-pub fn unary(alloc: Global, heap: &mut Heap, op: UnaryOp, a: Value) -> OpDone
+pub fn unary(alloc: Global, heap: &mut Heap, op: UnaryOp, a: Value) -> Result<Value, Abrupt>
     ensures answers { Answers (unary heap.old op a) heap.old result heap.new }
     ensures grows { Grows heap.old heap.new }
 {
@@ -69,17 +75,15 @@ pub fn unary(alloc: Global, heap: &mut Heap, op: UnaryOp, a: Value) -> OpDone
         UnaryOp::Plus => number_done(heap, to_number(heap, a)),
         UnaryOp::Minus => number_done(heap, negative_of(heap, a)),
         UnaryOp::BitNot => number_done(heap, bits_not_of(heap, a)),
-        UnaryOp::Not => OpDone::Value(Value::Bool(!to_boolean(heap, a))),
+        UnaryOp::Not => Ok(Value::Bool(!to_boolean(heap, a))),
     }
 }
 
 fn of_numbers(heap: &Heap, op: BinaryOperator, a: Value, b: Value) -> Result<Numeral, Fault>
     ensures { result ≡ of_numbers heap.now.pool (calculated op) a b }
 {
-    match numbers_of(heap, a, b) {
-        Ok((x, y)) => calculated(op, x, y),
-        Err(fault) => Err(fault),
-    }
+    let (x, y) = numbers_of(heap, a, b)?;
+    calculated(op, x, y)
 }
 
 fn calculated(op: BinaryOperator, x: Numeral, y: Numeral) -> Result<Numeral, Fault>
@@ -103,17 +107,13 @@ fn calculated(op: BinaryOperator, x: Numeral, y: Numeral) -> Result<Numeral, Fau
 fn negative_of(heap: &Heap, a: Value) -> Result<Numeral, Fault>
     ensures { result ≡ of_number heap.now.pool negative a }
 {
-    match to_number(heap, a) {
-        Ok(number) => Ok(negative(number)),
-        Err(fault) => Err(fault),
-    }
+    let number = to_number(heap, a)?;
+    Ok(negative(number))
 }
 
 fn bits_not_of(heap: &Heap, a: Value) -> Result<Numeral, Fault>
     ensures { result ≡ of_number heap.now.pool bits_not a }
 {
-    match to_number(heap, a) {
-        Ok(number) => Ok(bits_not(number)),
-        Err(fault) => Err(fault),
-    }
+    let number = to_number(heap, a)?;
+    Ok(bits_not(number))
 }

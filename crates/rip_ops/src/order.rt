@@ -34,10 +34,8 @@ fn order_of_others(heap: &Heap, a: Value, b: Value) -> Result<Option<Ordering>, 
     if either_is_object(&a, &b) {
         return Err(Fault::ObjectToPrimitive);
     }
-    match numbers_of(heap, a, b) {
-        Ok((x, y)) => Ok(order_of_numbers(x, y)),
-        Err(fault) => Err(fault),
-    }
+    let (x, y) = numbers_of(heap, a, b)?;
+    Ok(order_of_numbers(x, y))
 }
 
 fn order_of_numbers(a: Numeral, b: Numeral) -> Option<Ordering>
@@ -69,38 +67,30 @@ fn is_object(v: &Value) -> bool
 pub fn is_less(heap: &Heap, a: Value, b: Value) -> Result<bool, Fault>
     ensures { result ≡ is_so is_lt (order_of heap.now.pool a b) }
 {
-    match order_of(heap, a, b) {
-        Ok(order) => Ok(matches!(order, Some(Ordering::Less))),
-        Err(fault) => Err(fault),
-    }
+    let order = order_of(heap, a, b)?;
+    Ok(matches!(order, Some(Ordering::Less)))
 }
 
 /// `>` (ECMA-262 11.8.2).
 pub fn is_greater(heap: &Heap, a: Value, b: Value) -> Result<bool, Fault>
     ensures { result ≡ is_so is_gt (order_of heap.now.pool a b) }
 {
-    match order_of(heap, a, b) {
-        Ok(order) => Ok(matches!(order, Some(Ordering::Greater))),
-        Err(fault) => Err(fault),
-    }
+    let order = order_of(heap, a, b)?;
+    Ok(matches!(order, Some(Ordering::Greater)))
 }
 
 /// `<=` (ECMA-262 11.8.3).
 pub fn is_at_most(heap: &Heap, a: Value, b: Value) -> Result<bool, Fault>
     ensures { result ≡ is_so is_le (order_of heap.now.pool a b) }
 {
-    match order_of(heap, a, b) {
-        Ok(order) => Ok(matches!(order, Some(Ordering::Less | Ordering::Equal))),
-        Err(fault) => Err(fault),
-    }
+    let order = order_of(heap, a, b)?;
+    Ok(matches!(order, Some(Ordering::Less | Ordering::Equal)))
 }
 
 /// `>=` (ECMA-262 11.8.4).
 pub fn is_at_least(heap: &Heap, a: Value, b: Value) -> Result<bool, Fault>
     ensures { result ≡ is_so is_ge (order_of heap.now.pool a b) }
 {
-    match order_of(heap, a, b) {
-        Ok(order) => Ok(matches!(order, Some(Ordering::Greater | Ordering::Equal))),
-        Err(fault) => Err(fault),
-    }
+    let order = order_of(heap, a, b)?;
+    Ok(matches!(order, Some(Ordering::Greater | Ordering::Equal)))
 }

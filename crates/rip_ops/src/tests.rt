@@ -1,7 +1,7 @@
 mod table;
 
 use super::*;
-use rip_heap::{Class, Heap, HeapLimits, OpDone};
+use rip_heap::{Abrupt, Class, Heap, HeapLimits};
 use rip_values::{BinaryOperator, Fault, FixedText, Refused, Span, Value, Whole};
 use std::alloc::{AllocError, Global};
 use std::test::Fail;
@@ -51,13 +51,13 @@ fn number(n: i64) -> Value {
 }
 
 /// The answer as the tables spell it.
-fn cell(alloc: Global, heap: &Heap, done: OpDone) -> Result<String, AllocError> {
+fn cell(alloc: Global, heap: &Heap, done: Result<Value, Abrupt>) -> Result<String, AllocError> {
     match done {
-        OpDone::Value(v) => spelled(alloc, heap, v),
-        OpDone::TypeFault => word(alloc, "throws"),
-        OpDone::Fault(fault) => word(alloc, fault_word(fault)),
-        OpDone::Limit(_) => word(alloc, "limit"),
-        OpDone::Memory => word(alloc, "memory"),
+        Ok(v) => spelled(alloc, heap, v),
+        Err(Abrupt::TypeError) => word(alloc, "throws"),
+        Err(Abrupt::Fault(fault)) => word(alloc, fault_word(fault)),
+        Err(Abrupt::Limit(_)) => word(alloc, "limit"),
+        Err(Abrupt::Memory) => word(alloc, "memory"),
     }
 }
 
@@ -325,7 +325,7 @@ fn instances_are_found_far_below(rt: HostRuntime) -> Result<(), Fail> {
         Value::Object(below),
         Value::Object(function),
     );
-    assert_eq!(rt; done, OpDone::Value(Value::Bool(true)));
+    assert_eq!(rt; done, Ok(Value::Bool(true)));
     heap.put(alloc, function, FixedText::Prototype.span(), Value::Null)?;
     let done = binary(
         alloc,
@@ -334,6 +334,6 @@ fn instances_are_found_far_below(rt: HostRuntime) -> Result<(), Fail> {
         Value::Object(below),
         Value::Object(function),
     );
-    assert_eq!(rt; done, OpDone::TypeFault);
+    assert_eq!(rt; done, Err(Abrupt::TypeError));
     Ok(())
 }

@@ -4,7 +4,7 @@ use Rattle.rip_values.specs.declared.operator.BinaryOperator.TheVariants.{Multip
 use Rattle.rip_values.specs.declared.value.Value.{Value}
 use Rattle.rip_values.specs.declared.value.Numeral.{Numeral}
 use Rattle.rip_values.specs.declared.value.Fault.{Fault}
-use Rattle.rip_heap.specs.declared.outcome.OpDone.{OpDone}
+use Rattle.rip_heap.specs.declared.outcome.Abrupt.{Abrupt}
 use Rattle.rip_heap.specs.World.{World}
 use Rattle.rip_ops.specs.Numbers.{of_numbers}
 use Rattle.rip_ops.specs.Operators.{binary, calculated}
@@ -14,7 +14,7 @@ use Rattle.rip_ops.proofs.operators.binary.Goals as goal
 -- what an operator of numbers answers is what its row says
 abbrev Row : BinaryOperator → Type 0
 Row op =
-    (w : World) (a b : Value) (r : Result Numeral Fault) (done : OpDone) → r ≡ of_numbers w.pool (calculated op) a b
+    (w : World) (a b : Value) (r : Result Numeral Fault) (done : Result Value Abrupt) → r ≡ of_numbers w.pool (calculated op) a b
     → Answers (number_or_fault w r) w done w → Answers (binary w op a b) w done w
 
 multiply : Row Multiply
