@@ -1,30 +1,30 @@
 -- What `delete` of a member does (ECMA-262 8.12.7 and 11.4.1), by the kind of its base.
-use Rattle.std.specs.Prelude.{ℕ, Option, None, Some, length, nat_lt, if◌then◌else◌}
+use Rattle.std.specs.Prelude.{◌≡◌, ℕ, Option, None, Some, Result, Ok, Err, length, nat_lt, if◌then◌else◌}
 use Rattle.rip_values.specs.declared.value.Span.{Span}
 use Rattle.rip_values.specs.declared.value.Value.{Value}
 use Rattle.rip_values.specs.declared.value.Fault.TheVariants.{NotInProfile, Hole}
 use Rattle.rip_values.specs.Pool.{text_at}
 use Rattle.rip_heap.specs.declared.keys.Key.{Key}
 use Rattle.rip_heap.specs.declared.keys.Key.TheVariants.{Name, Index}
+use Rattle.rip_heap.specs.declared.outcome.Abrupt.{Abrupt}
+use Rattle.rip_heap.specs.declared.outcome.Abrupt.TheVariants.{TypeError, Fault as AtFault, Limit as AtLimit, Memory}
 use Rattle.rip_heap.specs.Arrays.{elements_at}
 use Rattle.rip_heap.specs.Keys.{is_barred, index_of, is_underscored}
 use Rattle.rip_heap.specs.Objects.{removed}
 use Rattle.rip_heap.specs.World.{World, object_at, class_of}
 use Rattle.rip_members.specs.declared.base.Base.{Base}
 use Rattle.rip_members.specs.declared.base.Base.TheVariants.{Nothing, Primitive, Text as TextBase, Plain as PlainBase, Error as ErrorBase, Array as ArrayBase, Function as FunctionBase, Builtin as BuiltinBase, Host as HostBase}
-use Rattle.rip_members.specs.declared.outcome.Written.{Written}
-use Rattle.rip_members.specs.declared.outcome.Written.TheVariants.{Done, TypeFault, Fault as FaultAnswer, Limit as LimitAnswer, Memory, Host}
 use Rattle.rip_members.specs.Base.{base_of}
 use Rattle.rip_members.specs.Writing.{Writing, Writes, Throws, Faults}
 
--- the answer is none of a limit, of want of memory or of the host
-abbrev pub IsSettled : Written → Type 0
-IsSettled Done = Unit {0}
-IsSettled TypeFault = Unit {0}
-IsSettled (FaultAnswer fault) = Unit {0}
-IsSettled (LimitAnswer limit) = ⊥
-IsSettled Memory = ⊥
-IsSettled (Host n name) = ⊥
+-- the answer is this end; where nothing is taken away the world is as before. No limit is passed, and memory is never
+-- wanting
+abbrev pub IsDeleting : Writing → World → Result (Unit {0}) Abrupt → World → Type 0
+IsDeleting meant old (Ok done) new = meant ≡ Writes new
+IsDeleting meant old (Err TypeError) new = (meant ≡ Throws) × (new ≡ old)
+IsDeleting meant old (Err (AtFault fault)) new = (meant ≡ Faults fault) × (new ≡ old)
+IsDeleting meant old (Err (AtLimit limit)) new = ⊥
+IsDeleting meant old (Err Memory) new = ⊥
 
 -- an element that is there would leave a hole, and one that is not there is gone already
 abbrev pub delete_element : World → ℕ → ℕ → Writing

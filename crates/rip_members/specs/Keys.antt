@@ -7,6 +7,8 @@ use Rattle.rip_values.specs.declared.value.Fault.{Fault}
 use Rattle.rip_values.specs.declared.value.Limit.{Limit}
 use Rattle.rip_heap.specs.declared.keys.Key.{Key}
 use Rattle.rip_heap.specs.declared.keys.Key.TheVariants.{Name, Index}
+use Rattle.rip_heap.specs.declared.outcome.Abrupt.{Abrupt}
+use Rattle.rip_heap.specs.declared.outcome.Abrupt.TheVariants.{TypeError, Fault as AtFault, Limit as AtLimit, Memory}
 use Rattle.rip_heap.specs.declared.outcome.Halt.{Halt}
 use Rattle.rip_heap.specs.declared.outcome.Halt.TheVariants.{Fault as HaltFault, Limit as HaltLimit}
 use Rattle.rip_heap.specs.Conversions.{text_of_value}
@@ -14,8 +16,6 @@ use Rattle.rip_heap.specs.Keys.{is_index}
 use Rattle.rip_heap.specs.World.{World}
 use Rattle.rip_members.specs.declared.base.Base.{Base}
 use Rattle.rip_members.specs.declared.base.Base.TheVariants.{Nothing, Primitive, Text as TextBase, Plain as PlainBase, Error as ErrorBase, Array as ArrayBase, Function as FunctionBase, Builtin as BuiltinBase, Host as HostBase}
-use Rattle.rip_members.specs.declared.outcome.KeyDone.{KeyDone}
-use Rattle.rip_members.specs.declared.outcome.KeyDone.TheVariants.{Key as KeyAnswer, TypeFault, Fault as FaultAnswer, Limit as LimitAnswer}
 use Rattle.rip_members.specs.Base.{base_of}
 
 -- how the making of a key ends: with the key and the world after it, with a TypeError to be thrown, with a fault, or with
@@ -27,11 +27,12 @@ pub data Keying : Type 0 where
   Exceeds : Limit → Keying
 
 -- the answer is this end; where there is no key the world is as before. Memory is never wanting
-abbrev pub IsKeying : Keying → World → KeyDone → World → Type 0
-IsKeying meant old (KeyAnswer key) new = meant ≡ Keys key new
-IsKeying meant old TypeFault new = (meant ≡ Throws) × (new ≡ old)
-IsKeying meant old (FaultAnswer fault) new = (meant ≡ Faults fault) × (new ≡ old)
-IsKeying meant old (LimitAnswer limit) new = (meant ≡ Exceeds limit) × (new ≡ old)
+abbrev pub IsKeying : Keying → World → Result Key Abrupt → World → Type 0
+IsKeying meant old (Ok key) new = meant ≡ Keys key new
+IsKeying meant old (Err TypeError) new = (meant ≡ Throws) × (new ≡ old)
+IsKeying meant old (Err (AtFault fault)) new = (meant ≡ Faults fault) × (new ≡ old)
+IsKeying meant old (Err (AtLimit limit)) new = (meant ≡ Exceeds limit) × (new ≡ old)
+IsKeying meant old (Err Memory) new = ⊥
 
 -- how it ends where the conversion to a text halts
 abbrev pub halting : Halt → Keying

@@ -1,5 +1,5 @@
 -- What writing a member does (ECMA-262 8.7.2 and 8.12.5), by the kind of its base.
-use Rattle.std.specs.Prelude.{◌≡◌, ℕ, ℤ, pos, negsuc, Bool, ◌||◌, ◌==◌, Option, None, Some, length, nat_le, nat_lt, if◌then◌else◌}
+use Rattle.std.specs.Prelude.{◌≡◌, ℕ, ℤ, pos, negsuc, Bool, ◌||◌, ◌==◌, Option, None, Some, Result, Ok, Err, length, nat_le, nat_lt, if◌then◌else◌}
 use Rattle.rip_values.specs.declared.value.Span.{Span}
 use Rattle.rip_values.specs.declared.value.Value.{Value}
 use Rattle.rip_values.specs.declared.value.Value.TheVariants.{Undefined, Null, Bool as Boolean, Num, NaN, Text, Object}
@@ -11,6 +11,8 @@ use Rattle.rip_values.specs.declared.fixed.FixedText.TheVariants.{Call, Name as 
 use Rattle.rip_values.specs.Pool.{Texts, text_at}
 use Rattle.rip_heap.specs.declared.keys.Key.{Key}
 use Rattle.rip_heap.specs.declared.keys.Key.TheVariants.{Name, Index}
+use Rattle.rip_heap.specs.declared.outcome.Abrupt.{Abrupt}
+use Rattle.rip_heap.specs.declared.outcome.Abrupt.TheVariants.{TypeError, Fault as AtFault, Limit as AtLimit, Memory}
 use Rattle.rip_heap.specs.Arrays.{elements_at, with_item, push_item, cut}
 use Rattle.rip_heap.specs.Keys.{is_barred, is_named, index_of, is_underscored}
 use Rattle.rip_heap.specs.Objects.{put}
@@ -18,7 +20,7 @@ use Rattle.rip_heap.specs.World.{World, object_at, class_of}
 use Rattle.rip_members.specs.declared.base.Base.{Base}
 use Rattle.rip_members.specs.declared.base.Base.TheVariants.{Nothing, Primitive, Text as TextBase, Plain as PlainBase, Error as ErrorBase, Array as ArrayBase, Function as FunctionBase, Builtin as BuiltinBase, Host as HostBase}
 use Rattle.rip_members.specs.declared.outcome.Written.{Written}
-use Rattle.rip_members.specs.declared.outcome.Written.TheVariants.{Done, TypeFault, Fault as FaultAnswer, Limit as LimitAnswer, Memory, Host}
+use Rattle.rip_members.specs.declared.outcome.Written.TheVariants.{Done, Host}
 use Rattle.rip_members.specs.Base.{base_of}
 
 -- how a change of a member ends: with the world after it, with a TypeError to be thrown, with a fault, with a limit that
@@ -31,13 +33,13 @@ pub data Writing : Type 0 where
   AsksHost : ℕ → Span → Writing
 
 -- the answer is this end; where nothing is written the world is as before. Of want of memory nothing else is said
-abbrev pub IsWriting : Writing → World → Written → World → Type 0
-IsWriting meant old Done new = meant ≡ Writes new
-IsWriting meant old TypeFault new = (meant ≡ Throws) × (new ≡ old)
-IsWriting meant old (FaultAnswer fault) new = (meant ≡ Faults fault) × (new ≡ old)
-IsWriting meant old (LimitAnswer limit) new = (meant ≡ Exceeds limit) × (new ≡ old)
-IsWriting meant old Memory new = new ≡ old
-IsWriting meant old (Host n name) new = (meant ≡ AsksHost n name) × (new ≡ old)
+abbrev pub IsWriting : Writing → World → Result Written Abrupt → World → Type 0
+IsWriting meant old (Ok Done) new = meant ≡ Writes new
+IsWriting meant old (Ok (Host n name)) new = (meant ≡ AsksHost n name) × (new ≡ old)
+IsWriting meant old (Err TypeError) new = (meant ≡ Throws) × (new ≡ old)
+IsWriting meant old (Err (AtFault fault)) new = (meant ≡ Faults fault) × (new ≡ old)
+IsWriting meant old (Err (AtLimit limit)) new = (meant ≡ Exceeds limit) × (new ≡ old)
+IsWriting meant old (Err Memory) new = new ≡ old
 
 -- a step that costs cells, or that would pass their limit
 abbrev pub stepped : Option World → Writing

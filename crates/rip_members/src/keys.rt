@@ -2,25 +2,24 @@ ghost use Rattle.rip_heap.specs.Growth.{Grows};
 ghost use Rattle.rip_members.specs.Keys.{IsKeying, key_of, indexed, number_key, named};
 
 use crate::base::{Base, base_of};
-use crate::outcome::KeyDone;
-use rip_heap::{Halt, Heap, Key, is_index, to_text};
+use rip_heap::{Abrupt, Heap, Key, is_index, to_text};
 use rip_values::{Value, Whole};
 use std::alloc::Global;
 
 /// The key of a member of the base (ECMA-262 11.2.1): a text, at the charge of the conversion, or of a text or an array
 /// an index, which costs nothing.
-pub fn key_of(alloc: Global, heap: &mut Heap, base: Value, key: Value) -> KeyDone
+pub fn key_of(alloc: Global, heap: &mut Heap, base: Value, key: Value) -> Result<Key, Abrupt>
     ensures keys { IsKeying (key_of heap.old base key) heap.old result heap.new }
     ensures grows { Grows heap.old heap.new }
 {
     match base_of(heap, base) {
-        Base::Nothing => KeyDone::TypeFault,
+        Base::Nothing => Err(Abrupt::TypeError),
         Base::Text(_) | Base::Array(_) => indexed(alloc, heap, key),
         _ => named(alloc, heap, key),
     }
 }
 
-fn indexed(alloc: Global, heap: &mut Heap, key: Value) -> KeyDone
+fn indexed(alloc: Global, heap: &mut Heap, key: Value) -> Result<Key, Abrupt>
     ensures keys { IsKeying (indexed heap.old key) heap.old result heap.new }
     ensures grows { Grows heap.old heap.new }
 {
@@ -30,24 +29,21 @@ fn indexed(alloc: Global, heap: &mut Heap, key: Value) -> KeyDone
     }
 }
 
-fn number_key(alloc: Global, heap: &mut Heap, number: Whole) -> KeyDone
+fn number_key(alloc: Global, heap: &mut Heap, number: Whole) -> Result<Key, Abrupt>
     ensures keys { IsKeying (number_key heap.old number) heap.old result heap.new }
     ensures grows { Grows heap.old heap.new }
 {
     if is_index(number.get()) {
-        KeyDone::Key(Key::Index(number.get() as u32))
+        Ok(Key::Index(number.get() as u32))
     } else {
         named(alloc, heap, Value::Num(number))
     }
 }
 
-fn named(alloc: Global, heap: &mut Heap, key: Value) -> KeyDone
+fn named(alloc: Global, heap: &mut Heap, key: Value) -> Result<Key, Abrupt>
     ensures keys { IsKeying (named heap.old key) heap.old result heap.new }
     ensures grows { Grows heap.old heap.new }
 {
-    match to_text(alloc, heap, key) {
-        Ok(name) => KeyDone::Key(Key::Name(name)),
-        Err(Halt::Fault(fault)) => KeyDone::Fault(fault),
-        Err(Halt::Limit(limit)) => KeyDone::Limit(limit),
-    }
+    let name = to_text(alloc, heap, key)?;
+    Ok(Key::Name(name))
 }

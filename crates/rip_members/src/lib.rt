@@ -11,7 +11,7 @@
 //! | [`key_of`] | `Keys.key_of`; `Keys.IsKeying` says what an answer means |
 //! | [`read`] | `Reading.read`: `Reading.member`, one equation for each kind of base, and `Reading.read_index` |
 //! | [`write`] | `Writing.write`: `Writing.written` and `Writing.write_index`; `Writing.IsWriting` says what an answer means |
-//! | [`delete`] | `Deleting.deleted`: `Deleting.deleted_member` and `Deleting.delete_index` |
+//! | [`delete`] | `Deleting.deleted`: `Deleting.deleted_member` and `Deleting.delete_index`; `Deleting.IsDeleting` says what an answer means |
 //! | [`builtin_of`] | `Calls.builtin_of`; the calls of texts, arrays and `Math` are tables there |
 //!
 //! Laws stand in `Laws`, each the contract of a function: what is written to a plain object is read
@@ -37,6 +37,6 @@ pub use calls::builtin_of;
 pub use deleting::delete;
 pub use keys::key_of;
 pub use laws::{written_elements_are_read, written_members_are_read};
-pub use outcome::{KeyDone, Read, Written};
+pub use outcome::{Read, Written};
 pub use reading::read;
 pub use writing::write;

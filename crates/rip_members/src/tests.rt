@@ -1,7 +1,7 @@
 mod table;
 
 use super::*;
-use rip_heap::{Class, Heap, HeapLimits, Key};
+use rip_heap::{Abrupt, Class, Heap, HeapLimits, Key};
 use rip_values::{Fault, Span, Units, Value, Whole};
 use std::alloc::{AllocError, Global};
 use std::test::Fail;
@@ -120,10 +120,11 @@ fn answer(
     access: Access,
 ) -> Result<String, AllocError> {
     let made = match key_of(alloc, heap, *base, key) {
-        KeyDone::Key(made) => made,
-        KeyDone::TypeFault => return word(alloc, "throws"),
-        KeyDone::Fault(fault) => return word(alloc, fault_word(fault)),
-        KeyDone::Limit(_) => return word(alloc, "limit"),
+        Ok(made) => made,
+        Err(Abrupt::TypeError) => return word(alloc, "throws"),
+        Err(Abrupt::Fault(fault)) => return word(alloc, fault_word(fault)),
+        Err(Abrupt::Limit(_)) => return word(alloc, "limit"),
+        Err(Abrupt::Memory) => return word(alloc, "memory"),
     };
     accessed(alloc, heap, *base, made, access)
 }
@@ -146,7 +147,7 @@ fn accessed(
         }
         Access::Delete => {
             let deleted = delete(heap, base, key);
-            written_cell(alloc, deleted)
+            written_cell(alloc, deleted.map(|()| Written::Done))
         }
     }
 }
@@ -160,14 +161,14 @@ fn cell(alloc: Global, heap: &Heap, answer: Read) -> Result<String, AllocError> 
     }
 }
 
-fn written_cell(alloc: Global, answer: Written) -> Result<String, AllocError> {
+fn written_cell(alloc: Global, answer: Result<Written, Abrupt>) -> Result<String, AllocError> {
     match answer {
-        Written::Done => word(alloc, "done"),
-        Written::TypeFault => word(alloc, "throws"),
-        Written::Fault(fault) => word(alloc, fault_word(fault)),
-        Written::Limit(_) => word(alloc, "limit"),
-        Written::Memory => word(alloc, "memory"),
-        Written::Host { object, name: _ } => format!(in alloc; "host {object}"),
+        Ok(Written::Done) => word(alloc, "done"),
+        Err(Abrupt::TypeError) => word(alloc, "throws"),
+        Err(Abrupt::Fault(fault)) => word(alloc, fault_word(fault)),
+        Err(Abrupt::Limit(_)) => word(alloc, "limit"),
+        Err(Abrupt::Memory) => word(alloc, "memory"),
+        Ok(Written::Host { object, name: _ }) => format!(in alloc; "host {object}"),
     }
 }
 
@@ -242,11 +243,11 @@ fn the_base_is_judged_before_the_key(rt: HostRuntime) -> Result<(), Fail> {
     let alloc = rt.alloc();
     let mut heap = Heap::make(alloc, LIMITS)?;
     let object = Value::Object(heap.new_object(alloc, None)?);
-    let fault = KeyDone::Fault(Fault::ObjectToPrimitive);
+    let fault = Err(Abrupt::Fault(Fault::ObjectToPrimitive));
     assert_eq!(rt; key_of(alloc, &mut heap, object, object), fault);
     assert_eq!(rt;
         key_of(alloc, &mut heap, Value::Null, object),
-        KeyDone::TypeFault
+        Err(Abrupt::TypeError)
     );
     Ok(())
 }
