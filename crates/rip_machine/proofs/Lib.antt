@@ -1,3 +1,4 @@
+pub mod Abruptly
 pub mod Beginnings
 pub mod Children
 pub mod Clauses

@@ -22,7 +22,10 @@ pub fn begun_is_whole<H: Host>(
     host: &H,
     fuel: u64,
 )
-    ensures { (row : Row) → Begins (table (loaded program.now machine.now)) row fuel heap.now machine.now → (k : ℕ) → left H.answers (table (loaded program.now machine.now)) machine.now heap.now host.now k ≡ run_of H.answers (table (loaded program.now machine.now)) machine.now.depth row host.now fuel k }
+    ensures { (row : Row) → Begins (table (loaded program.now machine.now)) row fuel heap.now
+        machine.now → (k : ℕ) → left H.answers (table (loaded program.now machine.now)) machine.now
+        heap.now host.now k ≡ run_of H.answers (table (loaded program.now machine.now))
+        machine.now.depth row host.now fuel k }
 {
     let _ = machine;
     let _ = program;
@@ -40,7 +43,9 @@ pub fn started_runs_on<H: Host>(
     host: &H,
     fuel: u64,
 )
-    ensures { (start : Started) (w : World) (depth : ℕ) → RunsOn H.answers (loaded program.now machine.now) depth start w host.now fuel heap.now machine.now }
+    ensures { (start : Started) (w : World) (depth : ℕ)
+        → RunsOn H.answers (loaded program.now machine.now) depth start w host.now fuel heap.now
+        machine.now }
 {
     let _ = machine;
     let _ = program;

@@ -40,7 +40,8 @@ fn literals_fit(program: &Program, room: u32) -> bool
 
 /// Whether the units used and the text literals of a program together pass no limit.
 pub(crate) fn fits(program: &Program, heap: &Heap) -> bool
-    ensures { IsTrue result ↔ (heap.now.pool.used + cost_of_literals program.now ≤ heap.now.pool.limit) }
+    ensures { IsTrue result ↔ (heap.now.pool.used + cost_of_literals program.now ≤
+        heap.now.pool.limit) }
 {
     match heap.pool().limit().checked_sub(heap.pool().used()) {
         Some(room) => literals_fit(program, room),
@@ -52,7 +53,8 @@ pub(crate) fn fits(program: &Program, heap: &Heap) -> bool
 
 /// Adds the key of an entry as a name.
 fn add_key(alloc: Global, program: &Program, heap: &mut Heap, key: &Key) -> Result<Span, NoMemory>
-    ensures added { IfOk result (λ span. (span, heap.new) ≡ name_added heap.old (key_text program.now.grove.units key.now)) }
+    ensures added { IfOk result (λ span. (span, heap.new)
+        ≡ name_added heap.old (key_text program.now.grove.units key.now)) }
     ensures cells { heap.new.cells ≡ heap.old.cells }
     ensures grows { Grows heap.old heap.new }
 {
@@ -74,7 +76,8 @@ fn add_form(
     heap: &mut Heap,
     form: &Form,
 ) -> Result<Span, NoMemory>
-    ensures span { IfOk result (λ span. span ≡ span_from (length heap.old.pool.units) (form_text program.now.grove.units form.now)) }
+    ensures span { IfOk result (λ span. span ≡ span_from (length heap.old.pool.units)
+        (form_text program.now.grove.units form.now)) }
     ensures added { OnOk result (heap.new ≡ with_form program.now.grove.units form.now heap.old) }
     ensures cells { heap.new.cells ≡ heap.old.cells }
     ensures grows { Grows heap.old heap.new }
@@ -135,7 +138,8 @@ fn count_children(p: &Source, id: u32) -> Result<u32, NoMemory>
 
 /// How many children a call has; of another node 0.
 fn call_length(p: &Source, id: u32) -> Result<u32, NoMemory>
-    ensures { IfOk result (λ count. count ≡ (if is_call (form_of p.now id) then length (children_from p.now id 0) else 0)) }
+    ensures { IfOk result (λ count. count ≡ (if is_call (form_of p.now id)
+        then length (children_from p.now id 0) else 0)) }
 {
     if !is_call(&p.form(id)) {
         return Ok(0);
@@ -156,10 +160,16 @@ fn longest_call(p: &Source) -> Result<u32, NoMemory>
 }
 
 /// How many values may stand beside open frames. What 32 bits cannot count is want of memory.
-pub(crate) fn values_needed(program: &Program, depth: u32, heap: &Heap) -> Result<u32, NoMemory>
+pub(crate) fn values_needed(
+    alloc: Global,
+    program: &Program,
+    depth: u32,
+    heap: &Heap,
+) -> Result<u32, NoMemory>
     ensures { IfOk result (λ values. values ≡ values_needed program.now depth heap.now) }
 {
     let p = Source {
+        alloc,
         program,
         literals: &[],
     };

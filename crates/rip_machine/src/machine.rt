@@ -38,7 +38,15 @@ impl Machine {
     /// A machine with no run and no program loaded, for runs that nest so deep. A depth that 32 bits cannot count with one
     /// more is want of memory.
     pub fn make(alloc: Global, depth: u32) -> Result<Machine, NoMemory>
-        ensures { IfOk result (λ machine. machine ≡ record { control = Control.Give (Completion.Normal Value.Undefined); frames = []; fuel = 0; spent = 0; depth = depth; literals = []; value_room = 0 }) }
+        ensures { IfOk result (λ machine. machine ≡ record {
+          control = Control.Give (Completion.Normal Value.Undefined);
+          frames = [];
+          fuel = 0;
+          spent = 0;
+          depth = depth;
+          literals = [];
+          value_room = 0;
+        }) }
     {
         Ok(Machine {
             run: Run::make(alloc, depth)?,
@@ -58,7 +66,7 @@ impl Machine {
         if !fits(program, heap) {
             return Err(Refused::Limit(Limit::Units));
         }
-        let values = values_needed(program, self.run.greatest_depth(), heap)?;
+        let values = values_needed(alloc, program, self.run.greatest_depth(), heap)?;
         self.run.reserve(values)?;
         self.literals = load_texts(alloc, program, heap)?;
         Ok(())
@@ -92,16 +100,20 @@ impl Machine {
         s: &Start<'_>,
         fuel: u64,
     ) -> Result<(), Refused>
-        ensures keeps { (self.new.literals ≡ self.old.literals) × (self.new.depth ≡ self.old.depth) }
+        ensures keeps { (self.new.literals ≡ self.old.literals)
+            × (self.new.depth ≡ self.old.depth) }
         ensures nested { IsInside (self.new.depth + 1) self.new.control self.new.frames }
-        ensures starts { Starts (table (loaded program.now self.old)) (begun (loaded program.now self.old) self.old.depth s.now heap.old) fuel heap.old heap.new self.old self.new result }
+        ensures starts { Starts (table (loaded program.now self.old))
+            (begun (loaded program.now self.old) self.old.depth s.now heap.old) fuel heap.old
+            heap.new self.old self.new result }
         ensures grows { Grows heap.old heap.new }
     {
         let p = Source {
+            alloc,
             program,
             literals: self.literals.as_slice(),
         };
-        start_run(&mut self.run, alloc, &p, heap, s, fuel)
+        start_run(&mut self.run, &p, heap, s, fuel)
     }
 
     /// Goes on with the run for at most `n` units.
@@ -115,17 +127,20 @@ impl Machine {
     ) -> Turned
         requires { H.fits host.old heap.old }
         ensures fits { H.fits host.new heap.new }
-        ensures keeps { (self.new.literals ≡ self.old.literals) × (self.new.depth ≡ self.old.depth) }
+        ensures keeps { (self.new.literals ≡ self.old.literals)
+            × (self.new.depth ≡ self.old.depth) }
         ensures nested { IsInside (self.new.depth + 1) self.new.control self.new.frames }
         ensures counted { self.new.spent + self.new.fuel ≡ self.old.spent + self.old.fuel }
         ensures later { self.old.spent ≤ self.new.spent }
         ensures grows { Grows heap.old heap.new }
-        ensures law { Resumes H.answers (table (loaded program.now self.old)) self.old heap.old host.old n self.new heap.new host.new result }
+        ensures law { Resumes H.answers (table (loaded program.now self.old)) self.old heap.old
+            host.old n self.new heap.new host.new result }
     {
         let p = Source {
+            alloc,
             program,
             literals: self.literals.as_slice(),
         };
-        self.run.resume(&p, alloc, heap, host, n)
+        self.run.resume(&p, heap, host, n)
     }
 }

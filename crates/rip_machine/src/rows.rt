@@ -20,7 +20,7 @@ pub(crate) mod statements;
 pub(crate) mod switch;
 pub(crate) mod unary;
 
-use crate::rows::answers::{end, give};
+use crate::rows::answers::{Answer, end, give};
 use crate::rows::assignment::{
     after_assign_target, after_assign_value, after_compound_target, after_compound_value,
     after_step_target, begin_assign, begin_compound, begin_step,
@@ -56,15 +56,14 @@ use rip_heap::{Heap, Host};
 use rip_runs::{Completion, Frame, HostedWait, Next, OwnWait, Part, Rows, Wait};
 use rip_tree::Form;
 use rip_values::{NoMemory, Value};
-use std::alloc::Global;
 
 impl Rows for Source<'_> {
     ghost use Rattle.rip_machine.specs.Table.{table as table_of};
 
     ghost table = { table_of };
 
-    fn begin(&self, alloc: Global, heap: &mut Heap, at: &Part) -> Result<Next, NoMemory> {
-        begin_form(alloc, self, heap, at, &self.form(at.node))
+    fn begin(&self, heap: &mut Heap, at: &Part) -> Answer {
+        begin_form(self, heap, at, &self.form(at.node))
     }
 
     fn value_at_once(&self, heap: &Heap, at: &Part) -> Option<Value> {
@@ -73,30 +72,21 @@ impl Rows for Source<'_> {
 
     fn finish<H: Host>(
         &self,
-        alloc: Global,
         heap: &mut Heap,
         host: &mut H,
         frame: &Frame,
         values: &[Value],
         c: &Completion,
-    ) -> Result<Next, NoMemory> {
+    ) -> Answer {
         match &frame.wait {
-            Wait::Own(wait) => finish_own(alloc, self, heap, &frame.at, wait, values, c),
-            Wait::Hosted(wait) => {
-                finish_hosted(alloc, self, heap, host, &frame.at, wait, values, c)
-            },
+            Wait::Own(wait) => finish_own(self, heap, &frame.at, wait, values, c),
+            Wait::Hosted(wait) => { finish_hosted(self, heap, host, &frame.at, wait, values, c) },
         }
     }
 }
 
 /// What a part does that was entered, by the form of its node.
-fn begin_form(
-    alloc: Global,
-    p: &Source,
-    heap: &mut Heap,
-    at: &Part,
-    form: &Form,
-) -> Result<Next, NoMemory>
+fn begin_form(p: &Source, heap: &mut Heap, at: &Part, form: &Form) -> Answer
     ensures row { Does p.now at.now result heap.new (row_by p.now at.now form.now heap.old) }
     ensures grows { Grows heap.old heap.new }
 {
@@ -106,8 +96,8 @@ fn begin_form(
         Form::Boolean(b) => give(Value::Bool(*b)),
         Form::Number(number) => give(Value::Num(*number)),
         Form::Text(_) => give(Value::Text(p.literal(at.node))),
-        Form::Name(_) => begin_name(alloc, p, heap, at),
-        Form::Function(_) => begin_function(alloc, p, heap, at),
+        Form::Name(_) => begin_name(p, heap, at),
+        Form::Function(_) => begin_function(p, heap, at),
         Form::Call => begin_call(p, at),
         Form::Unary(_) => begin_unary(p, at),
         Form::Postfix(_) | Form::Prefix(_) => begin_step(p, at),
@@ -127,8 +117,8 @@ fn begin_form(
         Form::Continue => end(&Completion::Continued),
         Form::Break => end(&Completion::Broken),
         Form::Return => begin_return(p, at),
-        Form::Array => begin_array(alloc, p, heap, at),
-        Form::Object => begin_object(alloc, p, heap, at),
+        Form::Array => begin_array(p, heap, at),
+        Form::Object => begin_object(p, heap, at),
         Form::Switch => begin_switch(p, at),
         Form::Throw => begin_throw(p, at),
         Form::Try => begin_try(p, at),
@@ -141,20 +131,20 @@ fn begin_form(
 
 /// What is done where a part waited, and the host is asked for nothing before its next part.
 fn finish_own(
-    alloc: Global,
     p: &Source,
     heap: &mut Heap,
     at: &Part,
     wait: &OwnWait,
     values: &[Value],
     c: &Completion,
-) -> Result<Next, NoMemory>
-    ensures row { DoesBeside p.now at.now values.now result heap.new (own_rest p.now at.now wait.now values.now c.now heap.old) }
+) -> Answer
+    ensures row { DoesBeside p.now at.now values.now result heap.new
+        (own_rest p.now at.now wait.now values.now c.now heap.old) }
     ensures grows { Grows heap.old heap.new }
 {
     match wait {
         OwnWait::Statement { place, ending } => after_statement(p, at, *place, *ending, c),
-        OwnWait::Initialiser { place } => after_initialiser(alloc, p, heap, at, *place, c),
+        OwnWait::Initialiser { place } => after_initialiser(p, heap, at, *place, c),
         OwnWait::Expression => after_expression(c),
         OwnWait::IfTest => after_if_test(p, heap, at, c),
         OwnWait::DoBody => after_do_body(p, at, c),
@@ -166,13 +156,13 @@ fn finish_own(
         OwnWait::ForUpdate => after_for_update(p, at, c),
         OwnWait::ForBody => after_for_body(p, at, c),
         OwnWait::ReturnValue => after_return_value(c),
-        OwnWait::Constructor => after_constructor(alloc, p, heap, at, c),
+        OwnWait::Constructor => after_constructor(p, heap, at, c),
         OwnWait::NewArgument { place, constructor } => {
-            after_new_argument(alloc, p, heap, at, *place, constructor, values, c)
+            after_new_argument(p, heap, at, *place, constructor, values, c)
         },
-        OwnWait::Operand => after_operand(alloc, p, heap, at, c),
+        OwnWait::Operand => after_operand(p, heap, at, c),
         OwnWait::Left => after_left(p, at, c),
-        OwnWait::Right { left } => after_right(alloc, p, heap, at, *left, c),
+        OwnWait::Right { left } => after_right(p, heap, at, *left, c),
         OwnWait::LogicalLeft => after_logical_left(p, heap, at, c),
         OwnWait::ConditionalTest => after_conditional_test(p, heap, at, c),
         OwnWait::AssignTarget => after_assign_target(p, at, c),
@@ -184,18 +174,17 @@ fn finish_own(
             after_clause_statement(p, at, *clause, *place, c)
         },
         OwnWait::ThrowValue => after_throw_value(c),
-        OwnWait::TryBlock => after_try_block(alloc, p, heap, at, c),
+        OwnWait::TryBlock => after_try_block(p, heap, at, c),
         OwnWait::CatchBlock => finally(p, at, c),
         OwnWait::FinallyBlock { before } => after_finally_block(before, c),
-        OwnWait::Element { place, array } => after_element(alloc, p, heap, at, *place, *array, c),
-        OwnWait::Entry { place, object } => after_entry(alloc, p, heap, at, *place, *object, c),
+        OwnWait::Element { place, array } => after_element(p, heap, at, *place, *array, c),
+        OwnWait::Entry { place, object } => after_entry(p, heap, at, *place, *object, c),
         OwnWait::IndexBase => after_index_base(p, at, c),
     }
 }
 
 /// The same where the host may be asked. Its calls with which the row goes on are made.
 fn finish_hosted<H: Host>(
-    alloc: Global,
     p: &Source,
     heap: &mut Heap,
     host: &mut H,
@@ -203,31 +192,30 @@ fn finish_hosted<H: Host>(
     wait: &HostedWait,
     values: &[Value],
     c: &Completion,
-) -> Result<Next, NoMemory>
+) -> Answer
     requires { H.fits host.old heap.old }
-    ensures row { DoesBesideWithHost H.answers p.now at.now values.now result heap.new host.new (hosted_rest p.now at.now wait.now values.now c.now heap.old) host.old }
+    ensures row { DoesBesideWithHost H.answers p.now at.now values.now result heap.new host.new
+        (hosted_rest p.now at.now wait.now values.now c.now heap.old) host.old }
     ensures fits { H.fits host.new heap.new }
     ensures grows { Grows heap.old heap.new }
 {
     match wait {
-        HostedWait::Callee => after_callee(alloc, p, heap, host, at, c),
+        HostedWait::Callee => after_callee(p, heap, host, at, c),
         HostedWait::Argument {
             place,
             callee,
             this,
-        } => { after_argument(alloc, p, heap, host, at, *place, callee, this, values, c) },
+        } => { after_argument(p, heap, host, at, *place, callee, this, values, c) },
         HostedWait::Called { function, this } => {
-            after_called(alloc, p, heap, host, at, *function, this, values)
+            after_called(p, heap, host, at, *function, this, values)
         },
-        HostedWait::MemberBase => after_member_base(alloc, p, heap, host, at, c),
-        HostedWait::Subscript { base } => after_subscript(alloc, p, heap, host, at, base, c),
-        HostedWait::StepTarget => after_step_target(alloc, p, heap, host, at, c),
-        HostedWait::AssignValue { target } => {
-            after_assign_value(alloc, p, heap, host, at, target, c)
-        },
-        HostedWait::CompoundTarget => after_compound_target(alloc, p, heap, host, at, c),
+        HostedWait::MemberBase => after_member_base(p, heap, host, at, c),
+        HostedWait::Subscript { base } => after_subscript(p, heap, host, at, base, c),
+        HostedWait::StepTarget => after_step_target(p, heap, host, at, c),
+        HostedWait::AssignValue { target } => { after_assign_value(p, heap, host, at, target, c) },
+        HostedWait::CompoundTarget => after_compound_target(p, heap, host, at, c),
         HostedWait::CompoundValue { target, old } => {
-            after_compound_value(alloc, p, heap, host, at, target, old, c)
+            after_compound_value(p, heap, host, at, target, old, c)
         },
     }
 }

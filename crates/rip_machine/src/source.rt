@@ -5,11 +5,14 @@ ghost use Rattle.rip_machine.specs.Reading.{child, child_at, form_of, is_postfix
 use rip_runs::{Inner, Part, Role};
 use rip_tree::{Form, Program, Scoping};
 use rip_values::{BinaryOperator, LogicalOperator, Span, StepOperator, UnaryOperator};
+use std::alloc::Global;
 use std::marker::Model;
 
-/// A program whose literals are loaded, as the rows read it: of each node that is a text, its span.
+/// A program whose literals are loaded, as the rows read it: of each node that is a text, its span. What rows make is
+/// allocated here.
 #[derive(Drop)]
 pub(crate) struct Source<'a> {
+    pub alloc: Global,
     pub program: &'a Program,
     pub literals: &'a [Span],
 }
@@ -23,6 +26,10 @@ impl<'a> Model for Source<'a> {
 }
 
 impl Source<'_> {
+    pub fn alloc(&self) -> Global {
+        self.alloc
+    }
+
     /// How many nodes the program has.
     pub fn count(&self) -> u32
         ensures { result ≡ length self.now.code.grove.branches }

@@ -35,7 +35,9 @@ fn stand_at(
     fuel: u64,
 ) -> Result<(), Refused>
     requires { at.now.room ≡ run.old.depth + 1 }
-    ensures begins { OnOk result (MatchResult next.now (λ next. (t : Table) (w : World) → Begins t (as_row t at.now next [] w) fuel w run.new) (λ _. ⊥)) }
+    ensures begins { OnOk result (MatchResult next.now
+        (λ next. (t : Table) (w : World) → Begins t (as_row t at.now next [] w) fuel w run.new)
+        (λ _. ⊥)) }
     ensures memory { IfErr result (λ refused. refused ≡ Refused.Memory) }
     ensures depth { run.new.depth ≡ run.old.depth }
     ensures nested { IsInside (run.new.depth + 1) run.new.control run.new.frames }
@@ -53,43 +55,44 @@ fn stand_at(
 /// Begins a run of a script or of a function.
 pub(crate) fn start_run(
     run: &mut Run,
-    alloc: Global,
     p: &Source,
     heap: &mut Heap,
     s: &Start<'_>,
     fuel: u64,
 ) -> Result<(), Refused>
-    ensures starts { StartsRun (table p.now) (begun p.now run.old.depth s.now heap.old) fuel heap.old heap.new run.old run.new result }
+    ensures starts { StartsRun (table p.now) (begun p.now run.old.depth s.now heap.old) fuel
+        heap.old heap.new run.old run.new result }
     ensures depth { run.new.depth ≡ run.old.depth }
     ensures nested { IsInside (run.new.depth + 1) run.new.control run.new.frames }
     ensures grows { Grows heap.old heap.new }
 {
     match s {
-        Start::Script(script) => start_script(run, alloc, p, heap, *script, fuel),
+        Start::Script(script) => start_script(run, p, heap, *script, fuel),
         Start::Function {
             function,
             this,
             args,
-        } => start_function(run, alloc, p, heap, *function, this, args, fuel),
+        } => start_function(run, p, heap, *function, this, args, fuel),
     }
 }
 
 /// Begins the run of a script, at its first statement.
 fn start_script(
     run: &mut Run,
-    alloc: Global,
     p: &Source,
     heap: &mut Heap,
     script: u32,
     fuel: u64,
 ) -> Result<(), Refused>
-    ensures starts { StartsRun (table p.now) (script_begun p.now run.old.depth (root_of p.now.code.grove script) (script_entered p.now script heap.old)) fuel heap.old heap.new run.old run.new result }
+    ensures starts { StartsRun (table p.now) (script_begun p.now run.old.depth
+        (root_of p.now.code.grove script) (script_entered p.now script heap.old)) fuel heap.old
+        heap.new run.old run.new result }
     ensures depth { run.new.depth ≡ run.old.depth }
     ensures nested { IsInside (run.new.depth + 1) run.new.control run.new.frames }
     ensures grows { Grows heap.old heap.new }
 {
     let depth = run.greatest_depth();
-    match enter_script(alloc, p, heap, script) {
+    match enter_script(p, heap, script) {
         Ok(true) => {
             let at = script_part(p.root(script), depth);
             let first = statements(p, &at, Ending::Script, 0);
@@ -103,7 +106,6 @@ fn start_script(
 /// Begins the call of an object, as it is called from outside a script.
 fn start_function(
     run: &mut Run,
-    alloc: Global,
     p: &Source,
     heap: &mut Heap,
     function: u32,
@@ -111,17 +113,17 @@ fn start_function(
     args: &[Value],
     fuel: u64,
 ) -> Result<(), Refused>
-    ensures starts { StartsRun (table p.now) (call_begun p.now run.old.depth this.now args.now (callable heap.old (Value.Object function)) heap.old) fuel heap.old heap.new run.old run.new result }
+    ensures starts { StartsRun (table p.now) (call_begun p.now run.old.depth this.now args.now
+        (callable heap.old (Value.Object function)) heap.old) fuel heap.old heap.new run.old run.new
+        result }
     ensures depth { run.new.depth ≡ run.old.depth }
     ensures nested { IsInside (run.new.depth + 1) run.new.control run.new.frames }
     ensures grows { Grows heap.old heap.new }
 {
     match callable(heap, &Value::Object(function)) {
-        Invocable::OfScript(f, scope) => {
-            start_call(run, alloc, p, heap, (f, scope), this, args, fuel)
-        },
+        Invocable::OfScript(f, scope) => { start_call(run, p, heap, (f, scope), this, args, fuel) },
         Invocable::OfBuiltin(b) => start_builtin(run, heap, b, this, args, fuel),
-        Invocable::NotCallable => start_throw(run, alloc, heap, this, args, fuel),
+        Invocable::NotCallable => start_throw(run, p.alloc(), heap, this, args, fuel),
     }
 }
 
@@ -142,7 +144,6 @@ fn outside(depth: u32, this: &Value) -> Part
 /// Begins the call of a function of the script, at its first statement.
 fn start_call(
     run: &mut Run,
-    alloc: Global,
     p: &Source,
     heap: &mut Heap,
     function: (u32, u32),
@@ -150,7 +151,9 @@ fn start_call(
     args: &[Value],
     fuel: u64,
 ) -> Result<(), Refused>
-    ensures starts { StartsRun (table p.now) (call_begun p.now run.old.depth this.now args.now (Invocable.OfScript function.0 function.1) heap.old) fuel heap.old heap.new run.old run.new result }
+    ensures starts { StartsRun (table p.now) (call_begun p.now run.old.depth this.now args.now
+        (Invocable.OfScript function.0 function.1) heap.old) fuel heap.old heap.new run.old run.new
+        result }
     ensures depth { run.new.depth ≡ run.old.depth }
     ensures nested { IsInside (run.new.depth + 1) run.new.control run.new.frames }
     ensures grows { Grows heap.old heap.new }
@@ -160,7 +163,7 @@ fn start_call(
         return Err(Refused::Limit(Limit::Depth));
     }
     let (f, scope) = function;
-    match enter_with(alloc, p, heap, f, scope, args) {
+    match enter_with(p, heap, f, scope, args) {
         Ok(Some(made)) => {
             let at = outside(depth, this);
             let first = call_statements(p, &at, &running(f, made, this), Ending::Call);
@@ -173,14 +176,15 @@ fn start_call(
 
 /// The scope of a function that is entered with these arguments; none where the charge would pass the limit.
 fn enter_with(
-    alloc: Global,
     p: &Source,
     heap: &mut Heap,
     f: u32,
     scope: u32,
     args: &[Value],
 ) -> Result<Option<u32>, NoMemory>
-    ensures entered { IfOk result (λ made. MatchOption made (function_entered p.now f scope args.now heap.old ≡ None) (λ s. function_entered p.now f scope args.now heap.old ≡ Some (s, heap.new))) }
+    ensures entered { IfOk result (λ made. MatchOption made
+        (function_entered p.now f scope args.now heap.old ≡ None)
+        (λ s. function_entered p.now f scope args.now heap.old ≡ Some (s, heap.new))) }
     ensures kept { IfOk result (λ made. MatchOption made (heap.new ≡ heap.old) (λ _. ⊤)) }
     ensures grows { Grows heap.old heap.new }
 {
@@ -188,7 +192,7 @@ fn enter_with(
         values: args,
         last: None,
     };
-    enter_function(alloc, p, heap, f, scope, &args)
+    enter_function(p, heap, f, scope, &args)
 }
 
 /// Charges the arguments of a built-in function, and stands where it is called from outside.
@@ -200,7 +204,10 @@ fn start_builtin(
     args: &[Value],
     fuel: u64,
 ) -> Result<(), Refused>
-    ensures starts { (p : Loaded) → StartsRun (table p) (builtin_begun p run.old.depth b this.now args.now (charging (length args.now) heap.old (λ x. x))) fuel heap.old heap.new run.old run.new result }
+    ensures starts { (p : Loaded) → StartsRun (table p)
+        (builtin_begun p run.old.depth b this.now args.now
+        (charging (length args.now) heap.old (λ x. x))) fuel heap.old heap.new run.old run.new
+        result }
     ensures depth { run.new.depth ≡ run.old.depth }
     ensures nested { IsInside (run.new.depth + 1) run.new.control run.new.frames }
     ensures grows { Grows heap.old heap.new }
@@ -232,7 +239,9 @@ fn start_throw(
     args: &[Value],
     fuel: u64,
 ) -> Result<(), Refused>
-    ensures starts { (p : Loaded) → StartsRun (table p) (call_begun p run.old.depth this.now args.now Invocable.NotCallable heap.old) fuel heap.old heap.new run.old run.new result }
+    ensures starts { (p : Loaded) → StartsRun (table p)
+        (call_begun p run.old.depth this.now args.now Invocable.NotCallable heap.old) fuel heap.old
+        heap.new run.old run.new result }
     ensures depth { run.new.depth ≡ run.old.depth }
     ensures nested { IsInside (run.new.depth + 1) run.new.control run.new.frames }
     ensures grows { Grows heap.old heap.new }

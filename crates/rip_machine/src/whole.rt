@@ -24,7 +24,8 @@ impl Machine {
     ) -> Result<Outcome, Refused>
         requires { H.fits host.old heap.old }
         ensures fits { H.fits host.new heap.new }
-        ensures runs { Ran H.answers (loaded program.now self.old) self.old.depth (started_of s.now) heap.old host.old fuel self.new heap.new host.new result }
+        ensures runs { Ran H.answers (loaded program.now self.old) self.old.depth (started_of s.now)
+            heap.old host.old fuel self.new heap.new host.new result }
         ensures grows { Grows heap.old heap.new }
     {
         self.start(alloc, program, heap, s, fuel)?;

@@ -10,7 +10,8 @@ ghost use Rattle.rip_machine.specs.Worked.{counting, closing, shows, Ended, Stop
 pub fn counting_is_worked()
     ensures ends { shows counting 100 29 29 0 ≡ Some (Ended 0 2 (Some (Num (pos 3)))) }
     ensures more { shows counting 100 40 40 0 ≡ Some (Ended 11 2 (Some (Num (pos 3)))) }
-    ensures spent { shows counting 100 28 28 0 ≡ Some (Stopped (AtLimit Fuel) 2 2 (Some (Num (pos 3)))) }
+    ensures spent { shows counting 100 28 28 0 ≡ Some
+        (Stopped (AtLimit Fuel) 2 2 (Some (Num (pos 3)))) }
     ensures eleven { shows counting 100 29 11 0 ≡ Some (Open 4 2 (Some (Num (pos 0)))) }
     ensures twelve { shows counting 100 29 12 0 ≡ Some (Open 1 2 (Some (Num (pos 1)))) }
 {}

@@ -4,10 +4,9 @@ use crate::next::Next;
 use crate::part::Part;
 use rip_heap::{Heap, Host};
 use rip_values::{NoMemory, Value};
-use std::alloc::Global;
 
 /// The rows of a program, as code. What the table of its meaning says, these do, each time up to the next part. No error but
-/// want of memory has a place here: a fault and a limit are a `Next`.
+/// want of memory has a place here: a fault and a limit are a `Next`. Whoever has the rows has the allocator too.
 pub trait Rows {
     ghost use Rattle.std.specs.Prelude.{◌≡◌, ⊤, List, IfOk, MatchOption};
     ghost use Rattle.rip_values.specs.declared.value.Value.{Value as ScriptValue};
@@ -21,20 +20,22 @@ pub trait Rows {
     ghost table: { Self → Table };
 
     /// What a part does that is entered. Some depth is left for it.
-    fn begin(&self, alloc: Global, heap: &mut Heap, at: &Part) -> Result<Next, NoMemory>
-        ensures row { IfOk result (λ next. (values : List ScriptValue) → as_row (table self.now) at.now next values heap.new ≡ (table self.now).row at.now heap.old) }
+    fn begin(&self, heap: &mut Heap, at: &Part) -> Result<Next, NoMemory>
+        ensures row { IfOk result (λ next. (values : List ScriptValue)
+            → as_row (table self.now) at.now next values heap.new
+            ≡ (table self.now).row at.now heap.old) }
         ensures grows { Grows heap.old heap.new };
 
     /// The value of a part whose row ends with it at once and changes nothing. Of any part it may be none, and then the row
     /// is asked.
     fn value_at_once(&self, heap: &Heap, at: &Part) -> Option<Value>
-        ensures { MatchOption result ⊤ (λ v. (table self.now).row at.now heap.now ≡ Ends (Completion.Normal v) heap.now) };
+        ensures { MatchOption result ⊤ (λ v. (table self.now).row at.now heap.now
+            ≡ Ends (Completion.Normal v) heap.now) };
 
     /// What an open part does with the completion of the part that it waits for, where these values are beside its frame.
     /// The calls of the host with which its row goes on are made.
     fn finish<H: Host>(
         &self,
-        alloc: Global,
         heap: &mut Heap,
         host: &mut H,
         frame: &Frame,
@@ -42,7 +43,12 @@ pub trait Rows {
         c: &Completion,
     ) -> Result<Next, NoMemory>
         requires { H.fits host.old heap.old }
-        ensures row { IfOk result (λ next. (as_row (table self.now) frame.now.at next values.now heap.new, host.new) ≡ settle H.answers ((table self.now).rest (framed frame.now values.now) c.now heap.old) host.old) }
+        ensures row { IfOk result (λ next. (
+          as_row (table self.now) frame.now.at next values.now
+              heap.new,
+          host.new,
+        ) ≡ settle H.answers ((table self.now).rest
+            (framed frame.now values.now) c.now heap.old) host.old) }
         ensures fits { H.fits host.new heap.new }
         ensures grows { Grows heap.old heap.new };
 }

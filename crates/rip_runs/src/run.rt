@@ -51,7 +51,14 @@ impl Model for Run {
 impl Run {
     /// Nothing runs yet. Runs may nest so deep; a depth that 32 bits cannot count with one more is want of memory.
     pub fn make(alloc: Global, depth: u32) -> Result<Run, NoMemory>
-        ensures { IfOk result (λ run. run ≡ record { control = Control.Give (Completion.Normal Value.Undefined); frames = []; fuel = 0; spent = 0; depth = depth; value_room = 0 }) }
+        ensures { IfOk result (λ run. run ≡ record {
+          control = Control.Give (Completion.Normal Value.Undefined);
+          frames = [];
+          fuel = 0;
+          spent = 0;
+          depth = depth;
+          value_room = 0;
+        }) }
     {
         if depth == u32::MAX {
             return Err(NoMemory);
@@ -67,7 +74,8 @@ impl Run {
 
     /// Takes the room for so many values beside frames in all, where there is less.
     pub fn reserve(&mut self, values: u32) -> Result<(), NoMemory>
-        ensures ok { OnOk result (self.new ≡ record self.old { value_room = max self.old.value_room values }) }
+        ensures ok { OnOk result (self.new ≡ record self.old
+            { value_room = max self.old.value_room values }) }
         ensures err { OnErr result (self.new ≡ self.old) }
     {
         let _ = &self.depth;
@@ -116,7 +124,8 @@ impl Run {
     /// Stands at the beginning of a run with so much fuel: at what a part does next that has all the depth.
     pub fn begin(&mut self, at: &Part, next: &Next, fuel: u64) -> Result<(), NoMemory>
         requires { at.now.room ≡ self.old.depth + 1 }
-        ensures begins { OnOk result ((t : Table) (w : World) → Begins t (as_row t at.now next.now [] w) fuel w self.new) }
+        ensures begins { OnOk result ((t : Table) (w : World)
+            → Begins t (as_row t at.now next.now [] w) fuel w self.new) }
         ensures nested { IsInside (self.new.depth + 1) self.new.control self.new.frames }
         ensures depth { self.new.depth ≡ self.old.depth }
     {
@@ -136,7 +145,9 @@ impl Run {
         fuel: u64,
     ) -> Result<(), NoMemory>
         requires { frame.now.at.room ≡ self.old.depth + 1 }
-        ensures begins { OnOk result ((t : Table) (w : World) → Begins t (t.rest (framed frame.now values.now) (Completion.Normal Value.Undefined) w) fuel w self.new) }
+        ensures begins { OnOk result ((t : Table) (w : World)
+            → Begins t (t.rest (framed frame.now values.now) (Completion.Normal Value.Undefined) w)
+            fuel w self.new) }
         ensures nested { IsInside (self.new.depth + 1) self.new.control self.new.frames }
         ensures depth { self.new.depth ≡ self.old.depth }
     {
@@ -156,7 +167,6 @@ impl Run {
     pub fn resume<R: Rows, H: Host>(
         &mut self,
         rows: &R,
-        alloc: Global,
         heap: &mut Heap,
         host: &mut H,
         n: u64,
@@ -168,19 +178,12 @@ impl Run {
         ensures counted { self.new.spent + self.new.fuel ≡ self.old.spent + self.old.fuel }
         ensures later { self.old.spent ≤ self.new.spent }
         ensures grows { Grows heap.old heap.new }
-        ensures law { Resumes H.answers (R.table rows.now) self.old heap.old host.old n self.new heap.new host.new result }
+        ensures law { Resumes H.answers (R.table rows.now) self.old heap.old host.old n self.new
+            heap.new host.new result }
     {
         let budget = n.min(self.fuel);
         let more = n < self.fuel;
-        match steps(
-            rows,
-            alloc,
-            heap,
-            host,
-            &mut self.stack,
-            &mut self.control,
-            budget,
-        ) {
+        match steps(rows, heap, host, &mut self.stack, &mut self.control, budget) {
             Ok(left) => {
                 let used = budget - left;
                 self.fuel -= used;

@@ -71,7 +71,9 @@ impl Stack {
 
     /// The innermost frame.
     pub fn top(&self) -> Option<&Frame>
-        ensures { MatchOption result (self.now.frames ≡ []) (λ frame. self.now.frames ≡ without_last self.now.frames ++ framed frame.now (last_values self.now.frames) ∷ []) }
+        ensures { MatchOption result (self.now.frames ≡ [])
+            (λ frame. self.now.frames ≡ without_last self.now.frames
+            ++ framed frame.now (last_values self.now.frames) ∷ []) }
     {
         match last_of(&self.entries) {
             Some(entry) => Some(&entry.frame),
@@ -93,7 +95,8 @@ impl Stack {
     pub fn push(&mut self, frame: Frame) -> Result<(), Limit>
         ensures room { IsOk result ↔ (length self.old.frames < self.old.most) }
         ensures depth { IfErr result (λ limit. limit ≡ Limit.Depth) }
-        ensures pushed { OnOk result (self.new ≡ record self.old { frames = self.old.frames ++ framed frame [] ∷ [] }) }
+        ensures pushed { OnOk result (self.new ≡ record self.old
+            { frames = self.old.frames ++ framed frame [] ∷ [] }) }
         ensures kept { OnErr result (self.new ≡ self.old) }
     {
         if self.entries.len() >= self.most as usize {
@@ -105,7 +108,9 @@ impl Stack {
 
     /// Takes the innermost frame and its values away.
     pub fn pop(&mut self) -> Option<Frame>
-        ensures frame { MatchOption result (self.old.frames ≡ []) (λ frame. self.old.frames ≡ without_last self.old.frames ++ framed frame (last_values self.old.frames) ∷ []) }
+        ensures frame { MatchOption result (self.old.frames ≡ [])
+            (λ frame. self.old.frames ≡ without_last self.old.frames
+            ++ framed frame (last_values self.old.frames) ∷ []) }
         ensures popped { self.new ≡ record self.old { frames = without_last self.old.frames } }
     {
         let frame = self.top().copied();
@@ -126,7 +131,8 @@ impl Stack {
 
     /// Puts a frame with no values in place of the innermost one and its values. Where there is none, nothing is done.
     pub fn replace(&mut self, frame: &Frame)
-        ensures replaced { 0 < length self.old.frames → self.new ≡ record self.old { frames = without_last self.old.frames ++ framed frame.now [] ∷ [] } }
+        ensures replaced { 0 < length self.old.frames → self.new
+            ≡ record self.old { frames = without_last self.old.frames ++ framed frame.now [] ∷ [] } }
         ensures none { self.old.frames ≡ [] → self.new ≡ self.old }
     {
         if let Some(last) = self.entries.last_mut() {
@@ -140,8 +146,12 @@ impl Stack {
     /// Puts a frame in place of the innermost one, and a value behind the values beside it. Where there is none, or
     /// where no more values have room, nothing is done.
     pub fn keep(&mut self, frame: &Frame, value: &Value) -> Result<(), NoMemory>
-        ensures room { IsOk result ↔ ((0 < length self.old.frames) × (count_of_values self.old.frames < self.old.room)) }
-        ensures kept { OnOk result (self.new ≡ record self.old { frames = without_last self.old.frames ++ framed frame.now (last_values self.old.frames ++ value.now ∷ []) ∷ [] }) }
+        ensures room { IsOk result ↔ ((0 < length self.old.frames)
+            × (count_of_values self.old.frames < self.old.room)) }
+        ensures kept { OnOk result (self.new ≡ record self.old {
+          frames = without_last self.old.frames ++ framed frame.now
+              (last_values self.old.frames ++ value.now ∷ []) ∷ [];
+        }) }
         ensures unchanged { OnErr result (self.new ≡ self.old) }
     {
         if self.values.len() >= self.room as usize {
@@ -169,7 +179,9 @@ impl Stack {
 
 // The last entry.
 fn last_of(entries: &Vec<Entry>) -> Option<&Entry>
-    ensures { MatchOption result (entries.now.items ≡ []) (λ e. entries.now.items ≡ take (length entries.now.items - 1) entries.now.items ++ e.now ∷ []) }
+    ensures { MatchOption result (entries.now.items ≡ [])
+        (λ e. entries.now.items ≡ take (length entries.now.items - 1) entries.now.items ++ e.now
+        ∷ []) }
 {
     entries.last()
 }

@@ -15,7 +15,6 @@ use crate::rows::Rows;
 use crate::stack::Stack;
 use rip_heap::{Heap, Host};
 use rip_values::{Limit, NoMemory, Value};
-use std::alloc::Global;
 
 /// Puts a frame behind the others, which has room.
 pub(crate) fn pushed(stack: &mut Stack, frame: &Frame)
@@ -55,7 +54,10 @@ fn called_control(at: &Part, node: u32) -> Control
 /// Opens the frame of a part that was called, where there is depth for it. The frame has room.
 fn open_called(stack: &mut Stack, at: &Part, wait: &Wait)
     requires { length stack.old.frames < stack.old.most }
-    ensures { stack.new ≡ record stack.old { frames = stack.old.frames ++ called_frame at.now wait.now } }
+    ensures { stack.new ≡ record stack.old {
+      frames = stack.old.frames
+          ++ called_frame at.now wait.now;
+    } }
 {
     if at.room > 0 {
         pushed(stack, &waiting(at, wait));
@@ -71,7 +73,8 @@ pub(crate) fn open(
 ) -> Result<(), NoMemory>
     requires { length stack.old.frames < stack.old.most }
     ensures control { OnOk result (control.new ≡ control_of at.now next.now) }
-    ensures frames { OnOk result (stack.new ≡ record stack.old { frames = stack.old.frames ++ frame_of at.now next.now [] }) }
+    ensures frames { OnOk result (stack.new ≡ record stack.old
+        { frames = stack.old.frames ++ frame_of at.now next.now [] }) }
     ensures kept { OnErr result ((stack.new ≡ stack.old) × (control.new ≡ control.old)) }
 {
     match next {
@@ -107,7 +110,10 @@ pub(crate) fn open(
 fn reopen(stack: &mut Stack, at: &Part, next: &Next, control: &mut Control) -> Result<(), NoMemory>
     requires { 0 < length stack.old.frames }
     ensures control { OnOk result (control.new ≡ control_of at.now next.now) }
-    ensures frames { OnOk result (stack.new ≡ record stack.old { frames = without_last stack.old.frames ++ frame_of at.now next.now (last_values stack.old.frames) }) }
+    ensures frames { OnOk result (stack.new ≡ record stack.old {
+      frames = without_last stack.old.frames ++ frame_of at.now next.now
+          (last_values stack.old.frames);
+    }) }
     ensures kept { OnErr result ((stack.new ≡ stack.old) × (control.new ≡ control.old)) }
 {
     match next {
@@ -140,7 +146,10 @@ fn reopen(stack: &mut Stack, at: &Part, next: &Next, control: &mut Control) -> R
 /// The frame of a part that was called stands in place of the innermost one, where there is depth for it.
 fn reopen_called(stack: &mut Stack, at: &Part, wait: &Wait)
     requires { 0 < length stack.old.frames }
-    ensures { stack.new ≡ record stack.old { frames = without_last stack.old.frames ++ called_frame at.now wait.now } }
+    ensures { stack.new ≡ record stack.old {
+      frames = without_last stack.old.frames
+          ++ called_frame at.now wait.now;
+    } }
 {
     if at.room > 0 {
         stack.replace(&waiting(at, wait));
@@ -155,7 +164,8 @@ pub(crate) fn keep_values(
     frame: &Frame,
     values: &[Value],
 ) -> Result<(), NoMemory>
-    ensures kept { OnOk result (stack.old.frames ≡ framed frame.now [] ∷ [] → stack.new.frames ≡ framed frame.now values.now ∷ []) }
+    ensures kept { OnOk result (stack.old.frames ≡ framed frame.now [] ∷ [] → stack.new.frames
+        ≡ framed frame.now values.now ∷ []) }
     ensures most { stack.new.most ≡ stack.old.most }
 {
     for v in values {
@@ -167,7 +177,6 @@ pub(crate) fn keep_values(
 /// A part is entered, whose unit was taken.
 fn enter<R: Rows, H: Host>(
     rows: &R,
-    alloc: Global,
     heap: &mut Heap,
     host: &H,
     stack: &mut Stack,
@@ -175,8 +184,11 @@ fn enter<R: Rows, H: Host>(
     control: &mut Control,
 ) -> Result<(), NoMemory>
     requires { IsInside stack.old.most (Control.Enter part.now) stack.old.frames }
-    ensures rest { OnOk result ((u : ℕ) → rest H.answers (R.table rows.now) control.new stack.new.frames u heap.new host.now ≡ rest H.answers (R.table rows.now) (Control.Enter part.now) stack.old.frames (u + 1) heap.old host.now) }
-    ensures weight { OnOk result (weight control.new stack.new.frames ≤ 2 * length stack.old.frames + 2) }
+    ensures rest { OnOk result ((u : ℕ) → rest H.answers (R.table rows.now) control.new
+        stack.new.frames u heap.new host.now ≡ rest H.answers (R.table rows.now)
+        (Control.Enter part.now) stack.old.frames (u + 1) heap.old host.now) }
+    ensures weight { OnOk result (weight control.new stack.new.frames ≤ 2 * length stack.old.frames
+        + 2) }
     ensures inside { OnOk result (IsInside stack.new.most control.new stack.new.frames) }
     ensures kept { OnErr result ((stack.new ≡ stack.old) × (control.new ≡ control.old)) }
     ensures most { stack.new.most ≡ stack.old.most }
@@ -192,14 +204,13 @@ fn enter<R: Rows, H: Host>(
             *control = Control::Give(Completion::Normal(v));
             Ok(())
         },
-        None => enter_row(rows, alloc, heap, host, stack, part, control),
+        None => enter_row(rows, heap, host, stack, part, control),
     }
 }
 
 /// A part is entered by its row.
 fn enter_row<R: Rows, H: Host>(
     rows: &R,
-    alloc: Global,
     heap: &mut Heap,
     host: &H,
     stack: &mut Stack,
@@ -208,14 +219,17 @@ fn enter_row<R: Rows, H: Host>(
 ) -> Result<(), NoMemory>
     requires inside { IsInside stack.old.most (Control.Enter part.now) stack.old.frames }
     requires some { 0 < part.now.room }
-    ensures rest { OnOk result ((u : ℕ) → rest H.answers (R.table rows.now) control.new stack.new.frames u heap.new host.now ≡ rest H.answers (R.table rows.now) (Control.Enter part.now) stack.old.frames (u + 1) heap.old host.now) }
-    ensures weight { OnOk result (weight control.new stack.new.frames ≤ 2 * length stack.old.frames + 2) }
+    ensures rest { OnOk result ((u : ℕ) → rest H.answers (R.table rows.now) control.new
+        stack.new.frames u heap.new host.now ≡ rest H.answers (R.table rows.now)
+        (Control.Enter part.now) stack.old.frames (u + 1) heap.old host.now) }
+    ensures weight { OnOk result (weight control.new stack.new.frames ≤ 2 * length stack.old.frames
+        + 2) }
     ensures inside { OnOk result (IsInside stack.new.most control.new stack.new.frames) }
     ensures kept { OnErr result ((stack.new ≡ stack.old) × (control.new ≡ control.old)) }
     ensures most { stack.new.most ≡ stack.old.most }
     ensures grows { Grows heap.old heap.new }
 {
-    match &rows.begin(alloc, heap, part) {
+    match &rows.begin(heap, part) {
         Ok(next) => open(stack, part, next, control),
         Err(NoMemory) => Err(NoMemory),
     }
@@ -224,7 +238,6 @@ fn enter_row<R: Rows, H: Host>(
 /// A completion is given to the innermost frame; where there is none, nothing is done.
 fn give<R: Rows, H: Host>(
     rows: &R,
-    alloc: Global,
     heap: &mut Heap,
     host: &mut H,
     stack: &mut Stack,
@@ -233,9 +246,15 @@ fn give<R: Rows, H: Host>(
 ) -> Result<bool, NoMemory>
     requires fits { H.fits host.old heap.old }
     requires inside { IsInside stack.old.most (Control.Give c) stack.old.frames }
-    ensures rest { IfOk result (λ given. MatchBool given ((u : ℕ) → rest H.answers (R.table rows.now) control.new stack.new.frames u heap.new host.new ≡ rest H.answers (R.table rows.now) (Control.Give c) stack.old.frames u heap.old host.old) ((stack.old.frames ≡ []) × (control.new ≡ control.old) × (stack.new ≡ stack.old) × (heap.new ≡ heap.old) × (host.new ≡ host.old))) }
-    ensures weight { IfOk result (λ given. MatchBool given (weight control.new stack.new.frames < weight (Control.Give c) stack.old.frames) ⊤) }
-    ensures inside { IfOk result (λ given. MatchBool given (IsInside stack.new.most control.new stack.new.frames) ⊤) }
+    ensures rest { IfOk result (λ given. MatchBool given
+        ((u : ℕ) → rest H.answers (R.table rows.now) control.new stack.new.frames u heap.new
+        host.new ≡ rest H.answers (R.table rows.now) (Control.Give c) stack.old.frames u heap.old
+        host.old) ((stack.old.frames ≡ []) × (control.new ≡ control.old) × (stack.new ≡ stack.old)
+        × (heap.new ≡ heap.old) × (host.new ≡ host.old))) }
+    ensures weight { IfOk result (λ given. MatchBool given
+        (weight control.new stack.new.frames < weight (Control.Give c) stack.old.frames) ⊤) }
+    ensures inside { IfOk result (λ given. MatchBool given
+        (IsInside stack.new.most control.new stack.new.frames) ⊤) }
     ensures kept { OnErr result ((stack.new ≡ stack.old) × (control.new ≡ control.old)) }
     ensures most { stack.new.most ≡ stack.old.most }
     ensures fits { H.fits host.new heap.new }
@@ -246,7 +265,7 @@ fn give<R: Rows, H: Host>(
         None => return Ok(false),
     };
     let at = frame.at;
-    match &rows.finish(alloc, heap, host, frame, stack.values(), &c) {
+    match &rows.finish(heap, host, frame, stack.values(), &c) {
         Ok(next) => {
             reopen(stack, &at, next, control)?;
             Ok(true)
@@ -258,7 +277,6 @@ fn give<R: Rows, H: Host>(
 /// One step of a run, and whether there was one: none where no unit is left for a part, or the run is at its end.
 fn step<R: Rows, H: Host>(
     rows: &R,
-    alloc: Global,
     heap: &mut Heap,
     host: &mut H,
     stack: &mut Stack,
@@ -267,9 +285,15 @@ fn step<R: Rows, H: Host>(
 ) -> Result<bool, NoMemory>
     requires fits { H.fits host.old heap.old }
     requires inside { IsInside stack.old.most control.old stack.old.frames }
-    ensures rest { OnOk result ((k : ℕ) → rest H.answers (R.table rows.now) control.new stack.new.frames (left.new + k) heap.new host.new ≡ rest H.answers (R.table rows.now) control.old stack.old.frames (left.old + k) heap.old host.old) }
-    ensures stands { IfOk result (λ stepped. MatchBool stepped ⊤ (Stands control.new stack.new.frames left.new)) }
-    ensures weight { IfOk result (λ stepped. MatchBool stepped (3 * left.new + weight control.new stack.new.frames < 3 * left.old + weight control.old stack.old.frames) ⊤) }
+    ensures rest { OnOk result ((k : ℕ) → rest H.answers (R.table rows.now) control.new
+        stack.new.frames (left.new + k) heap.new host.new
+        ≡ rest H.answers (R.table rows.now) control.old stack.old.frames (left.old + k) heap.old
+        host.old) }
+    ensures stands { IfOk result (λ stepped. MatchBool stepped ⊤
+        (Stands control.new stack.new.frames left.new)) }
+    ensures weight { IfOk result (λ stepped. MatchBool stepped
+        (3 * left.new + weight control.new stack.new.frames < 3 * left.old + weight control.old
+        stack.old.frames) ⊤) }
     ensures within { left.new ≤ left.old }
     ensures inside { IsInside stack.new.most control.new stack.new.frames }
     ensures most { stack.new.most ≡ stack.old.most }
@@ -283,12 +307,12 @@ fn step<R: Rows, H: Host>(
             }
             *left -= 1;
             let part = *part;
-            enter(rows, alloc, heap, host, stack, &part, control)?;
+            enter(rows, heap, host, stack, &part, control)?;
             Ok(true)
         },
         Control::Give(c) => {
             let c = *c;
-            give(rows, alloc, heap, host, stack, c, control)
+            give(rows, heap, host, stack, c, control)
         },
         Control::Halted { .. } => Ok(false),
     }
@@ -297,7 +321,6 @@ fn step<R: Rows, H: Host>(
 /// Runs until no unit is left for a part, or to the end, and gives the units left.
 pub(crate) fn steps<R: Rows, H: Host>(
     rows: &R,
-    alloc: Global,
     heap: &mut Heap,
     host: &mut H,
     stack: &mut Stack,
@@ -306,7 +329,10 @@ pub(crate) fn steps<R: Rows, H: Host>(
 ) -> Result<u64, NoMemory>
     requires fits { H.fits host.old heap.old }
     requires inside { IsInside stack.old.most control.old stack.old.frames }
-    ensures rest { IfOk result (λ left. (k : ℕ) → rest H.answers (R.table rows.now) control.new stack.new.frames (left + k) heap.new host.new ≡ rest H.answers (R.table rows.now) control.old stack.old.frames (budget + k) heap.old host.old) }
+    ensures rest { IfOk result (λ left. (k : ℕ) → rest H.answers (R.table rows.now) control.new
+        stack.new.frames (left + k) heap.new host.new
+        ≡ rest H.answers (R.table rows.now) control.old stack.old.frames (budget + k) heap.old
+        host.old) }
     ensures stands { IfOk result (Stands control.new stack.new.frames) }
     ensures within { IfOk result (λ left. left ≤ budget) }
     ensures inside { IsInside stack.new.most control.new stack.new.frames }
@@ -315,6 +341,6 @@ pub(crate) fn steps<R: Rows, H: Host>(
     ensures grows { Grows heap.old heap.new }
 {
     let mut left = budget;
-    while step(rows, alloc, heap, host, stack, control, &mut left)? {}
+    while step(rows, heap, host, stack, control, &mut left)? {}
     Ok(left)
 }

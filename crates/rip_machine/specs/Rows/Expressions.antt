@@ -7,6 +7,7 @@ use Rattle.rip_values.specs.declared.operator.StepOperator.TheVariants.{Incremen
 use Rattle.rip_values.specs.declared.operator.UnaryOperator.{UnaryOperator}
 use Rattle.rip_values.specs.declared.operator.UnaryOperator.TheVariants as unary
 use Rattle.rip_values.specs.declared.value.Fault.{Fault}
+use Rattle.rip_values.specs.declared.value.Limit.TheVariants.{Cells}
 use Rattle.rip_values.specs.declared.value.Numeral.{Numeral}
 use Rattle.rip_values.specs.declared.value.Numeral.TheVariants.{Num as Number}
 use Rattle.rip_values.specs.declared.value.Value.{Value}
@@ -25,7 +26,10 @@ use Rattle.rip_members.specs.Writing.{write}
 use Rattle.rip_ops.specs.declared.operators.UnaryOp.TheVariants.{Plus, Minus, Not, BitNot}
 use Rattle.rip_ops.specs.Arithmetic.{sum, difference}
 use Rattle.rip_ops.specs.Operators.{binary, unary as unary_outcome}
-use Rattle.rip_heap.specs.Outcome.{Outcome, Gives, Throws, Faults, Exceeds, value_of as value_of_number}
+use Rattle.rip_heap.specs.declared.outcome.Abrupt.{Abrupt}
+use Rattle.rip_heap.specs.declared.outcome.Abrupt.TheVariants as cause
+use Rattle.rip_heap.specs.Outcome.{Outcome, Gives, Throws, Faults, Exceeds}
+use Rattle.rip_values.specs.Values.{value_of_number}
 use Rattle.rip_tree.specs.declared.form.Form.{Form}
 use Rattle.rip_tree.specs.declared.form.Form.TheVariants as form
 use Rattle.rip_runs.specs.declared.completion.Completion.{Completion}
@@ -48,6 +52,13 @@ gives v w = Ends (Normal v) w
 -- ends as this part does
 abbrev pub last : Part → World → Row
 last part w = Asks part w Ends
+
+-- what a row does where an operation has no value: it throws, or the run stops. No row means want of memory
+abbrev pub abruptly : Abrupt → World → Row
+abruptly cause.TypeError w = throws ThrownTypeError w
+abruptly (cause.Fault fault) w = Halts (AtFault fault) w
+abruptly (cause.Limit limit) w = Halts (AtLimit limit) w
+abruptly cause.Memory w = Halts (AtLimit Cells) w
 
 -- goes on with what an operator gives
 abbrev pub with_outcome : Outcome → World → (Value → World → Row) → Row

@@ -8,9 +8,13 @@ use rip_heap::{Heap, to_boolean};
 use rip_runs::{Completion, HostedWait, Inner, Next, OwnWait, Stop, Wait};
 use rip_values::{NoMemory, Value};
 
+/// What a row function answers: what the part does next. A limit of 32 bits that nothing else meets is want of memory.
+pub(crate) type Answer = Result<Next, NoMemory>;
+
 /// The value of a normal completion; any other ends the row.
 pub(crate) fn value_of(c: &Completion) -> Option<Value>
-    ensures { MatchOption result ((w : World) (go : ScriptValue → Row) → with_value c.now w go ≡ Ends c.now w) (λ v. c.now ≡ Completion.Normal v) }
+    ensures { MatchOption result ((w : World) (go : ScriptValue → Row) → with_value c.now w go
+        ≡ Ends c.now w) (λ v. c.now ≡ Completion.Normal v) }
 {
     match c {
         Completion::Normal(v) => Some(*v),
@@ -19,42 +23,42 @@ pub(crate) fn value_of(c: &Completion) -> Option<Value>
 }
 
 /// The row ends with a value.
-pub(crate) fn give(v: Value) -> Result<Next, NoMemory>
+pub(crate) fn give(v: Value) -> Answer
     ensures { result ≡ Ok (Next.End (Completion.Normal v)) }
 {
     Ok(Next::End(Completion::Normal(v)))
 }
 
 /// The row ends with a completion.
-pub(crate) fn end(c: &Completion) -> Result<Next, NoMemory>
+pub(crate) fn end(c: &Completion) -> Answer
     ensures { result ≡ Ok (Next.End c.now) }
 {
     Ok(Next::End(*c))
 }
 
 /// The row waits for this part.
-pub(crate) fn ask(part: Inner, wait: OwnWait) -> Result<Next, NoMemory>
+pub(crate) fn ask(part: Inner, wait: OwnWait) -> Answer
     ensures { result ≡ Ok (Next.Ask part (Wait.Own wait)) }
 {
     Ok(Next::Ask(part, Wait::Own(wait)))
 }
 
 /// The same, where the host may be asked next.
-pub(crate) fn ask_hosted(part: Inner, wait: HostedWait) -> Result<Next, NoMemory>
+pub(crate) fn ask_hosted(part: Inner, wait: HostedWait) -> Answer
     ensures { result ≡ Ok (Next.Ask part (Wait.Hosted wait)) }
 {
     Ok(Next::Ask(part, Wait::Hosted(wait)))
 }
 
 /// The row waits for this part of a turn of a loop.
-pub(crate) fn turn(part: Inner, wait: OwnWait) -> Result<Next, NoMemory>
+pub(crate) fn turn(part: Inner, wait: OwnWait) -> Answer
     ensures { result ≡ Ok (Next.Turn part (Wait.Own wait)) }
 {
     Ok(Next::Turn(part, Wait::Own(wait)))
 }
 
 /// The run stops.
-pub(crate) fn halt(stop: Stop) -> Result<Next, NoMemory>
+pub(crate) fn halt(stop: Stop) -> Answer
     ensures { result ≡ Ok (Next.Halt stop) }
 {
     Ok(Next::Halt(stop))

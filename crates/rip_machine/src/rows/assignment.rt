@@ -1,21 +1,19 @@
 ghost use Rattle.std.specs.Prelude.{◌≡◌, [], pos, None, Some};
 ghost use Rattle.rip_heap.specs.Growth.{Grows};
-ghost use Rattle.rip_heap.specs.Outcome.{value_of as value_of_number};
 ghost use Rattle.rip_machine.specs.Does.{Does, DoesPurely, DoesWithHost};
 ghost use Rattle.rip_machine.specs.Reading.{part_at};
 ghost use Rattle.rip_runs.specs.Row.{Asks};
 ghost use Rattle.rip_machine.specs.Rows.Expressions.{assign_row, compound_row, compound_value, numbers_of_step, read_target, step_by, step_row, stepped, target_found, writes};
 ghost use Rattle.rip_machine.specs.Table.{own_rest, hosted_rest};
 
-use crate::rows::answers::{ask, ask_hosted, end, give, halt, value_of};
+use crate::rows::answers::{Answer, ask, ask_hosted, end, give, halt, value_of};
 use crate::rows::members::{read_value, target_of, write_value};
-use crate::rows::names::{found, throw, write};
+use crate::rows::names::{abrupt, found, throw, write};
 use crate::source::Source;
-use rip_heap::{Class, Heap, Host, OpDone, Reference, to_number};
+use rip_heap::{Class, Heap, Host, Reference, to_number};
 use rip_ops::{binary, difference, sum};
-use rip_runs::{Completion, HostedWait, Next, OwnWait, Part, Stop};
-use rip_values::{Fault, NoMemory, Numeral, StepOperator, Value, Whole};
-use std::alloc::Global;
+use rip_runs::{Completion, HostedWait, OwnWait, Part, Stop};
+use rip_values::{Fault, Numeral, StepOperator, Value, Whole};
 
 /// What the target of a node means.
 pub(crate) fn target_found(p: &Source, heap: &Heap, at: &Part) -> Option<Value>
@@ -27,7 +25,6 @@ pub(crate) fn target_found(p: &Source, heap: &Heap, at: &Part) -> Option<Value>
 /// Writes a value to a target, for which the host may be asked, and gives another or the same.
 #[tactic(auto, using(rip_runs::proofs::Settles::settled))]
 fn writes<H: Host>(
-    alloc: Global,
     p: &Source,
     heap: &mut Heap,
     host: &mut H,
@@ -35,21 +32,21 @@ fn writes<H: Host>(
     target: &Option<Reference>,
     v: &Value,
     given: &Value,
-) -> Result<Next, NoMemory>
+) -> Answer
     requires { H.fits host.old heap.old }
-    ensures row { DoesWithHost H.answers p.now at.now result heap.new host.new (writes p.now at.now target.now v.now given.now heap.old) host.old }
+    ensures row { DoesWithHost H.answers p.now at.now result heap.new host.new
+        (writes p.now at.now target.now v.now given.now heap.old) host.old }
     ensures fits { H.fits host.new heap.new }
     ensures grows { Grows heap.old heap.new }
 {
     match target {
-        Some(member) => writes_member(alloc, p, heap, host, at, member, v, given),
-        None => writes_name(alloc, p, heap, at, v, given),
+        Some(member) => writes_member(p, heap, host, at, member, v, given),
+        None => writes_name(p, heap, at, v, given),
     }
 }
 
 /// The same where the target is a member.
 fn writes_member<H: Host>(
-    alloc: Global,
     p: &Source,
     heap: &mut Heap,
     host: &mut H,
@@ -57,44 +54,40 @@ fn writes_member<H: Host>(
     member: &Reference,
     v: &Value,
     given: &Value,
-) -> Result<Next, NoMemory>
+) -> Answer
     requires { H.fits host.old heap.old }
-    ensures row { DoesWithHost H.answers p.now at.now result heap.new host.new (writes p.now at.now (Some member.now) v.now given.now heap.old) host.old }
+    ensures row { DoesWithHost H.answers p.now at.now result heap.new host.new
+        (writes p.now at.now (Some member.now) v.now given.now heap.old) host.old }
     ensures fits { H.fits host.new heap.new }
     ensures grows { Grows heap.old heap.new }
 {
-    match write_value(alloc, heap, host, &member.base, member.key, v)? {
+    match write_value(p.alloc(), heap, host, &member.base, member.key, v)? {
         Ok(()) => give(*given),
         Err(next) => Ok(next),
     }
 }
 
 /// The same where the target is a name.
-fn writes_name(
-    alloc: Global,
-    p: &Source,
-    heap: &mut Heap,
-    at: &Part,
-    v: &Value,
-    given: &Value,
-) -> Result<Next, NoMemory>
-    ensures row { Does p.now at.now result heap.new (writes p.now at.now None v.now given.now heap.old) }
+fn writes_name(p: &Source, heap: &mut Heap, at: &Part, v: &Value, given: &Value) -> Answer
+    ensures row { Does p.now at.now result heap.new
+        (writes p.now at.now None v.now given.now heap.old) }
     ensures grows { Grows heap.old heap.new }
 {
     match write(heap, at.scope, p.scoping(p.child(at.node, 0)), *v) {
         Ok(()) => give(*given),
-        Err(class) => throw(alloc, heap, class),
+        Err(class) => throw(p.alloc(), heap, class),
     }
 }
 
-pub(crate) fn begin_assign(p: &Source, at: &Part) -> Result<Next, NoMemory>
+pub(crate) fn begin_assign(p: &Source, at: &Part) -> Answer
     ensures row { DoesPurely p.now at.now result (assign_row p.now at.now) }
 {
     ask(p.target_at(at, 0), OwnWait::AssignTarget)
 }
 
-pub(crate) fn after_assign_target(p: &Source, at: &Part, c: &Completion) -> Result<Next, NoMemory>
-    ensures row { DoesPurely p.now at.now result (own_rest p.now at.now OwnWait.AssignTarget [] c.now) }
+pub(crate) fn after_assign_target(p: &Source, at: &Part, c: &Completion) -> Answer
+    ensures row { DoesPurely p.now at.now result
+        (own_rest p.now at.now OwnWait.AssignTarget [] c.now) }
 {
     match target_of(c) {
         Ok(target) => ask_hosted(p.part_at(at, 1), HostedWait::AssignValue { target }),
@@ -104,26 +97,26 @@ pub(crate) fn after_assign_target(p: &Source, at: &Part, c: &Completion) -> Resu
 
 #[tactic(auto, using(rip_runs::proofs::Settles::settled))]
 pub(crate) fn after_assign_value<H: Host>(
-    alloc: Global,
     p: &Source,
     heap: &mut Heap,
     host: &mut H,
     at: &Part,
     target: &Option<Reference>,
     c: &Completion,
-) -> Result<Next, NoMemory>
+) -> Answer
     requires { H.fits host.old heap.old }
-    ensures row { DoesWithHost H.answers p.now at.now result heap.new host.new (hosted_rest p.now at.now (HostedWait.AssignValue target.now) [] c.now heap.old) host.old }
+    ensures row { DoesWithHost H.answers p.now at.now result heap.new host.new
+        (hosted_rest p.now at.now (HostedWait.AssignValue target.now) [] c.now heap.old) host.old }
     ensures fits { H.fits host.new heap.new }
     ensures grows { Grows heap.old heap.new }
 {
     match value_of(c) {
-        Some(v) => writes(alloc, p, heap, host, at, target, &v, &v),
+        Some(v) => writes(p, heap, host, at, target, &v, &v),
         None => end(c),
     }
 }
 
-pub(crate) fn begin_compound(p: &Source, at: &Part) -> Result<Next, NoMemory>
+pub(crate) fn begin_compound(p: &Source, at: &Part) -> Answer
     ensures row { DoesPurely p.now at.now result (compound_row p.now at.now) }
 {
     ask_hosted(p.target_at(at, 0), HostedWait::CompoundTarget)
@@ -131,20 +124,20 @@ pub(crate) fn begin_compound(p: &Source, at: &Part) -> Result<Next, NoMemory>
 
 #[tactic(auto, using(rip_runs::proofs::Settles::settled))]
 pub(crate) fn after_compound_target<H: Host>(
-    alloc: Global,
     p: &Source,
     heap: &mut Heap,
     host: &mut H,
     at: &Part,
     c: &Completion,
-) -> Result<Next, NoMemory>
+) -> Answer
     requires { H.fits host.old heap.old }
-    ensures row { DoesWithHost H.answers p.now at.now result heap.new host.new (hosted_rest p.now at.now HostedWait.CompoundTarget [] c.now heap.old) host.old }
+    ensures row { DoesWithHost H.answers p.now at.now result heap.new host.new
+        (hosted_rest p.now at.now HostedWait.CompoundTarget [] c.now heap.old) host.old }
     ensures fits { H.fits host.new heap.new }
     ensures grows { Grows heap.old heap.new }
 {
     match target_of(c) {
-        Ok(target) => compound_read(alloc, p, heap, host, at, &target),
+        Ok(target) => compound_read(p, heap, host, at, &target),
         Err(other) => end(&other),
     }
 }
@@ -152,55 +145,55 @@ pub(crate) fn after_compound_target<H: Host>(
 /// The target is read before the right side.
 #[tactic(auto, using(rip_runs::proofs::Settles::settled))]
 fn compound_read<H: Host>(
-    alloc: Global,
     p: &Source,
     heap: &mut Heap,
     host: &mut H,
     at: &Part,
     target: &Option<Reference>,
-) -> Result<Next, NoMemory>
+) -> Answer
     requires { H.fits host.old heap.old }
-    ensures row { DoesWithHost H.answers p.now at.now result heap.new host.new (read_target p.now at.now target.now heap.old (λ old x. Asks (part_at p.now at.now 1) x (compound_value p.now at.now target.now old))) host.old }
+    ensures row { DoesWithHost H.answers p.now at.now result heap.new host.new
+        (read_target p.now at.now target.now heap.old
+        (λ old x. Asks (part_at p.now at.now 1) x (compound_value p.now at.now target.now old)))
+        host.old }
     ensures fits { H.fits host.new heap.new }
     ensures grows { Grows heap.old heap.new }
 {
     match target {
-        Some(member) => compound_member(alloc, p, heap, host, at, member),
+        Some(member) => compound_member(p, heap, host, at, member),
         None => match target_found(p, heap, at) {
             Some(old) => compound_right(p, at, target, old),
-            None => throw(alloc, heap, Class::ThrownReferenceError),
+            None => throw(p.alloc(), heap, Class::ThrownReferenceError),
         },
     }
 }
 
 /// The same where the target is a member.
 fn compound_member<H: Host>(
-    alloc: Global,
     p: &Source,
     heap: &mut Heap,
     host: &mut H,
     at: &Part,
     member: &Reference,
-) -> Result<Next, NoMemory>
+) -> Answer
     requires { H.fits host.old heap.old }
-    ensures row { DoesWithHost H.answers p.now at.now result heap.new host.new (read_target p.now at.now (Some member.now) heap.old (λ old x. Asks (part_at p.now at.now 1) x (compound_value p.now at.now (Some member.now) old))) host.old }
+    ensures row { DoesWithHost H.answers p.now at.now result heap.new host.new
+        (read_target p.now at.now (Some member.now) heap.old
+        (λ old x. Asks (part_at p.now at.now 1) x (compound_value p.now at.now (Some member.now)
+        old))) host.old }
     ensures fits { H.fits host.new heap.new }
     ensures grows { Grows heap.old heap.new }
 {
-    match read_value(alloc, heap, host, &member.base, member.key)? {
+    match read_value(p.alloc(), heap, host, &member.base, member.key)? {
         Ok(old) => compound_right(p, at, &Some(*member), old),
         Err(next) => Ok(next),
     }
 }
 
 /// The right side, beside which the target and its value stand.
-fn compound_right(
-    p: &Source,
-    at: &Part,
-    target: &Option<Reference>,
-    old: Value,
-) -> Result<Next, NoMemory>
-    ensures row { DoesPurely p.now at.now result (λ w. Asks (part_at p.now at.now 1) w (compound_value p.now at.now target.now old)) }
+fn compound_right(p: &Source, at: &Part, target: &Option<Reference>, old: Value) -> Answer
+    ensures row { DoesPurely p.now at.now result
+        (λ w. Asks (part_at p.now at.now 1) w (compound_value p.now at.now target.now old)) }
 {
     ask_hosted(
         p.part_at(at, 1),
@@ -213,7 +206,6 @@ fn compound_right(
 
 #[tactic(auto, using(rip_runs::proofs::Settles::settled))]
 pub(crate) fn after_compound_value<H: Host>(
-    alloc: Global,
     p: &Source,
     heap: &mut Heap,
     host: &mut H,
@@ -221,25 +213,24 @@ pub(crate) fn after_compound_value<H: Host>(
     target: &Option<Reference>,
     old: &Value,
     c: &Completion,
-) -> Result<Next, NoMemory>
+) -> Answer
     requires { H.fits host.old heap.old }
-    ensures row { DoesWithHost H.answers p.now at.now result heap.new host.new (hosted_rest p.now at.now (HostedWait.CompoundValue target.now old.now) [] c.now heap.old) host.old }
+    ensures row { DoesWithHost H.answers p.now at.now result heap.new host.new
+        (hosted_rest p.now at.now (HostedWait.CompoundValue target.now old.now) [] c.now heap.old)
+        host.old }
     ensures fits { H.fits host.new heap.new }
     ensures grows { Grows heap.old heap.new }
 {
     match value_of(c) {
-        Some(right) => match binary(alloc, heap, p.operator(at.node), *old, right) {
-            OpDone::Value(v) => writes(alloc, p, heap, host, at, target, &v, &v),
-            OpDone::TypeFault => throw(alloc, heap, Class::ThrownTypeError),
-            OpDone::Fault(fault) => halt(Stop::Fault(fault)),
-            OpDone::Limit(limit) => halt(Stop::Limit(limit)),
-            OpDone::Memory => Err(NoMemory),
+        Some(right) => match binary(p.alloc(), heap, p.operator(at.node), *old, right) {
+            Ok(v) => writes(p, heap, host, at, target, &v, &v),
+            Err(cause) => abrupt(p.alloc(), heap, cause),
         },
         None => end(c),
     }
 }
 
-pub(crate) fn begin_step(p: &Source, at: &Part) -> Result<Next, NoMemory>
+pub(crate) fn begin_step(p: &Source, at: &Part) -> Answer
     ensures row { DoesPurely p.now at.now result (step_row p.now at.now) }
 {
     ask_hosted(p.target_at(at, 0), HostedWait::StepTarget)
@@ -247,20 +238,20 @@ pub(crate) fn begin_step(p: &Source, at: &Part) -> Result<Next, NoMemory>
 
 #[tactic(auto, using(rip_runs::proofs::Settles::settled))]
 pub(crate) fn after_step_target<H: Host>(
-    alloc: Global,
     p: &Source,
     heap: &mut Heap,
     host: &mut H,
     at: &Part,
     c: &Completion,
-) -> Result<Next, NoMemory>
+) -> Answer
     requires { H.fits host.old heap.old }
-    ensures row { DoesWithHost H.answers p.now at.now result heap.new host.new (hosted_rest p.now at.now HostedWait.StepTarget [] c.now heap.old) host.old }
+    ensures row { DoesWithHost H.answers p.now at.now result heap.new host.new
+        (hosted_rest p.now at.now HostedWait.StepTarget [] c.now heap.old) host.old }
     ensures fits { H.fits host.new heap.new }
     ensures grows { Grows heap.old heap.new }
 {
     match target_of(c) {
-        Ok(target) => step_read(alloc, p, heap, host, at, &target),
+        Ok(target) => step_read(p, heap, host, at, &target),
         Err(other) => end(&other),
     }
 }
@@ -268,43 +259,45 @@ pub(crate) fn after_step_target<H: Host>(
 /// The target is read, and goes one up or down.
 #[tactic(auto, using(rip_runs::proofs::Settles::settled))]
 fn step_read<H: Host>(
-    alloc: Global,
     p: &Source,
     heap: &mut Heap,
     host: &mut H,
     at: &Part,
     target: &Option<Reference>,
-) -> Result<Next, NoMemory>
+) -> Answer
     requires { H.fits host.old heap.old }
-    ensures row { DoesWithHost H.answers p.now at.now result heap.new host.new (read_target p.now at.now target.now heap.old (λ v x. stepped p.now at.now target.now v x)) host.old }
+    ensures row { DoesWithHost H.answers p.now at.now result heap.new host.new
+        (read_target p.now at.now target.now heap.old (λ v x. stepped p.now at.now target.now v x))
+        host.old }
     ensures fits { H.fits host.new heap.new }
     ensures grows { Grows heap.old heap.new }
 {
     match target {
-        Some(member) => step_member(alloc, p, heap, host, at, member),
+        Some(member) => step_member(p, heap, host, at, member),
         None => match target_found(p, heap, at) {
-            Some(v) => stepped(alloc, p, heap, host, at, target, v),
-            None => throw(alloc, heap, Class::ThrownReferenceError),
+            Some(v) => stepped(p, heap, host, at, target, v),
+            None => throw(p.alloc(), heap, Class::ThrownReferenceError),
         },
     }
 }
 
 /// The same where the target is a member.
 fn step_member<H: Host>(
-    alloc: Global,
     p: &Source,
     heap: &mut Heap,
     host: &mut H,
     at: &Part,
     member: &Reference,
-) -> Result<Next, NoMemory>
+) -> Answer
     requires { H.fits host.old heap.old }
-    ensures row { DoesWithHost H.answers p.now at.now result heap.new host.new (read_target p.now at.now (Some member.now) heap.old (λ v x. stepped p.now at.now (Some member.now) v x)) host.old }
+    ensures row { DoesWithHost H.answers p.now at.now result heap.new host.new
+        (read_target p.now at.now (Some member.now) heap.old
+        (λ v x. stepped p.now at.now (Some member.now) v x)) host.old }
     ensures fits { H.fits host.new heap.new }
     ensures grows { Grows heap.old heap.new }
 {
-    match read_value(alloc, heap, host, &member.base, member.key)? {
-        Ok(v) => stepped(alloc, p, heap, host, at, &Some(*member), v),
+    match read_value(p.alloc(), heap, host, &member.base, member.key)? {
+        Ok(v) => stepped(p, heap, host, at, &Some(*member), v),
         Err(next) => Ok(next),
     }
 }
@@ -312,16 +305,16 @@ fn step_member<H: Host>(
 /// The value of the target, as a number, goes one up or down.
 #[tactic(auto, using(rip_runs::proofs::Settles::settled))]
 fn stepped<H: Host>(
-    alloc: Global,
     p: &Source,
     heap: &mut Heap,
     host: &mut H,
     at: &Part,
     target: &Option<Reference>,
     v: Value,
-) -> Result<Next, NoMemory>
+) -> Answer
     requires { H.fits host.old heap.old }
-    ensures row { DoesWithHost H.answers p.now at.now result heap.new host.new (stepped p.now at.now target.now v heap.old) host.old }
+    ensures row { DoesWithHost H.answers p.now at.now result heap.new host.new
+        (stepped p.now at.now target.now v heap.old) host.old }
     ensures fits { H.fits host.new heap.new }
     ensures grows { Grows heap.old heap.new }
 {
@@ -330,7 +323,7 @@ fn stepped<H: Host>(
         Err(fault) => return halt(Stop::Fault(fault)),
     };
     let given = if p.is_postfix(at.node) { old } else { new };
-    writes(alloc, p, heap, host, at, target, &new, &given)
+    writes(p, heap, host, at, target, &new, &given)
 }
 
 /// The number that a value is, and that one up or down, as values.
@@ -339,7 +332,7 @@ fn numbers_of_step(heap: &Heap, op: StepOperator, v: Value) -> Result<(Value, Va
 {
     match to_number(heap, v) {
         Ok(old) => match step_by(op, &old) {
-            Ok(new) => Ok((value_of_number(old), value_of_number(new))),
+            Ok(new) => Ok((Value::from(old), Value::from(new))),
             Err(fault) => Err(fault),
         },
         Err(fault) => Err(fault),
@@ -361,14 +354,5 @@ fn one() -> Numeral
     match Whole::new(1) {
         Some(whole) => Numeral::Num(whole),
         None => Numeral::NaN,
-    }
-}
-
-fn value_of_number(n: Numeral) -> Value
-    ensures { result ≡ value_of_number n }
-{
-    match n {
-        Numeral::Num(whole) => Value::Num(whole),
-        Numeral::NaN => Value::NaN,
     }
 }

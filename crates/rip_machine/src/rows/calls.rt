@@ -14,15 +14,15 @@ ghost use Rattle.rip_machine.specs.Rows.Functions.{body};
 ghost use Rattle.rip_machine.specs.Rows.Statements.{statements};
 ghost use Rattle.rip_runs.specs.Frame.{inside};
 
-use crate::rows::answers::{ask_hosted, end, give, halt, value_of};
+use crate::rows::answers::{Answer, ask_hosted, end, give, halt, value_of};
 use crate::rows::arguments::Arguments;
 use crate::rows::functions::{enter_function, parameters};
 use crate::rows::host::ask_call;
-use crate::rows::names::throw;
+use crate::rows::names::{abrupt, throw};
 use crate::rows::statements::{ended, first_statement};
 use crate::source::Source;
 use rip_builtins::builtin;
-use rip_heap::{Class, Heap, Host, OpDone};
+use rip_heap::{Class, Heap, Host};
 use rip_members::builtin_of;
 use rip_runs::{Completion, Ending, HostedWait, Inner, Next, OwnWait, Part, Role, Stop, Wait};
 use rip_values::{Builtin, BuiltinHome, Fault, Limit, NoMemory, Value};
@@ -100,7 +100,6 @@ pub(crate) fn running(f: u32, scope: u32, this: &Value) -> Inner
 
 /// Enters a function of the script.
 pub(crate) fn enter(
-    alloc: Global,
     p: &Source,
     heap: &mut Heap,
     at: &Part,
@@ -108,29 +107,26 @@ pub(crate) fn enter(
     this: &Value,
     args: &Arguments,
     ending: Ending,
-) -> Result<Next, NoMemory>
-    ensures row { Does p.now at.now result heap.new (enters p.now at.now function.0 function.1 this.now args.now ending heap.old) }
+) -> Answer
+    ensures row { Does p.now at.now result heap.new
+        (enters p.now at.now function.0 function.1 this.now args.now ending heap.old) }
     ensures grows { Grows heap.old heap.new }
 {
     if at.room.saturating_sub(1) == 0 {
         return halt(Stop::Limit(Limit::Depth));
     }
     let (f, scope) = function;
-    match enter_function(alloc, p, heap, f, scope, args)? {
+    match enter_function(p, heap, f, scope, args)? {
         Some(made) => call_statements(p, at, &running(f, made, this), ending),
         None => halt(Stop::Limit(Limit::Cells)),
     }
 }
 
 /// The statements of a function that runs inside the open part.
-pub(crate) fn call_statements(
-    p: &Source,
-    at: &Part,
-    function: &Inner,
-    ending: Ending,
-) -> Result<Next, NoMemory>
+pub(crate) fn call_statements(p: &Source, at: &Part, function: &Inner, ending: Ending) -> Answer
     requires { 0 < at.now.room - 1 }
-    ensures row { DoesPurely p.now at.now result (statements p.now (inside at.now function.now) ending (body p.now function.now.node)) }
+    ensures row { DoesPurely p.now at.now result
+        (statements p.now (inside at.now function.now) ending (body p.now function.now.node)) }
 {
     let running = at.inside(function);
     match first_statement(p, &running, parameters(p, function.node))? {
@@ -149,7 +145,10 @@ pub(crate) fn call_statements(
 
 /// Charges the arguments of a built-in function, or answers the limit at which the run stops.
 pub(crate) fn charge(heap: &mut Heap, args: &Arguments) -> Result<Result<(), Limit>, NoMemory>
-    ensures charged { IfOk result (λ r. MatchResult r (λ _. (go : World → Row) → charged (length args.now) heap.old go ≡ go heap.new) (λ limit. (go : World → Row) → charged (length args.now) heap.old go ≡ Halts (Stop.Limit limit) heap.new)) }
+    ensures charged { IfOk result (λ r. MatchResult r
+        (λ _. (go : World → Row) → charged (length args.now) heap.old go ≡ go heap.new)
+        (λ limit. (go : World → Row) → charged (length args.now) heap.old go
+        ≡ Halts (Stop.Limit limit) heap.new)) }
     ensures grows { Grows heap.old heap.new }
 {
     let count = args.count();
@@ -169,22 +168,28 @@ pub(crate) fn call_table(
     b: Builtin,
     this: &Value,
     args: &Arguments,
-) -> Result<Next, NoMemory>
-    ensures row { DoesAnywhere result heap.new (with_outcome (builtin heap.old b this.now args.now) heap.old gives) }
+) -> Answer
+    ensures row { DoesAnywhere result heap.new (with_outcome (builtin heap.old b this.now args.now)
+        heap.old gives) }
     ensures grows { Grows heap.old heap.new }
 {
     let list = args.to_vec(alloc)?;
-    match builtin(alloc, heap, b, *this, list.as_slice()) {
-        OpDone::Value(v) => give(v),
-        OpDone::TypeFault => throw(alloc, heap, Class::ThrownTypeError),
-        OpDone::Fault(fault) => halt(Stop::Fault(fault)),
-        OpDone::Limit(limit) => halt(Stop::Limit(limit)),
-        OpDone::Memory => Err(NoMemory),
+    answer_table(alloc, heap, b, this, list.as_slice())
+}
+
+/// The same of arguments in a list.
+fn answer_table(alloc: Global, heap: &mut Heap, b: Builtin, this: &Value, args: &[Value]) -> Answer
+    ensures row { DoesAnywhere result heap.new (with_outcome (builtin heap.old b this.now args.now) heap.old gives) }
+    ensures grows { Grows heap.old heap.new }
+{
+    match builtin(alloc, heap, b, *this, args) {
+        Ok(v) => give(v),
+        Err(cause) => abrupt(alloc, heap, cause),
     }
 }
 
 /// `call` is a call of functions of the script alone.
-fn call_on_other(alloc: Global, heap: &mut Heap, this: &Value) -> Result<Next, NoMemory>
+fn call_on_other(alloc: Global, heap: &mut Heap, this: &Value) -> Answer
     ensures row { DoesAnywhere result heap.new (call_on_other this.now heap.old) }
     ensures grows { Grows heap.old heap.new }
 {
@@ -195,30 +200,23 @@ fn call_on_other(alloc: Global, heap: &mut Heap, this: &Value) -> Result<Next, N
 }
 
 /// The call that `call` makes, with its first argument as `this`.
-fn call_through(
-    alloc: Global,
-    p: &Source,
-    heap: &mut Heap,
-    at: &Part,
-    this: &Value,
-    args: &Arguments,
-) -> Result<Next, NoMemory>
-    ensures row { Does p.now at.now result heap.new (call_through p.now at.now (callable heap.old this.now) this.now args.now heap.old) }
+fn call_through(p: &Source, heap: &mut Heap, at: &Part, this: &Value, args: &Arguments) -> Answer
+    ensures row { Does p.now at.now result heap.new
+        (call_through p.now at.now (callable heap.old this.now) this.now args.now heap.old) }
     ensures grows { Grows heap.old heap.new }
 {
     match callable(heap, this) {
         Invocable::OfScript(f, scope) => {
             let first = args.get(0);
             let rest = args.rest();
-            enter(alloc, p, heap, at, (f, scope), &first, &rest, Ending::Call)
+            enter(p, heap, at, (f, scope), &first, &rest, Ending::Call)
         },
-        _ => call_on_other(alloc, heap, this),
+        _ => call_on_other(p.alloc(), heap, this),
     }
 }
 
 /// The own work of a built-in function, whose arguments are charged.
 fn answer_builtin<H: Host>(
-    alloc: Global,
     p: &Source,
     heap: &mut Heap,
     host: &mut H,
@@ -226,22 +224,22 @@ fn answer_builtin<H: Host>(
     b: Builtin,
     this: &Value,
     args: &Arguments,
-) -> Result<Next, NoMemory>
+) -> Answer
     requires { H.fits host.old heap.old }
-    ensures row { DoesWithHost H.answers p.now at.now result heap.new host.new (answered_by p.now at.now (answerer_of b) b this.now args.now heap.old) host.old }
+    ensures row { DoesWithHost H.answers p.now at.now result heap.new host.new
+        (answered_by p.now at.now (answerer_of b) b this.now args.now heap.old) host.old }
     ensures fits { H.fits host.new heap.new }
     ensures grows { Grows heap.old heap.new }
 {
     match answerer_of(b) {
-        Answerer::Evaluator => call_through(alloc, p, heap, at, this, args),
-        Answerer::BuiltinTable => call_table(alloc, heap, b, this, args),
-        Answerer::HostItself => call_host(alloc, heap, host, b, this, args),
+        Answerer::Evaluator => call_through(p, heap, at, this, args),
+        Answerer::BuiltinTable => call_table(p.alloc(), heap, b, this, args),
+        Answerer::HostItself => call_host(p.alloc(), heap, host, b, this, args),
     }
 }
 
 /// The call of a built-in function.
 fn call_builtin<H: Host>(
-    alloc: Global,
     p: &Source,
     heap: &mut Heap,
     host: &mut H,
@@ -249,21 +247,21 @@ fn call_builtin<H: Host>(
     b: Builtin,
     this: &Value,
     args: &Arguments,
-) -> Result<Next, NoMemory>
+) -> Answer
     requires { H.fits host.old heap.old }
-    ensures row { DoesWithHost H.answers p.now at.now result heap.new host.new (builtin_called p.now at.now b this.now args.now heap.old) host.old }
+    ensures row { DoesWithHost H.answers p.now at.now result heap.new host.new
+        (builtin_called p.now at.now b this.now args.now heap.old) host.old }
     ensures fits { H.fits host.new heap.new }
     ensures grows { Grows heap.old heap.new }
 {
     match charge(heap, args)? {
-        Ok(()) => answer_builtin(alloc, p, heap, host, at, b, this, args),
+        Ok(()) => answer_builtin(p, heap, host, at, b, this, args),
         Err(limit) => halt(Stop::Limit(limit)),
     }
 }
 
 /// What a built-in function does that was called from outside, with its arguments beside the frame.
 pub(crate) fn after_called<H: Host>(
-    alloc: Global,
     p: &Source,
     heap: &mut Heap,
     host: &mut H,
@@ -271,14 +269,16 @@ pub(crate) fn after_called<H: Host>(
     function: Builtin,
     this: &Value,
     values: &[Value],
-) -> Result<Next, NoMemory>
+) -> Answer
     requires { H.fits host.old heap.old }
-    ensures row { DoesBesideWithHost H.answers p.now at.now values.now result heap.new host.new (answered_by p.now at.now (answerer_of function) function this.now values.now heap.old) host.old }
+    ensures row { DoesBesideWithHost H.answers p.now at.now values.now result heap.new host.new
+        (answered_by p.now at.now (answerer_of function) function this.now values.now heap.old)
+        host.old }
     ensures fits { H.fits host.new heap.new }
     ensures grows { Grows heap.old heap.new }
 {
     let args = Arguments { values, last: None };
-    answer_builtin(alloc, p, heap, host, at, function, this, &args)
+    answer_builtin(p, heap, host, at, function, this, &args)
 }
 
 /// What the host answers.
@@ -289,9 +289,10 @@ fn call_host<H: Host>(
     b: Builtin,
     this: &Value,
     args: &Arguments,
-) -> Result<Next, NoMemory>
+) -> Answer
     requires { H.fits host.old heap.old }
-    ensures row { DoesAnywhereWithHost H.answers result heap.new host.new (asks_call (number_of b) this.now args.now heap.old gives) host.old }
+    ensures row { DoesAnywhereWithHost H.answers result heap.new host.new
+        (asks_call (number_of b) this.now args.now heap.old gives) host.old }
     ensures fits { H.fits host.new heap.new }
     ensures grows { Grows heap.old heap.new }
 {
@@ -306,7 +307,6 @@ fn call_host<H: Host>(
 
 /// The call of a value on `this` with these arguments.
 fn called<H: Host>(
-    alloc: Global,
     p: &Source,
     heap: &mut Heap,
     host: &mut H,
@@ -314,18 +314,19 @@ fn called<H: Host>(
     callee: &Value,
     this: &Value,
     args: &Arguments,
-) -> Result<Next, NoMemory>
+) -> Answer
     requires { H.fits host.old heap.old }
-    ensures row { DoesWithHost H.answers p.now at.now result heap.new host.new (called p.now at.now callee.now this.now args.now heap.old) host.old }
+    ensures row { DoesWithHost H.answers p.now at.now result heap.new host.new
+        (called p.now at.now callee.now this.now args.now heap.old) host.old }
     ensures fits { H.fits host.new heap.new }
     ensures grows { Grows heap.old heap.new }
 {
     match callable(heap, callee) {
         Invocable::OfScript(f, scope) => {
-            enter(alloc, p, heap, at, (f, scope), this, args, Ending::Call)
+            enter(p, heap, at, (f, scope), this, args, Ending::Call)
         },
-        Invocable::OfBuiltin(b) => call_builtin(alloc, p, heap, host, at, b, this, args),
-        Invocable::NotCallable => throw(alloc, heap, Class::ThrownTypeError),
+        Invocable::OfBuiltin(b) => call_builtin(p, heap, host, at, b, this, args),
+        Invocable::NotCallable => throw(p.alloc(), heap, Class::ThrownTypeError),
     }
 }
 
@@ -340,7 +341,7 @@ fn callee(p: &Source, at: &Part) -> Inner
     }
 }
 
-pub(crate) fn begin_call(p: &Source, at: &Part) -> Result<Next, NoMemory>
+pub(crate) fn begin_call(p: &Source, at: &Part) -> Answer
     ensures row { DoesPurely p.now at.now result (call_row p.now at.now) }
 {
     ask_hosted(callee(p, at), HostedWait::Callee)
@@ -355,7 +356,10 @@ struct Method {
 
 /// What a callee is; any other completion ends the call.
 fn method_of(c: &Completion) -> Option<Method>
-    ensures { MatchOption result ((w : World) (go : ScriptValue → ScriptValue → Row) → with_callee c.now w go ≡ Ends c.now w) (λ method. (w : World) (go : ScriptValue → ScriptValue → Row) → with_callee c.now w go ≡ go method.function method.this) }
+    ensures { MatchOption result ((w : World) (go : ScriptValue → ScriptValue → Row)
+        → with_callee c.now w go ≡ Ends c.now w) (λ method.
+        (w : World) (go : ScriptValue → ScriptValue → Row) → with_callee c.now w go
+        ≡ go method.function method.this) }
 {
     match c {
         Completion::Normal(function) => Some(Method {
@@ -372,15 +376,15 @@ fn method_of(c: &Completion) -> Option<Method>
 
 #[tactic(auto, using(crate::proofs::Children::children_some, crate::proofs::Children::children_none))]
 pub(crate) fn after_callee<H: Host>(
-    alloc: Global,
     p: &Source,
     heap: &mut Heap,
     host: &mut H,
     at: &Part,
     c: &Completion,
-) -> Result<Next, NoMemory>
+) -> Answer
     requires { H.fits host.old heap.old }
-    ensures row { DoesWithHost H.answers p.now at.now result heap.new host.new (hosted_rest p.now at.now HostedWait.Callee [] c.now heap.old) host.old }
+    ensures row { DoesWithHost H.answers p.now at.now result heap.new host.new
+        (hosted_rest p.now at.now HostedWait.Callee [] c.now heap.old) host.old }
     ensures fits { H.fits host.new heap.new }
     ensures grows { Grows heap.old heap.new }
 {
@@ -402,23 +406,13 @@ pub(crate) fn after_callee<H: Host>(
                 values: &[],
                 last: None,
             };
-            called(
-                alloc,
-                p,
-                heap,
-                host,
-                at,
-                &method.function,
-                &method.this,
-                &args,
-            )
+            called(p, heap, host, at, &method.function, &method.this, &args)
         },
     }
 }
 
 #[tactic(auto, using(crate::proofs::Children::children_some, crate::proofs::Children::children_none))]
 pub(crate) fn after_argument<H: Host>(
-    alloc: Global,
     p: &Source,
     heap: &mut Heap,
     host: &mut H,
@@ -428,9 +422,11 @@ pub(crate) fn after_argument<H: Host>(
     this: &Value,
     values: &[Value],
     c: &Completion,
-) -> Result<Next, NoMemory>
+) -> Answer
     requires { H.fits host.old heap.old }
-    ensures row { DoesBesideWithHost H.answers p.now at.now values.now result heap.new host.new (hosted_rest p.now at.now (HostedWait.Argument place callee.now this.now) values.now c.now heap.old) host.old }
+    ensures row { DoesBesideWithHost H.answers p.now at.now values.now result heap.new host.new
+        (hosted_rest p.now at.now (HostedWait.Argument place callee.now this.now) values.now c.now
+        heap.old) host.old }
     ensures fits { H.fits host.new heap.new }
     ensures grows { Grows heap.old heap.new }
 {
@@ -452,7 +448,7 @@ pub(crate) fn after_argument<H: Host>(
                     values,
                     last: Some(v),
                 };
-                called(alloc, p, heap, host, at, callee, this, &args)
+                called(p, heap, host, at, callee, this, &args)
             },
         },
         None => end(c),

@@ -4,7 +4,7 @@ ghost use Rattle.rip_machine.specs.Does.{Does, DoesPurely, DoesBeside, DoesAnywh
 ghost use Rattle.rip_machine.specs.Rows.Constructing.{constructed_from, constructs, made_by, making_of, new_row, plain_prototype, prototype_of};
 ghost use Rattle.rip_machine.specs.Table.{own_rest};
 
-use crate::rows::answers::{ask, end, halt, value_of};
+use crate::rows::answers::{Answer, ask, end, halt, value_of};
 use crate::rows::arguments::Arguments;
 use crate::rows::calls::{Invocable, call_table, callable, charge, enter};
 use crate::rows::names::throw;
@@ -63,26 +63,26 @@ fn prototype_of(heap: &Heap, constructor: &Value) -> Result<Option<u32>, Fault>
 
 /// A new object, on which a function of the script is called.
 fn construct(
-    alloc: Global,
     p: &Source,
     heap: &mut Heap,
     at: &Part,
     function: (u32, u32),
     proto: Result<Option<u32>, Fault>,
     args: &Arguments,
-) -> Result<Next, NoMemory>
-    ensures row { Does p.now at.now result heap.new (constructed_from p.now at.now function.0 function.1 args.now proto heap.old) }
+) -> Answer
+    ensures row { Does p.now at.now result heap.new
+        (constructed_from p.now at.now function.0 function.1 args.now proto heap.old) }
     ensures grows { Grows heap.old heap.new }
 {
     let proto = match proto {
         Ok(proto) => proto,
         Err(fault) => return halt(Stop::Fault(fault)),
     };
-    match heap.new_object(alloc, proto) {
+    match heap.new_object(p.alloc(), proto) {
         Ok(object) => {
             let this = Value::Object(object);
             let ending = Ending::Construct { object };
-            enter(alloc, p, heap, at, function, &this, args, ending)
+            enter(p, heap, at, function, &this, args, ending)
         },
         Err(Refused::Limit(limit)) => halt(Stop::Limit(limit)),
         Err(Refused::Memory) => Err(NoMemory),
@@ -90,12 +90,7 @@ fn construct(
 }
 
 /// What `new` makes of a built-in function.
-fn construct_builtin(
-    alloc: Global,
-    heap: &mut Heap,
-    b: Builtin,
-    args: &Arguments,
-) -> Result<Next, NoMemory>
+fn construct_builtin(alloc: Global, heap: &mut Heap, b: Builtin, args: &Arguments) -> Answer
     ensures row { DoesAnywhere result heap.new (made_by (making_of b) b args.now heap.old) }
     ensures grows { Grows heap.old heap.new }
 {
@@ -111,41 +106,36 @@ fn construct_builtin(
 
 /// What `new` makes of a value with these arguments.
 fn constructs(
-    alloc: Global,
     p: &Source,
     heap: &mut Heap,
     at: &Part,
     constructor: &Value,
     args: &Arguments,
-) -> Result<Next, NoMemory>
-    ensures row { Does p.now at.now result heap.new (constructs p.now at.now constructor.now args.now heap.old) }
+) -> Answer
+    ensures row { Does p.now at.now result heap.new
+        (constructs p.now at.now constructor.now args.now heap.old) }
     ensures grows { Grows heap.old heap.new }
 {
     match callable(heap, constructor) {
         Invocable::OfScript(f, scope) => {
             let proto = prototype_of(heap, constructor);
-            construct(alloc, p, heap, at, (f, scope), proto, args)
+            construct(p, heap, at, (f, scope), proto, args)
         },
-        Invocable::OfBuiltin(b) => construct_builtin(alloc, heap, b, args),
-        Invocable::NotCallable => throw(alloc, heap, Class::ThrownTypeError),
+        Invocable::OfBuiltin(b) => construct_builtin(p.alloc(), heap, b, args),
+        Invocable::NotCallable => throw(p.alloc(), heap, Class::ThrownTypeError),
     }
 }
 
-pub(crate) fn begin_new(p: &Source, at: &Part) -> Result<Next, NoMemory>
+pub(crate) fn begin_new(p: &Source, at: &Part) -> Answer
     ensures row { DoesPurely p.now at.now result (new_row p.now at.now) }
 {
     ask(p.part_at(at, 0), OwnWait::Constructor)
 }
 
 #[tactic(auto, using(crate::proofs::Children::children_some, crate::proofs::Children::children_none))]
-pub(crate) fn after_constructor(
-    alloc: Global,
-    p: &Source,
-    heap: &mut Heap,
-    at: &Part,
-    c: &Completion,
-) -> Result<Next, NoMemory>
-    ensures row { Does p.now at.now result heap.new (own_rest p.now at.now OwnWait.Constructor [] c.now heap.old) }
+pub(crate) fn after_constructor(p: &Source, heap: &mut Heap, at: &Part, c: &Completion) -> Answer
+    ensures row { Does p.now at.now result heap.new
+        (own_rest p.now at.now OwnWait.Constructor [] c.now heap.old) }
     ensures grows { Grows heap.old heap.new }
 {
     match value_of(c) {
@@ -162,7 +152,7 @@ pub(crate) fn after_constructor(
                     values: &[],
                     last: None,
                 };
-                constructs(alloc, p, heap, at, &constructor, &args)
+                constructs(p, heap, at, &constructor, &args)
             },
         },
         None => end(c),
@@ -171,7 +161,6 @@ pub(crate) fn after_constructor(
 
 #[tactic(auto, using(crate::proofs::Children::children_some, crate::proofs::Children::children_none))]
 pub(crate) fn after_new_argument(
-    alloc: Global,
     p: &Source,
     heap: &mut Heap,
     at: &Part,
@@ -179,8 +168,10 @@ pub(crate) fn after_new_argument(
     constructor: &Value,
     values: &[Value],
     c: &Completion,
-) -> Result<Next, NoMemory>
-    ensures row { DoesBeside p.now at.now values.now result heap.new (own_rest p.now at.now (OwnWait.NewArgument place constructor.now) values.now c.now heap.old) }
+) -> Answer
+    ensures row { DoesBeside p.now at.now values.now result heap.new
+        (own_rest p.now at.now (OwnWait.NewArgument place constructor.now) values.now c.now
+        heap.old) }
     ensures grows { Grows heap.old heap.new }
 {
     if place > u32::MAX - 2 {
@@ -200,7 +191,7 @@ pub(crate) fn after_new_argument(
                     values,
                     last: Some(v),
                 };
-                constructs(alloc, p, heap, at, constructor, &args)
+                constructs(p, heap, at, constructor, &args)
             },
         },
         None => end(c),

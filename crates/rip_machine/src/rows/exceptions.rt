@@ -4,22 +4,21 @@ ghost use Rattle.rip_machine.specs.Does.{Does, DoesPurely, DoesAlways};
 ghost use Rattle.rip_machine.specs.Rows.Exceptions.{catch_part, finally_end, finally_row, throw_row, try_row, throw_end};
 ghost use Rattle.rip_machine.specs.Table.{own_rest};
 
-use crate::rows::answers::{ask, end, halt, value_of};
+use crate::rows::answers::{Answer, ask, end, halt, value_of};
 use crate::source::Source;
 use rip_heap::Heap;
 use rip_runs::{Completion, Inner, Next, OwnWait, Part, Role, Stop};
 use rip_values::{NoMemory, Refused, Value};
-use std::alloc::Global;
 
 // THROW
 
-pub(crate) fn begin_throw(p: &Source, at: &Part) -> Result<Next, NoMemory>
+pub(crate) fn begin_throw(p: &Source, at: &Part) -> Answer
     ensures row { DoesPurely p.now at.now result (throw_row p.now at.now) }
 {
     ask(p.part_at(at, 0), OwnWait::ThrowValue)
 }
 
-pub(crate) fn after_throw_value(c: &Completion) -> Result<Next, NoMemory>
+pub(crate) fn after_throw_value(c: &Completion) -> Answer
     ensures row { DoesAlways result (throw_end c.now) }
 {
     match value_of(c) {
@@ -30,37 +29,33 @@ pub(crate) fn after_throw_value(c: &Completion) -> Result<Next, NoMemory>
 
 // TRY
 
-pub(crate) fn begin_try(p: &Source, at: &Part) -> Result<Next, NoMemory>
+pub(crate) fn begin_try(p: &Source, at: &Part) -> Answer
     ensures row { DoesPurely p.now at.now result (try_row p.now at.now) }
 {
     ask(p.part_at(at, 0), OwnWait::TryBlock)
 }
 
-pub(crate) fn after_try_block(
-    alloc: Global,
-    p: &Source,
-    heap: &mut Heap,
-    at: &Part,
-    c: &Completion,
-) -> Result<Next, NoMemory>
-    ensures row { Does p.now at.now result heap.new (own_rest p.now at.now OwnWait.TryBlock [] c.now heap.old) }
+pub(crate) fn after_try_block(p: &Source, heap: &mut Heap, at: &Part, c: &Completion) -> Answer
+    ensures row { Does p.now at.now result heap.new
+        (own_rest p.now at.now OwnWait.TryBlock [] c.now heap.old) }
     ensures grows { Grows heap.old heap.new }
 {
     match c {
-        Completion::Thrown(v) => caught(alloc, p, heap, at, *v),
+        Completion::Thrown(v) => caught(p, heap, at, *v),
         _ => finally(p, at, c),
     }
 }
 
 /// What was thrown is caught, where there is a clause that catches.
-fn caught(alloc: Global, p: &Source, heap: &mut Heap, at: &Part, v: Value) -> Result<Next, NoMemory>
-    ensures row { Does p.now at.now result heap.new (own_rest p.now at.now OwnWait.TryBlock [] (Completion.Thrown v) heap.old) }
+fn caught(p: &Source, heap: &mut Heap, at: &Part, v: Value) -> Answer
+    ensures row { Does p.now at.now result heap.new
+        (own_rest p.now at.now OwnWait.TryBlock [] (Completion.Thrown v) heap.old) }
     ensures grows { Grows heap.old heap.new }
 {
     let Some(clause) = p.child_at(at.node, 1) else {
         return finally(p, at, &Completion::Thrown(v));
     };
-    match heap.new_scope(alloc, Some(at.scope), 1) {
+    match heap.new_scope(p.alloc(), Some(at.scope), 1) {
         Ok(scope) => {
             heap.set_binding(scope, 0, v);
             let wait = OwnWait::CatchBlock;
@@ -84,7 +79,7 @@ fn catch_part(p: &Source, at: &Part, clause: u32, scope: u32) -> Inner
 }
 
 /// `finally` runs last, where there is one, after a completion of what stands before it.
-pub(crate) fn finally(p: &Source, at: &Part, before: &Completion) -> Result<Next, NoMemory>
+pub(crate) fn finally(p: &Source, at: &Part, before: &Completion) -> Answer
     ensures row { DoesPurely p.now at.now result (finally_row p.now at.now before.now) }
 {
     match p.child_at(at.node, 2) {
@@ -96,7 +91,7 @@ pub(crate) fn finally(p: &Source, at: &Part, before: &Completion) -> Result<Next
     }
 }
 
-pub(crate) fn after_finally_block(before: &Completion, c: &Completion) -> Result<Next, NoMemory>
+pub(crate) fn after_finally_block(before: &Completion, c: &Completion) -> Answer
     ensures row { DoesAlways result (finally_end before.now c.now) }
 {
     match c {

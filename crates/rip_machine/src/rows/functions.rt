@@ -6,7 +6,7 @@ ghost use Rattle.rip_machine.specs.Does.{Does};
 ghost use Rattle.rip_machine.specs.Reading.{children_from, scoping};
 ghost use Rattle.rip_machine.specs.Rows.Functions.{body, cost_of_entering, declared_functions, function_entered, function_named, function_row, has_name, parameters, parameters_of, with_arguments, with_function, with_functions, with_undefined};
 
-use crate::rows::answers::{give, halt};
+use crate::rows::answers::{Answer, give, halt};
 use crate::rows::arguments::Arguments;
 use crate::rows::names::bind;
 use crate::rows::statements::is_declaration;
@@ -28,19 +28,14 @@ fn has_name(form: Form) -> bool
     }
 }
 
-pub(crate) fn begin_function(
-    alloc: Global,
-    p: &Source,
-    heap: &mut Heap,
-    at: &Part,
-) -> Result<Next, NoMemory>
+pub(crate) fn begin_function(p: &Source, heap: &mut Heap, at: &Part) -> Answer
     ensures row { Does p.now at.now result heap.new (function_row p.now at.now heap.old) }
     ensures grows { Grows heap.old heap.new }
 {
     if has_name(p.form(at.node)) {
-        return begin_named(alloc, p, heap, at);
+        return begin_named(p, heap, at);
     }
-    match heap.new_function(alloc, at.node, at.scope) {
+    match heap.new_function(p.alloc(), at.node, at.scope) {
         Ok(function) => give(Value::Object(function)),
         Err(Refused::Limit(limit)) => halt(Stop::Limit(limit)),
         Err(Refused::Memory) => Err(NoMemory),
@@ -48,12 +43,12 @@ pub(crate) fn begin_function(
 }
 
 /// A function expression with a name, which it has in a scope of its own.
-fn begin_named(alloc: Global, p: &Source, heap: &mut Heap, at: &Part) -> Result<Next, NoMemory>
+fn begin_named(p: &Source, heap: &mut Heap, at: &Part) -> Answer
     ensures row { Does p.now at.now result heap.new (function_named at.now true heap.old) }
     ensures grows { Grows heap.old heap.new }
 {
-    match heap.new_scope(alloc, Some(at.scope), 1) {
-        Ok(scope) => match heap.new_function(alloc, at.node, scope) {
+    match heap.new_scope(p.alloc(), Some(at.scope), 1) {
+        Ok(scope) => match heap.new_function(p.alloc(), at.node, scope) {
             Ok(function) => {
                 heap.set_binding(scope, 0, Value::Object(function));
                 give(Value::Object(function))
@@ -128,17 +123,11 @@ fn bind_arguments(p: &Source, heap: &mut Heap, f: u32, scope: u32, args: &Argume
 }
 
 /// Makes and binds a function that is declared. What would pass the limit is want of memory: the charge was tried before.
-fn bind_function(
-    alloc: Global,
-    p: &Source,
-    heap: &mut Heap,
-    scope: u32,
-    f: u32,
-) -> Result<(), NoMemory>
+fn bind_function(p: &Source, heap: &mut Heap, scope: u32, f: u32) -> Result<(), NoMemory>
     ensures bound { OnOk result (with_function p.now scope f heap.old ≡ Some heap.new) }
     ensures grows { Grows heap.old heap.new }
 {
-    match heap.new_function(alloc, f, scope) {
+    match heap.new_function(p.alloc(), f, scope) {
         Ok(function) => {
             bind(heap, scope, p.scoping(f).resolved, Value::Object(function));
             Ok(())
@@ -150,20 +139,20 @@ fn bind_function(
 /// Makes and binds the functions that are declared among the children of a node, from this place on.
 #[tactic(auto, using(crate::proofs::Children::children_some, crate::proofs::Children::children_none))]
 pub(crate) fn bind_functions(
-    alloc: Global,
     p: &Source,
     heap: &mut Heap,
     scope: u32,
     id: u32,
     from: u32,
 ) -> Result<(), NoMemory>
-    ensures bound { OnOk result (with_functions p.now scope (children_from p.now id from) heap.old ≡ Some heap.new) }
+    ensures bound { OnOk result (with_functions p.now scope (children_from p.now id from) heap.old
+        ≡ Some heap.new) }
     ensures grows { Grows heap.old heap.new }
 {
     let mut place = from;
     while let Some(f) = p.child_at(id, place) {
         if is_declaration(p.form(f)) {
-            bind_function(alloc, p, heap, scope, f)?;
+            bind_function(p, heap, scope, f)?;
         }
         if place == u32::MAX {
             return Err(NoMemory);
@@ -175,7 +164,8 @@ pub(crate) fn bind_functions(
 
 /// Whether what entering a function costs can be charged.
 fn fits(p: &Source, heap: &Heap, f: u32, args: u32) -> Result<bool, NoMemory>
-    ensures { IfOk result (λ fits. fits ≡ nat_le (heap.now.cells + cost_of_entering p.now f args) heap.now.limit) }
+    ensures { IfOk result (λ fits. fits ≡ nat_le (heap.now.cells + cost_of_entering p.now f args)
+        heap.now.limit) }
 {
     let declared = u64::from(declared_functions(p, f, parameters(p, f))?);
     let cost = u64::from(args) + (1 + u64::from(p.scoping(f).names)) + 4 * declared;
@@ -187,14 +177,15 @@ fn fits(p: &Source, heap: &Heap, f: u32, args: u32) -> Result<bool, NoMemory>
 
 /// The scope of a function that is entered; none where the charge would pass the limit.
 pub(crate) fn enter_function(
-    alloc: Global,
     p: &Source,
     heap: &mut Heap,
     f: u32,
     scope: u32,
     args: &Arguments,
 ) -> Result<Option<u32>, NoMemory>
-    ensures entered { IfOk result (λ made. MatchOption made (function_entered p.now f scope args.now heap.old ≡ None) (λ s. function_entered p.now f scope args.now heap.old ≡ Some (s, heap.new))) }
+    ensures entered { IfOk result (λ made. MatchOption made
+        (function_entered p.now f scope args.now heap.old ≡ None)
+        (λ s. function_entered p.now f scope args.now heap.old ≡ Some (s, heap.new))) }
     ensures kept { IfOk result (λ made. MatchOption made (heap.new ≡ heap.old) (λ _. ⊤)) }
     ensures grows { Grows heap.old heap.new }
 {
@@ -206,8 +197,8 @@ pub(crate) fn enter_function(
         return Ok(None);
     }
     let names = p.scoping(f).names;
-    let made = new_scope(alloc, heap, scope, names, count as u32)?;
-    fill_scope(alloc, p, heap, f, made, args)?;
+    let made = new_scope(p.alloc(), heap, scope, names, count as u32)?;
+    fill_scope(p, heap, f, made, args)?;
     Ok(Some(made))
 }
 
@@ -220,7 +211,9 @@ fn new_scope(
     names: u32,
     args: u32,
 ) -> Result<u32, NoMemory>
-    ensures made { IfOk result (λ made. option_and_then (λ x. new_scope x (Some outer) names) (charging args heap.old (λ x. x)) ≡ Some (made, heap.new)) }
+    ensures made { IfOk result (λ made. option_and_then
+        (λ x. new_scope x (Some outer) names) (charging args heap.old (λ x. x))
+        ≡ Some (made, heap.new)) }
     ensures grows { Grows heap.old heap.new }
 {
     match heap.charge(args) {
@@ -234,18 +227,19 @@ fn new_scope(
 
 /// Binds all names of a new scope of a function.
 fn fill_scope(
-    alloc: Global,
     p: &Source,
     heap: &mut Heap,
     f: u32,
     scope: u32,
     args: &Arguments,
 ) -> Result<(), NoMemory>
-    ensures filled { OnOk result (with_functions p.now scope (body p.now f) (with_arguments p.now f scope args.now (parameters p.now f) (with_undefined scope (scoping p.now f).names heap.old)) ≡ Some heap.new) }
+    ensures filled { OnOk result (with_functions p.now scope (body p.now f)
+        (with_arguments p.now f scope args.now (parameters p.now f)
+        (with_undefined scope (scoping p.now f).names heap.old)) ≡ Some heap.new) }
     ensures grows { Grows heap.old heap.new }
 {
     let count = parameters(p, f);
     set_undefined(heap, scope, p.scoping(f).names);
     bind_arguments(p, heap, f, scope, args, count);
-    bind_functions(alloc, p, heap, scope, f, count)
+    bind_functions(p, heap, scope, f, count)
 }

@@ -8,7 +8,7 @@ ghost use Rattle.rip_machine.specs.Rows.Host.{asks_call, asks_read, asks_write, 
 ghost use Rattle.rip_runs.specs.declared.part.Part.{Part};
 ghost use Rattle.rip_runs.specs.Rest.{as_row};
 
-use crate::rows::answers::halt;
+use crate::rows::answers::{Answer, halt};
 use crate::rows::names::throw;
 use rip_heap::{Class, Heap, Host, HostDone};
 use rip_runs::{Completion, Next, Part, Stop};
@@ -24,7 +24,8 @@ pub(crate) fn ask_read<H: Host>(
     name: Span,
 ) -> Result<Result<Value, Next>, NoMemory>
     requires { H.fits host.old heap.old }
-    ensures asked { IfOk result (λ answer. GivesValue H.answers answer heap.new host.new (asks_read object name heap.old) host.old) }
+    ensures asked { IfOk result (λ answer. GivesValue H.answers answer heap.new host.new
+        (asks_read object name heap.old) host.old) }
     ensures fits { H.fits host.new heap.new }
     ensures grows { Grows heap.old heap.new }
 {
@@ -42,7 +43,8 @@ pub(crate) fn ask_write<H: Host>(
     v: &Value,
 ) -> Result<Result<(), Next>, NoMemory>
     requires { H.fits host.old heap.old }
-    ensures asked { IfOk result (λ answer. GivesWorld H.answers answer heap.new host.new (asks_write object name v.now heap.old) host.old) }
+    ensures asked { IfOk result (λ answer. GivesWorld H.answers answer heap.new host.new
+        (asks_write object name v.now heap.old) host.old) }
     ensures fits { H.fits host.new heap.new }
     ensures grows { Grows heap.old heap.new }
 {
@@ -63,7 +65,8 @@ pub(crate) fn ask_call<H: Host>(
     args: &[Value],
 ) -> Result<Result<Value, Next>, NoMemory>
     requires { H.fits host.old heap.old }
-    ensures asked { IfOk result (λ answer. GivesValue H.answers answer heap.new host.new (asks_call which this args.now heap.old) host.old) }
+    ensures asked { IfOk result (λ answer. GivesValue H.answers answer heap.new host.new
+        (asks_call which this args.now heap.old) host.old) }
     ensures fits { H.fits host.new heap.new }
     ensures grows { Grows heap.old heap.new }
 {
@@ -73,7 +76,11 @@ pub(crate) fn ask_call<H: Host>(
 
 /// The value that the host answered, or what the row does instead.
 fn answered(alloc: Global, heap: &mut Heap, done: HostDone) -> Result<Result<Value, Next>, NoMemory>
-    ensures reply { IfOk result (λ answer. MatchResult answer (λ v. (done ≡ HostDone.Value v) × (heap.new ≡ heap.old)) (λ next. (go : ScriptValue → World → Row) (t : Table) (at : Part) (values : List ScriptValue) → as_row t at next values heap.new ≡ with_reply done heap.old go)) }
+    ensures reply { IfOk result (λ answer. MatchResult answer
+        (λ v. (done ≡ HostDone.Value v) × (heap.new ≡ heap.old))
+        (λ next. (go : ScriptValue → World → Row) (t : Table) (at : Part)
+        (values : List ScriptValue) → as_row t at next values heap.new
+        ≡ with_reply done heap.old go)) }
     ensures memory { done ≡ HostDone.Memory → IsErr result }
     ensures grows { Grows heap.old heap.new }
 {
@@ -88,7 +95,7 @@ fn answered(alloc: Global, heap: &mut Heap, done: HostDone) -> Result<Result<Val
 }
 
 /// Throws a new object that has this code of the document.
-fn throw_code(alloc: Global, heap: &mut Heap, code: u8) -> Result<Next, NoMemory>
+fn throw_code(alloc: Global, heap: &mut Heap, code: u8) -> Answer
     ensures row { DoesAnywhere result heap.new (throws_code code heap.old) }
     ensures grows { Grows heap.old heap.new }
 {

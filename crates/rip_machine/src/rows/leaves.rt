@@ -13,7 +13,8 @@ use rip_values::Value;
 /// The value of a part that has no parts of its own and changes nothing: of a literal, of `this`, and of a name that is
 /// bound. None of any other part.
 pub(crate) fn value_at_once(p: &Source, heap: &Heap, at: &Part) -> Option<Value>
-    ensures { MatchOption result ⊤ (λ v. row p.now at.now heap.now ≡ Ends (Completion.Normal v) heap.now) }
+    ensures { MatchOption result ⊤ (λ v. row p.now at.now heap.now
+        ≡ Ends (Completion.Normal v) heap.now) }
 {
     match p.form(at.node) {
         Form::Name(_) => value_of_name(p, heap, at),
@@ -28,7 +29,8 @@ pub(crate) fn value_at_once(p: &Source, heap: &Heap, at: &Part) -> Option<Value>
 
 /// The value of a name that is bound. Of a target the value is nobody's.
 fn value_of_name(p: &Source, heap: &Heap, at: &Part) -> Option<Value>
-    ensures { MatchOption result ⊤ (λ v. name_row p.now at.now at.now.role heap.now ≡ Ends (Completion.Normal v) heap.now) }
+    ensures { MatchOption result ⊤ (λ v. name_row p.now at.now at.now.role heap.now
+        ≡ Ends (Completion.Normal v) heap.now) }
 {
     match at.role {
         Role::Value | Role::Callee => found(heap, at.scope, p.scoping(at.node).resolved),

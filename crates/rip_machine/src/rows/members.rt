@@ -1,22 +1,26 @@
-ghost use Rattle.std.specs.Prelude.{◌≡◌, [], Ok, Some, IfOk, MatchResult, Option};
+ghost use Rattle.std.specs.Prelude.{◌≡◌, [], Ok, Some, IfOk, IsErr, List, MatchResult, Option};
+ghost use Rattle.rip_values.specs.declared.value.Value.{Value as ScriptValue};
 ghost use Rattle.rip_heap.specs.declared.keys.Reference.{Reference as Target};
 ghost use Rattle.rip_heap.specs.Growth.{Grows};
 ghost use Rattle.rip_heap.specs.World.{World};
 ghost use Rattle.rip_members.specs.Reading.{read};
 ghost use Rattle.rip_members.specs.Writing.{write};
-ghost use Rattle.rip_runs.specs.Row.{Ends, Row};
+ghost use Rattle.rip_runs.specs.Row.{Ends, Row, Table};
+ghost use Rattle.rip_runs.specs.declared.part.Part.{Part};
+ghost use Rattle.rip_runs.specs.Rest.{as_row};
 ghost use Rattle.rip_machine.specs.Does.{DoesPurely, DoesAnywhere, DoesWithHost, DoesAnywhereWithHost, GivesValue, GivesWorld};
 ghost use Rattle.rip_machine.specs.Reading.{literal};
+ghost use Rattle.rip_machine.specs.Rows.Expressions.{abruptly};
 ghost use Rattle.rip_machine.specs.Rows.Host.{asks_read};
 ghost use Rattle.rip_machine.specs.Rows.Members.{deletes, index_row, member_for, member_row, with_base, with_read, with_target, with_writing};
 ghost use Rattle.rip_machine.specs.Table.{own_rest, hosted_rest};
 
-use crate::rows::answers::{ask, ask_hosted, end, give, halt, value_of};
+use crate::rows::answers::{Answer, ask, ask_hosted, end, give, halt, value_of};
 use crate::rows::host::{ask_read, ask_write};
-use crate::rows::names::throw;
+use crate::rows::names::{abrupt, throw};
 use crate::source::Source;
-use rip_heap::{Class, Heap, Host, Key, Reference};
-use rip_members::{KeyDone, Read, Written, delete, key_of, read, write};
+use rip_heap::{Abrupt, Class, Heap, Host, Key, Reference};
+use rip_members::{Read, Written, delete, key_of, read, write};
 use rip_runs::{Completion, HostedWait, Next, OwnWait, Part, Role, Stop};
 use rip_values::{Fault, NoMemory, Span, Value};
 use std::alloc::Global;
@@ -33,7 +37,8 @@ pub(crate) fn read_value<H: Host>(
     key: Key,
 ) -> Result<Result<Value, Next>, NoMemory>
     requires { H.fits host.old heap.old }
-    ensures read { IfOk result (λ answer. GivesValue H.answers answer heap.new host.new (with_read (read heap.old base.now key) heap.old) host.old) }
+    ensures read { IfOk result (λ answer. GivesValue H.answers answer heap.new host.new
+        (with_read (read heap.old base.now key) heap.old) host.old) }
     ensures fits { H.fits host.new heap.new }
     ensures grows { Grows heap.old heap.new }
 {
@@ -56,18 +61,29 @@ pub(crate) fn write_value<H: Host>(
     v: &Value,
 ) -> Result<Result<(), Next>, NoMemory>
     requires { H.fits host.old heap.old }
-    ensures written { IfOk result (λ answer. GivesWorld H.answers answer heap.new host.new (with_writing (write heap.old base.now key v.now) v.now heap.old) host.old) }
+    ensures written { IfOk result (λ answer. GivesWorld H.answers answer heap.new host.new
+        (with_writing (write heap.old base.now key v.now) v.now heap.old) host.old) }
     ensures fits { H.fits host.new heap.new }
     ensures grows { Grows heap.old heap.new }
 {
     match write(alloc, heap, *base, key, *v) {
-        Written::Done => Ok(Ok(())),
-        Written::TypeFault => Ok(Err(throw(alloc, heap, Class::ThrownTypeError)?)),
-        Written::Fault(fault) => Ok(Err(Next::Halt(Stop::Fault(fault)))),
-        Written::Limit(limit) => Ok(Err(Next::Halt(Stop::Limit(limit)))),
-        Written::Memory => Err(NoMemory),
-        Written::Host { object, name } => ask_write(alloc, heap, host, object, name, v),
+        Ok(written) => match written {
+            Written::Done => Ok(Ok(())),
+            Written::Host { object, name } => ask_write(alloc, heap, host, object, name, v),
+        },
+        Err(cause) => not_written(alloc, heap, cause),
     }
+}
+
+/// What the row does where a member cannot be written.
+fn not_written(alloc: Global, heap: &mut Heap, cause: Abrupt) -> Result<Result<(), Next>, NoMemory>
+    ensures row { IfOk result (λ answer. MatchResult answer (λ _. ⊥)
+        (λ next. (t : Table) (at : Part) (values : List ScriptValue)
+        → as_row t at next values heap.new ≡ abruptly cause heap.old)) }
+    ensures memory { cause ≡ Abrupt.Memory → IsErr result }
+    ensures grows { Grows heap.old heap.new }
+{
+    Ok(Err(abrupt(alloc, heap, cause)?))
 }
 
 /// What a member is evaluated for: its value, what it means as a target, or its value and the base.
@@ -78,9 +94,10 @@ fn member_for<H: Host>(
     role: Role,
     base: &Value,
     key: Key,
-) -> Result<Next, NoMemory>
+) -> Answer
     requires { H.fits host.old heap.old }
-    ensures row { DoesAnywhereWithHost H.answers result heap.new host.new (member_for role base.now key heap.old) host.old }
+    ensures row { DoesAnywhereWithHost H.answers result heap.new host.new
+        (member_for role base.now key heap.old) host.old }
     ensures fits { H.fits host.new heap.new }
     ensures grows { Grows heap.old heap.new }
 {
@@ -102,9 +119,10 @@ fn member_value<H: Host>(
     host: &mut H,
     base: &Value,
     key: Key,
-) -> Result<Next, NoMemory>
+) -> Answer
     requires { H.fits host.old heap.old }
-    ensures row { DoesAnywhereWithHost H.answers result heap.new host.new (member_for Role.Value base.now key heap.old) host.old }
+    ensures row { DoesAnywhereWithHost H.answers result heap.new host.new
+        (member_for Role.Value base.now key heap.old) host.old }
     ensures fits { H.fits host.new heap.new }
     ensures grows { Grows heap.old heap.new }
 {
@@ -123,9 +141,10 @@ fn host_value<H: Host>(
     host: &mut H,
     object: u32,
     name: Span,
-) -> Result<Next, NoMemory>
+) -> Answer
     requires { H.fits host.old heap.old }
-    ensures row { DoesAnywhereWithHost H.answers result heap.new host.new (asks_read object name heap.old (λ v x. Ends (Completion.Normal v) x)) host.old }
+    ensures row { DoesAnywhereWithHost H.answers result heap.new host.new
+        (asks_read object name heap.old (λ v x. Ends (Completion.Normal v) x)) host.old }
     ensures fits { H.fits host.new heap.new }
     ensures grows { Grows heap.old heap.new }
 {
@@ -137,15 +156,10 @@ fn host_value<H: Host>(
 
 /// The value of a member and the base, for a call.
 #[tactic(auto, using(rip_runs::proofs::Settles::settled))]
-fn method<H: Host>(
-    alloc: Global,
-    heap: &mut Heap,
-    host: &mut H,
-    base: &Value,
-    key: Key,
-) -> Result<Next, NoMemory>
+fn method<H: Host>(alloc: Global, heap: &mut Heap, host: &mut H, base: &Value, key: Key) -> Answer
     requires { H.fits host.old heap.old }
-    ensures row { DoesAnywhereWithHost H.answers result heap.new host.new (member_for Role.Callee base.now key heap.old) host.old }
+    ensures row { DoesAnywhereWithHost H.answers result heap.new host.new
+        (member_for Role.Callee base.now key heap.old) host.old }
     ensures fits { H.fits host.new heap.new }
     ensures grows { Grows heap.old heap.new }
 {
@@ -165,9 +179,10 @@ fn host_method<H: Host>(
     base: &Value,
     object: u32,
     name: Span,
-) -> Result<Next, NoMemory>
+) -> Answer
     requires { H.fits host.old heap.old }
-    ensures row { DoesAnywhereWithHost H.answers result heap.new host.new (asks_read object name heap.old (λ f x. Ends (Completion.Method f base.now) x)) host.old }
+    ensures row { DoesAnywhereWithHost H.answers result heap.new host.new
+        (asks_read object name heap.old (λ f x. Ends (Completion.Method f base.now) x)) host.old }
     ensures fits { H.fits host.new heap.new }
     ensures grows { Grows heap.old heap.new }
 {
@@ -178,7 +193,7 @@ fn host_method<H: Host>(
 }
 
 /// The row ends with a function and the base of which it is a member.
-fn method_on(base: &Value, function: Value) -> Result<Next, NoMemory>
+fn method_on(base: &Value, function: Value) -> Answer
     ensures { result ≡ Ok (Next.End (Completion.Method function base.now)) }
 {
     Ok(Next::End(Completion::Method {
@@ -189,7 +204,7 @@ fn method_on(base: &Value, function: Value) -> Result<Next, NoMemory>
 
 // MEMBERS
 
-pub(crate) fn begin_member(p: &Source, at: &Part) -> Result<Next, NoMemory>
+pub(crate) fn begin_member(p: &Source, at: &Part) -> Answer
     ensures row { DoesPurely p.now at.now result (member_row p.now at.now) }
 {
     ask_hosted(p.part_at(at, 0), HostedWait::MemberBase)
@@ -197,20 +212,20 @@ pub(crate) fn begin_member(p: &Source, at: &Part) -> Result<Next, NoMemory>
 
 #[tactic(auto, using(rip_runs::proofs::Settles::settled))]
 pub(crate) fn after_member_base<H: Host>(
-    alloc: Global,
     p: &Source,
     heap: &mut Heap,
     host: &mut H,
     at: &Part,
     c: &Completion,
-) -> Result<Next, NoMemory>
+) -> Answer
     requires { H.fits host.old heap.old }
-    ensures row { DoesWithHost H.answers p.now at.now result heap.new host.new (hosted_rest p.now at.now HostedWait.MemberBase [] c.now heap.old) host.old }
+    ensures row { DoesWithHost H.answers p.now at.now result heap.new host.new
+        (hosted_rest p.now at.now HostedWait.MemberBase [] c.now heap.old) host.old }
     ensures fits { H.fits host.new heap.new }
     ensures grows { Grows heap.old heap.new }
 {
     match value_of(c) {
-        Some(base) => named_member(alloc, p, heap, host, at, &base),
+        Some(base) => named_member(p, heap, host, at, &base),
         None => end(c),
     }
 }
@@ -218,34 +233,35 @@ pub(crate) fn after_member_base<H: Host>(
 /// The member of a base that a name names.
 #[tactic(auto, using(rip_runs::proofs::Settles::settled))]
 fn named_member<H: Host>(
-    alloc: Global,
     p: &Source,
     heap: &mut Heap,
     host: &mut H,
     at: &Part,
     base: &Value,
-) -> Result<Next, NoMemory>
+) -> Answer
     requires { H.fits host.old heap.old }
-    ensures row { DoesWithHost H.answers p.now at.now result heap.new host.new (with_base base.now heap.old (member_for at.now.role base.now (Key.Name (literal p.now at.now.node)) heap.old)) host.old }
+    ensures row { DoesWithHost H.answers p.now at.now result heap.new host.new
+        (with_base base.now heap.old (member_for at.now.role base.now
+        (Key.Name (literal p.now at.now.node)) heap.old)) host.old }
     ensures fits { H.fits host.new heap.new }
     ensures grows { Grows heap.old heap.new }
 {
     match base {
-        Value::Undefined | Value::Null => throw(alloc, heap, Class::ThrownTypeError),
+        Value::Undefined | Value::Null => throw(p.alloc(), heap, Class::ThrownTypeError),
         _ => {
             let key = Key::Name(p.literal(at.node));
-            member_for(alloc, heap, host, at.role, base, key)
+            member_for(p.alloc(), heap, host, at.role, base, key)
         },
     }
 }
 
-pub(crate) fn begin_index(p: &Source, at: &Part) -> Result<Next, NoMemory>
+pub(crate) fn begin_index(p: &Source, at: &Part) -> Answer
     ensures row { DoesPurely p.now at.now result (index_row p.now at.now) }
 {
     ask(p.part_at(at, 0), OwnWait::IndexBase)
 }
 
-pub(crate) fn after_index_base(p: &Source, at: &Part, c: &Completion) -> Result<Next, NoMemory>
+pub(crate) fn after_index_base(p: &Source, at: &Part, c: &Completion) -> Answer
     ensures row { DoesPurely p.now at.now result (own_rest p.now at.now OwnWait.IndexBase [] c.now) }
 {
     match value_of(c) {
@@ -256,25 +272,23 @@ pub(crate) fn after_index_base(p: &Source, at: &Part, c: &Completion) -> Result<
 
 #[tactic(auto, using(rip_runs::proofs::Settles::settled))]
 pub(crate) fn after_subscript<H: Host>(
-    alloc: Global,
     p: &Source,
     heap: &mut Heap,
     host: &mut H,
     at: &Part,
     base: &Value,
     c: &Completion,
-) -> Result<Next, NoMemory>
+) -> Answer
     requires { H.fits host.old heap.old }
-    ensures row { DoesWithHost H.answers p.now at.now result heap.new host.new (hosted_rest p.now at.now (HostedWait.Subscript base.now) [] c.now heap.old) host.old }
+    ensures row { DoesWithHost H.answers p.now at.now result heap.new host.new
+        (hosted_rest p.now at.now (HostedWait.Subscript base.now) [] c.now heap.old) host.old }
     ensures fits { H.fits host.new heap.new }
     ensures grows { Grows heap.old heap.new }
 {
     match value_of(c) {
-        Some(subscript) => match key_of(alloc, heap, *base, subscript) {
-            KeyDone::Key(key) => member_for(alloc, heap, host, at.role, base, key),
-            KeyDone::TypeFault => throw(alloc, heap, Class::ThrownTypeError),
-            KeyDone::Fault(fault) => halt(Stop::Fault(fault)),
-            KeyDone::Limit(limit) => halt(Stop::Limit(limit)),
+        Some(subscript) => match key_of(p.alloc(), heap, *base, subscript) {
+            Ok(key) => member_for(p.alloc(), heap, host, at.role, base, key),
+            Err(cause) => abrupt(p.alloc(), heap, cause),
         },
         None => end(c),
     }
@@ -284,7 +298,9 @@ pub(crate) fn after_subscript<H: Host>(
 
 /// What a target is: a member, or none where it is a name or no target at all; or what a row ends with.
 pub(crate) fn target_of(c: &Completion) -> Result<Option<Reference>, Completion>
-    ensures { MatchResult result (λ target. (w : World) (go : Option Target → Row) → with_target c.now w go ≡ go target) (λ end. (w : World) (go : Option Target → Row) → with_target c.now w go ≡ Ends end w) }
+    ensures { MatchResult result (λ target. (w : World) (go : Option Target → Row)
+        → with_target c.now w go ≡ go target) (λ end. (w : World) (go : Option Target → Row)
+        → with_target c.now w go ≡ Ends end w) }
 {
     match c {
         Completion::Normal(_) => Ok(None),
@@ -294,11 +310,7 @@ pub(crate) fn target_of(c: &Completion) -> Result<Option<Reference>, Completion>
 }
 
 /// Takes the member away that a target is; what is no member is left.
-pub(crate) fn deletes(
-    alloc: Global,
-    heap: &mut Heap,
-    target: &Option<Reference>,
-) -> Result<Next, NoMemory>
+pub(crate) fn deletes(alloc: Global, heap: &mut Heap, target: &Option<Reference>) -> Answer
     ensures row { DoesAnywhere result heap.new (deletes target.now heap.old) }
     ensures grows { Grows heap.old heap.new }
 {
@@ -308,16 +320,12 @@ pub(crate) fn deletes(
     }
 }
 
-fn delete_member(alloc: Global, heap: &mut Heap, member: &Reference) -> Result<Next, NoMemory>
+fn delete_member(alloc: Global, heap: &mut Heap, member: &Reference) -> Answer
     ensures row { DoesAnywhere result heap.new (deletes (Some member.now) heap.old) }
     ensures grows { Grows heap.old heap.new }
 {
     match delete(heap, member.base, member.key) {
-        Written::Done => give(Value::Bool(true)),
-        Written::TypeFault => throw(alloc, heap, Class::ThrownTypeError),
-        Written::Fault(fault) => halt(Stop::Fault(fault)),
-        Written::Limit(limit) => halt(Stop::Limit(limit)),
-        Written::Memory => Err(NoMemory),
-        Written::Host { .. } => halt(Stop::Fault(Fault::NotInProfile)),
+        Ok(()) => give(Value::Bool(true)),
+        Err(cause) => abrupt(alloc, heap, cause),
     }
 }

@@ -1,19 +1,19 @@
-ghost use Rattle.rip_machine.specs.Rows.Expressions.{name_row};
-ghost use Rattle.std.specs.Prelude.{◌≡◌, Ok, Err, OnErr, MatchResult};
+ghost use Rattle.rip_machine.specs.Rows.Expressions.{abruptly, name_row};
+ghost use Rattle.std.specs.Prelude.{◌≡◌, Ok, Err, IsErr, OnErr, MatchResult};
 ghost use Rattle.rip_heap.specs.Growth.{Grows};
 ghost use Rattle.rip_machine.specs.Does.{DoesAnywhere, Does};
 ghost use Rattle.rip_machine.specs.Rows.Names.{bound, found, scope_up, throws, written};
 
-use crate::rows::answers::{give, halt};
+use crate::rows::answers::{Answer, give, halt};
 use crate::source::Source;
-use rip_heap::{Class, Heap};
+use rip_heap::{Abrupt, Class, Heap};
 use rip_runs::{Completion, Next, Part, Role, Stop};
 use rip_tree::{Resolved, Scoping};
 use rip_values::{Limit, NoMemory, Refused, Value};
 use std::alloc::Global;
 
 /// Throws a new error of this class.
-pub(crate) fn throw(alloc: Global, heap: &mut Heap, class: Class) -> Result<Next, NoMemory>
+pub(crate) fn throw(alloc: Global, heap: &mut Heap, class: Class) -> Answer
     ensures row { DoesAnywhere result heap.new (throws class heap.old) }
     ensures grows { Grows heap.old heap.new }
 {
@@ -21,6 +21,20 @@ pub(crate) fn throw(alloc: Global, heap: &mut Heap, class: Class) -> Result<Next
         Ok(error) => Ok(Next::End(Completion::Thrown(Value::Object(error)))),
         Err(Refused::Limit(limit)) => halt(Stop::Limit(limit)),
         Err(Refused::Memory) => Err(NoMemory),
+    }
+}
+
+/// What a row does where an operation has no value.
+pub(crate) fn abrupt(alloc: Global, heap: &mut Heap, cause: Abrupt) -> Answer
+    ensures row { DoesAnywhere result heap.new (abruptly cause heap.old) }
+    ensures memory { cause ≡ Abrupt.Memory → IsErr result }
+    ensures grows { Grows heap.old heap.new }
+{
+    match cause {
+        Abrupt::TypeError => throw(alloc, heap, Class::ThrownTypeError),
+        Abrupt::Fault(fault) => halt(Stop::Fault(fault)),
+        Abrupt::Limit(limit) => halt(Stop::Limit(limit)),
+        Abrupt::Memory => Err(NoMemory),
     }
 }
 
@@ -49,7 +63,8 @@ pub(crate) fn found(heap: &Heap, scope: u32, name: Option<Resolved>) -> Option<V
 
 /// Writes a value to what a name means from this scope on, or answers the class of the error to be thrown.
 pub(crate) fn write(heap: &mut Heap, scope: u32, scoping: Scoping, v: Value) -> Result<(), Class>
-    ensures written { MatchResult result (λ _. written heap.old scope scoping v ≡ Ok heap.new) (λ class. written heap.old scope scoping v ≡ Err class) }
+    ensures written { MatchResult result (λ _. written heap.old scope scoping v ≡ Ok heap.new)
+        (λ class. written heap.old scope scoping v ≡ Err class) }
     ensures kept { OnErr result (heap.new ≡ heap.old) }
     ensures grows { Grows heap.old heap.new }
 {
@@ -82,19 +97,14 @@ pub(crate) fn bind(heap: &mut Heap, scope: u32, name: Option<Resolved>, v: Value
     }
 }
 
-pub(crate) fn begin_name(
-    alloc: Global,
-    p: &Source,
-    heap: &mut Heap,
-    at: &Part,
-) -> Result<Next, NoMemory>
+pub(crate) fn begin_name(p: &Source, heap: &mut Heap, at: &Part) -> Answer
     ensures row { Does p.now at.now result heap.new (name_row p.now at.now at.now.role heap.old) }
     ensures grows { Grows heap.old heap.new }
 {
     match at.role {
         Role::Value | Role::Callee => match found(heap, at.scope, p.scoping(at.node).resolved) {
             Some(v) => give(v),
-            None => throw(alloc, heap, Class::ThrownReferenceError),
+            None => throw(p.alloc(), heap, Class::ThrownReferenceError),
         },
         Role::Target => give(Value::Undefined),
     }

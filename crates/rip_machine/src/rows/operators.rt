@@ -4,22 +4,21 @@ ghost use Rattle.rip_machine.specs.Does.{Does, DoesPurely};
 ghost use Rattle.rip_machine.specs.Rows.Expressions.{binary_row, comma_row, conditional_row, is_decided, logical_row};
 ghost use Rattle.rip_machine.specs.Table.{own_rest};
 
-use crate::rows::answers::{ask, end, give, halt, truth_of, value_of};
-use crate::rows::names::throw;
+use crate::rows::answers::{Answer, ask, end, give, truth_of, value_of};
+use crate::rows::names::abrupt;
 use crate::source::Source;
-use rip_heap::{Class, Heap, OpDone, to_boolean};
+use rip_heap::{Heap, to_boolean};
 use rip_ops::binary;
-use rip_runs::{Completion, Next, OwnWait, Part, Stop};
-use rip_values::{LogicalOperator, NoMemory, Value};
-use std::alloc::Global;
+use rip_runs::{Completion, OwnWait, Part};
+use rip_values::{LogicalOperator, Value};
 
-pub(crate) fn begin_binary(p: &Source, at: &Part) -> Result<Next, NoMemory>
+pub(crate) fn begin_binary(p: &Source, at: &Part) -> Answer
     ensures row { DoesPurely p.now at.now result (binary_row p.now at.now) }
 {
     ask(p.part_at(at, 0), OwnWait::Left)
 }
 
-pub(crate) fn after_left(p: &Source, at: &Part, c: &Completion) -> Result<Next, NoMemory>
+pub(crate) fn after_left(p: &Source, at: &Part, c: &Completion) -> Answer
     ensures row { DoesPurely p.now at.now result (own_rest p.now at.now OwnWait.Left [] c.now) }
 {
     match value_of(c) {
@@ -29,41 +28,34 @@ pub(crate) fn after_left(p: &Source, at: &Part, c: &Completion) -> Result<Next, 
 }
 
 pub(crate) fn after_right(
-    alloc: Global,
     p: &Source,
     heap: &mut Heap,
     at: &Part,
     left: Value,
     c: &Completion,
-) -> Result<Next, NoMemory>
-    ensures row { Does p.now at.now result heap.new (own_rest p.now at.now (OwnWait.Right left) [] c.now heap.old) }
+) -> Answer
+    ensures row { Does p.now at.now result heap.new
+        (own_rest p.now at.now (OwnWait.Right left) [] c.now heap.old) }
     ensures grows { Grows heap.old heap.new }
 {
     match value_of(c) {
-        Some(right) => match binary(alloc, heap, p.operator(at.node), left, right) {
-            OpDone::Value(v) => give(v),
-            OpDone::TypeFault => throw(alloc, heap, Class::ThrownTypeError),
-            OpDone::Fault(fault) => halt(Stop::Fault(fault)),
-            OpDone::Limit(limit) => halt(Stop::Limit(limit)),
-            OpDone::Memory => Err(NoMemory),
+        Some(right) => match binary(p.alloc(), heap, p.operator(at.node), left, right) {
+            Ok(v) => give(v),
+            Err(cause) => abrupt(p.alloc(), heap, cause),
         },
         None => end(c),
     }
 }
 
-pub(crate) fn begin_logical(p: &Source, at: &Part) -> Result<Next, NoMemory>
+pub(crate) fn begin_logical(p: &Source, at: &Part) -> Answer
     ensures row { DoesPurely p.now at.now result (logical_row p.now at.now) }
 {
     ask(p.part_at(at, 0), OwnWait::LogicalLeft)
 }
 
-pub(crate) fn after_logical_left(
-    p: &Source,
-    heap: &Heap,
-    at: &Part,
-    c: &Completion,
-) -> Result<Next, NoMemory>
-    ensures row { Does p.now at.now result heap.now (own_rest p.now at.now OwnWait.LogicalLeft [] c.now heap.now) }
+pub(crate) fn after_logical_left(p: &Source, heap: &Heap, at: &Part, c: &Completion) -> Answer
+    ensures row { Does p.now at.now result heap.now
+        (own_rest p.now at.now OwnWait.LogicalLeft [] c.now heap.now) }
 {
     match value_of(c) {
         Some(left) => {
@@ -87,19 +79,15 @@ fn is_decided(op: LogicalOperator, truth: bool) -> bool
     }
 }
 
-pub(crate) fn begin_conditional(p: &Source, at: &Part) -> Result<Next, NoMemory>
+pub(crate) fn begin_conditional(p: &Source, at: &Part) -> Answer
     ensures row { DoesPurely p.now at.now result (conditional_row p.now at.now) }
 {
     ask(p.part_at(at, 0), OwnWait::ConditionalTest)
 }
 
-pub(crate) fn after_conditional_test(
-    p: &Source,
-    heap: &Heap,
-    at: &Part,
-    c: &Completion,
-) -> Result<Next, NoMemory>
-    ensures row { Does p.now at.now result heap.now (own_rest p.now at.now OwnWait.ConditionalTest [] c.now heap.now) }
+pub(crate) fn after_conditional_test(p: &Source, heap: &Heap, at: &Part, c: &Completion) -> Answer
+    ensures row { Does p.now at.now result heap.now
+        (own_rest p.now at.now OwnWait.ConditionalTest [] c.now heap.now) }
 {
     match value_of(c) {
         Some(test) => {
@@ -110,13 +98,13 @@ pub(crate) fn after_conditional_test(
     }
 }
 
-pub(crate) fn begin_comma(p: &Source, at: &Part) -> Result<Next, NoMemory>
+pub(crate) fn begin_comma(p: &Source, at: &Part) -> Answer
     ensures row { DoesPurely p.now at.now result (comma_row p.now at.now) }
 {
     ask(p.part_at(at, 0), OwnWait::CommaLeft)
 }
 
-pub(crate) fn after_comma_left(p: &Source, at: &Part, c: &Completion) -> Result<Next, NoMemory>
+pub(crate) fn after_comma_left(p: &Source, at: &Part, c: &Completion) -> Answer
     ensures row { DoesPurely p.now at.now result (own_rest p.now at.now OwnWait.CommaLeft [] c.now) }
 {
     match value_of(c) {

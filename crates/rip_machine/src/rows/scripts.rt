@@ -8,7 +8,6 @@ use crate::source::Source;
 use rip_heap::Heap;
 use rip_runs::{Part, Role};
 use rip_values::{NoMemory, Value};
-use std::alloc::Global;
 
 /// Declares names of `var`, by their places in the top scope: each keeps its value, or begins as undefined.
 fn declare_vars(heap: &mut Heap, places: &[u32])
@@ -31,13 +30,10 @@ fn declare_var(heap: &mut Heap, place: u32)
 }
 
 /// Binds what a script declares, and tells whether its charge fits; where it does not, nothing is done.
-pub(crate) fn enter_script(
-    alloc: Global,
-    p: &Source,
-    heap: &mut Heap,
-    script: u32,
-) -> Result<bool, NoMemory>
-    ensures entered { IfOk result (λ fits. MatchBool fits (script_entered p.now script heap.old ≡ Some heap.new) ((script_entered p.now script heap.old ≡ None) × (heap.new ≡ heap.old))) }
+pub(crate) fn enter_script(p: &Source, heap: &mut Heap, script: u32) -> Result<bool, NoMemory>
+    ensures entered { IfOk result (λ fits. MatchBool fits
+        (script_entered p.now script heap.old ≡ Some heap.new)
+        ((script_entered p.now script heap.old ≡ None) × (heap.new ≡ heap.old))) }
     ensures grows { Grows heap.old heap.new }
 {
     let root = p.program.root(script);
@@ -45,7 +41,7 @@ pub(crate) fn enter_script(
     if cost > u64::from(heap.free_cells()) {
         return Ok(false);
     }
-    bind_functions(alloc, p, heap, 0, root, 0)?;
+    bind_functions(p, heap, 0, root, 0)?;
     declare_vars(heap, p.program.vars(script));
     Ok(true)
 }

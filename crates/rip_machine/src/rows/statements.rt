@@ -8,14 +8,13 @@ ghost use Rattle.rip_machine.specs.Rows.Statements.{block_row, constructed, decl
 ghost use Rattle.rip_machine.specs.Table.{own_rest};
 ghost use Rattle.rip_runs.specs.declared.frame.Ending.{Ending};
 
-use crate::rows::answers::{ask, end, give, truth_of, turn, value_of};
+use crate::rows::answers::{Answer, ask, end, give, truth_of, turn, value_of};
 use crate::rows::names::{throw, write};
 use crate::source::Source;
 use rip_heap::Heap;
 use rip_runs::{Completion, Ending, Next, OwnWait, Part};
 use rip_tree::Form;
 use rip_values::{NoMemory, Value};
-use std::alloc::Global;
 
 // LISTS
 
@@ -90,7 +89,9 @@ pub(crate) struct Listed {
 /// memory.
 #[tactic(auto, using(crate::proofs::Children::children_some, crate::proofs::Children::children_none))]
 pub(crate) fn first_statement(p: &Source, at: &Part, from: u32) -> Result<Option<Listed>, NoMemory>
-    ensures { IfOk result (λ first. (ending : Ending) (w : World) → IsFirst p.now at.now ending first w (statements p.now at.now ending (children_from p.now at.now.node from) w)) }
+    ensures { IfOk result (λ first. (ending : Ending) (w : World)
+        → IsFirst p.now at.now ending first w (statements p.now at.now ending
+        (children_from p.now at.now.node from) w)) }
 {
     let mut place = from;
     while let Some(node) = p.child_at(at.node, place) {
@@ -106,8 +107,9 @@ pub(crate) fn first_statement(p: &Source, at: &Part, from: u32) -> Result<Option
 }
 
 /// The statements of a list from this place on.
-pub(crate) fn statements(p: &Source, at: &Part, ending: Ending, from: u32) -> Result<Next, NoMemory>
-    ensures row { DoesPurely p.now at.now result (statements p.now at.now ending (children_from p.now at.now.node from)) }
+pub(crate) fn statements(p: &Source, at: &Part, ending: Ending, from: u32) -> Answer
+    ensures row { DoesPurely p.now at.now result
+        (statements p.now at.now ending (children_from p.now at.now.node from)) }
 {
     match first_statement(p, at, from)? {
         Some(s) => ask(
@@ -127,8 +129,9 @@ pub(crate) fn after_statement(
     place: u32,
     ending: Ending,
     c: &Completion,
-) -> Result<Next, NoMemory>
-    ensures row { DoesPurely p.now at.now result (own_rest p.now at.now (OwnWait.Statement place ending) [] c.now) }
+) -> Answer
+    ensures row { DoesPurely p.now at.now result
+        (own_rest p.now at.now (OwnWait.Statement place ending) [] c.now) }
 {
     match c {
         Completion::Normal(_) => {
@@ -141,7 +144,7 @@ pub(crate) fn after_statement(
     }
 }
 
-pub(crate) fn begin_block(p: &Source, at: &Part) -> Result<Next, NoMemory>
+pub(crate) fn begin_block(p: &Source, at: &Part) -> Answer
     ensures row { DoesPurely p.now at.now result (block_row p.now at.now) }
 {
     statements(p, at, Ending::Block, 0)
@@ -149,13 +152,13 @@ pub(crate) fn begin_block(p: &Source, at: &Part) -> Result<Next, NoMemory>
 
 // SIMPLE STATEMENTS
 
-pub(crate) fn begin_expression(p: &Source, at: &Part) -> Result<Next, NoMemory>
+pub(crate) fn begin_expression(p: &Source, at: &Part) -> Answer
     ensures row { DoesPurely p.now at.now result (expression_row p.now at.now) }
 {
     ask(p.part_at(at, 0), OwnWait::Expression)
 }
 
-pub(crate) fn after_expression(c: &Completion) -> Result<Next, NoMemory>
+pub(crate) fn after_expression(c: &Completion) -> Answer
     ensures row { DoesAlways result (λ w. with_value c.now w (λ _. done w)) }
 {
     match value_of(c) {
@@ -164,19 +167,15 @@ pub(crate) fn after_expression(c: &Completion) -> Result<Next, NoMemory>
     }
 }
 
-pub(crate) fn begin_if(p: &Source, at: &Part) -> Result<Next, NoMemory>
+pub(crate) fn begin_if(p: &Source, at: &Part) -> Answer
     ensures row { DoesPurely p.now at.now result (if_row p.now at.now) }
 {
     ask(p.part_at(at, 0), OwnWait::IfTest)
 }
 
-pub(crate) fn after_if_test(
-    p: &Source,
-    heap: &Heap,
-    at: &Part,
-    c: &Completion,
-) -> Result<Next, NoMemory>
-    ensures row { Does p.now at.now result heap.now (own_rest p.now at.now OwnWait.IfTest [] c.now heap.now) }
+pub(crate) fn after_if_test(p: &Source, heap: &Heap, at: &Part, c: &Completion) -> Answer
+    ensures row { Does p.now at.now result heap.now
+        (own_rest p.now at.now OwnWait.IfTest [] c.now heap.now) }
 {
     match value_of(c) {
         Some(test) => {
@@ -192,7 +191,7 @@ pub(crate) fn after_if_test(
     }
 }
 
-pub(crate) fn begin_return(p: &Source, at: &Part) -> Result<Next, NoMemory>
+pub(crate) fn begin_return(p: &Source, at: &Part) -> Answer
     ensures row { DoesPurely p.now at.now result (return_row p.now at.now) }
 {
     match p.child_at(at.node, 0) {
@@ -201,7 +200,7 @@ pub(crate) fn begin_return(p: &Source, at: &Part) -> Result<Next, NoMemory>
     }
 }
 
-pub(crate) fn after_return_value(c: &Completion) -> Result<Next, NoMemory>
+pub(crate) fn after_return_value(c: &Completion) -> Answer
     ensures row { DoesAlways result (return_end c.now) }
 {
     match value_of(c) {
@@ -214,7 +213,8 @@ pub(crate) fn after_return_value(c: &Completion) -> Result<Next, NoMemory>
 
 /// Whether a loop goes on after its statement, and else what it ends with.
 fn goes_on(c: &Completion) -> Result<(), Completion>
-    ensures { MatchResult result (λ _. (w : World) (again : Row) → goes_on c.now w again ≡ again) (λ end. (w : World) (again : Row) → goes_on c.now w again ≡ Ends end w) }
+    ensures { MatchResult result (λ _. (w : World) (again : Row) → goes_on c.now w again ≡ again)
+        (λ end. (w : World) (again : Row) → goes_on c.now w again ≡ Ends end w) }
 {
     match c {
         Completion::Broken => Err(Completion::Normal(Value::Undefined)),
@@ -225,7 +225,8 @@ fn goes_on(c: &Completion) -> Result<(), Completion>
 
 /// Whether a loop goes on after its test, and else what it ends with.
 fn tested(heap: &Heap, c: &Completion) -> Result<(), Completion>
-    ensures { MatchResult result (λ _. (again : Row) → tested c.now heap.now again ≡ again) (λ end. (again : Row) → tested c.now heap.now again ≡ Ends end heap.now) }
+    ensures { MatchResult result (λ _. (again : Row) → tested c.now heap.now again ≡ again)
+        (λ end. (again : Row) → tested c.now heap.now again ≡ Ends end heap.now) }
 {
     match value_of(c) {
         Some(test) => {
@@ -239,13 +240,13 @@ fn tested(heap: &Heap, c: &Completion) -> Result<(), Completion>
     }
 }
 
-pub(crate) fn begin_do(p: &Source, at: &Part) -> Result<Next, NoMemory>
+pub(crate) fn begin_do(p: &Source, at: &Part) -> Answer
     ensures row { DoesPurely p.now at.now result (do_row p.now at.now) }
 {
     turn(p.part_at(at, 0), OwnWait::DoBody)
 }
 
-pub(crate) fn after_do_body(p: &Source, at: &Part, c: &Completion) -> Result<Next, NoMemory>
+pub(crate) fn after_do_body(p: &Source, at: &Part, c: &Completion) -> Answer
     ensures row { DoesPurely p.now at.now result (own_rest p.now at.now OwnWait.DoBody [] c.now) }
 {
     match goes_on(c) {
@@ -254,13 +255,9 @@ pub(crate) fn after_do_body(p: &Source, at: &Part, c: &Completion) -> Result<Nex
     }
 }
 
-pub(crate) fn after_do_test(
-    p: &Source,
-    heap: &Heap,
-    at: &Part,
-    c: &Completion,
-) -> Result<Next, NoMemory>
-    ensures row { Does p.now at.now result heap.now (own_rest p.now at.now OwnWait.DoTest [] c.now heap.now) }
+pub(crate) fn after_do_test(p: &Source, heap: &Heap, at: &Part, c: &Completion) -> Answer
+    ensures row { Does p.now at.now result heap.now
+        (own_rest p.now at.now OwnWait.DoTest [] c.now heap.now) }
 {
     match tested(heap, c) {
         Ok(()) => begin_do(p, at),
@@ -268,19 +265,15 @@ pub(crate) fn after_do_test(
     }
 }
 
-pub(crate) fn begin_while(p: &Source, at: &Part) -> Result<Next, NoMemory>
+pub(crate) fn begin_while(p: &Source, at: &Part) -> Answer
     ensures row { DoesPurely p.now at.now result (while_row p.now at.now) }
 {
     turn(p.part_at(at, 0), OwnWait::WhileTest)
 }
 
-pub(crate) fn after_while_test(
-    p: &Source,
-    heap: &Heap,
-    at: &Part,
-    c: &Completion,
-) -> Result<Next, NoMemory>
-    ensures row { Does p.now at.now result heap.now (own_rest p.now at.now OwnWait.WhileTest [] c.now heap.now) }
+pub(crate) fn after_while_test(p: &Source, heap: &Heap, at: &Part, c: &Completion) -> Answer
+    ensures row { Does p.now at.now result heap.now
+        (own_rest p.now at.now OwnWait.WhileTest [] c.now heap.now) }
 {
     match tested(heap, c) {
         Ok(()) => turn(p.part_at(at, 1), OwnWait::WhileBody),
@@ -288,7 +281,7 @@ pub(crate) fn after_while_test(
     }
 }
 
-pub(crate) fn after_while_body(p: &Source, at: &Part, c: &Completion) -> Result<Next, NoMemory>
+pub(crate) fn after_while_body(p: &Source, at: &Part, c: &Completion) -> Answer
     ensures row { DoesPurely p.now at.now result (own_rest p.now at.now OwnWait.WhileBody [] c.now) }
 {
     match goes_on(c) {
@@ -298,14 +291,14 @@ pub(crate) fn after_while_body(p: &Source, at: &Part, c: &Completion) -> Result<
 }
 
 /// The statement of a `for`.
-fn for_statement(p: &Source, at: &Part) -> Result<Next, NoMemory>
+fn for_statement(p: &Source, at: &Part) -> Answer
     ensures row { DoesPurely p.now at.now result (for_statement p.now at.now) }
 {
     turn(p.part_at(at, 3), OwnWait::ForBody)
 }
 
 /// A turn of a `for`: its test, or its statement where it has none.
-fn for_turn(p: &Source, at: &Part) -> Result<Next, NoMemory>
+fn for_turn(p: &Source, at: &Part) -> Answer
     ensures row { DoesPurely p.now at.now result (for_turn p.now at.now) }
 {
     match p.child_at(at.node, 1) {
@@ -314,13 +307,9 @@ fn for_turn(p: &Source, at: &Part) -> Result<Next, NoMemory>
     }
 }
 
-pub(crate) fn after_for_test(
-    p: &Source,
-    heap: &Heap,
-    at: &Part,
-    c: &Completion,
-) -> Result<Next, NoMemory>
-    ensures row { Does p.now at.now result heap.now (own_rest p.now at.now OwnWait.ForTest [] c.now heap.now) }
+pub(crate) fn after_for_test(p: &Source, heap: &Heap, at: &Part, c: &Completion) -> Answer
+    ensures row { Does p.now at.now result heap.now
+        (own_rest p.now at.now OwnWait.ForTest [] c.now heap.now) }
 {
     match tested(heap, c) {
         Ok(()) => for_statement(p, at),
@@ -328,7 +317,7 @@ pub(crate) fn after_for_test(
     }
 }
 
-pub(crate) fn after_for_body(p: &Source, at: &Part, c: &Completion) -> Result<Next, NoMemory>
+pub(crate) fn after_for_body(p: &Source, at: &Part, c: &Completion) -> Answer
     ensures row { DoesPurely p.now at.now result (own_rest p.now at.now OwnWait.ForBody [] c.now) }
 {
     match goes_on(c) {
@@ -338,8 +327,9 @@ pub(crate) fn after_for_body(p: &Source, at: &Part, c: &Completion) -> Result<Ne
 }
 
 /// The update of a `for`, or its next turn where it has none.
-fn for_update(p: &Source, at: &Part) -> Result<Next, NoMemory>
-    ensures row { DoesPurely p.now at.now result (for_update_by p.now at.now (child_at p.now at.now.node 2)) }
+fn for_update(p: &Source, at: &Part) -> Answer
+    ensures row { DoesPurely p.now at.now result
+        (for_update_by p.now at.now (child_at p.now at.now.node 2)) }
 {
     match p.child_at(at.node, 2) {
         Some(update) => turn(at.inner(update), OwnWait::ForUpdate),
@@ -347,7 +337,7 @@ fn for_update(p: &Source, at: &Part) -> Result<Next, NoMemory>
     }
 }
 
-pub(crate) fn after_for_update(p: &Source, at: &Part, c: &Completion) -> Result<Next, NoMemory>
+pub(crate) fn after_for_update(p: &Source, at: &Part, c: &Completion) -> Answer
     ensures row { DoesPurely p.now at.now result (own_rest p.now at.now OwnWait.ForUpdate [] c.now) }
 {
     match value_of(c) {
@@ -382,7 +372,7 @@ fn declarators_in(p: &Source, at: &Part) -> u32
 }
 
 /// What follows the declarators.
-fn declared(p: &Source, at: &Part) -> Result<Next, NoMemory>
+fn declared(p: &Source, at: &Part) -> Answer
     ensures row { DoesPurely p.now at.now result (declared p.now at.now) }
 {
     if is_for(p.form(at.node)) {
@@ -394,8 +384,9 @@ fn declared(p: &Source, at: &Part) -> Result<Next, NoMemory>
 
 /// The initialisers from this place on.
 #[tactic(auto, using(crate::proofs::Children::children_some, crate::proofs::Children::children_none))]
-fn declarations(p: &Source, at: &Part, from: u32) -> Result<Next, NoMemory>
-    ensures row { DoesPurely p.now at.now result (declarations p.now at.now (children_from p.now (declarators_in p.now at.now) from)) }
+fn declarations(p: &Source, at: &Part, from: u32) -> Answer
+    ensures row { DoesPurely p.now at.now result
+        (declarations p.now at.now (children_from p.now (declarators_in p.now at.now) from)) }
 {
     let list = declarators_in(p, at);
     let mut place = from;
@@ -411,21 +402,21 @@ fn declarations(p: &Source, at: &Part, from: u32) -> Result<Next, NoMemory>
     declared(p, at)
 }
 
-pub(crate) fn begin_var(p: &Source, at: &Part) -> Result<Next, NoMemory>
+pub(crate) fn begin_var(p: &Source, at: &Part) -> Answer
     ensures row { DoesPurely p.now at.now result (var_row p.now at.now) }
 {
     declarations(p, at, 0)
 }
 
 pub(crate) fn after_initialiser(
-    alloc: Global,
     p: &Source,
     heap: &mut Heap,
     at: &Part,
     place: u32,
     c: &Completion,
-) -> Result<Next, NoMemory>
-    ensures row { Does p.now at.now result heap.new (own_rest p.now at.now (OwnWait.Initialiser place) [] c.now heap.old) }
+) -> Answer
+    ensures row { Does p.now at.now result heap.new
+        (own_rest p.now at.now (OwnWait.Initialiser place) [] c.now heap.old) }
     ensures grows { Grows heap.old heap.new }
 {
     if place == u32::MAX {
@@ -436,14 +427,14 @@ pub(crate) fn after_initialiser(
             let name = p.scoping(p.child(declarators_in(p, at), place));
             match write(heap, at.scope, name, v) {
                 Ok(()) => declarations(p, at, place + 1),
-                Err(class) => throw(alloc, heap, class),
+                Err(class) => throw(p.alloc(), heap, class),
             }
         },
         None => end(c),
     }
 }
 
-pub(crate) fn begin_for(p: &Source, at: &Part) -> Result<Next, NoMemory>
+pub(crate) fn begin_for(p: &Source, at: &Part) -> Answer
     ensures row { DoesPurely p.now at.now result (for_row p.now at.now) }
 {
     match p.child_at(at.node, 0) {
@@ -458,7 +449,7 @@ pub(crate) fn begin_for(p: &Source, at: &Part) -> Result<Next, NoMemory>
     }
 }
 
-pub(crate) fn after_for_start(p: &Source, at: &Part, c: &Completion) -> Result<Next, NoMemory>
+pub(crate) fn after_for_start(p: &Source, at: &Part, c: &Completion) -> Answer
     ensures row { DoesPurely p.now at.now result (own_rest p.now at.now OwnWait.ForStart [] c.now) }
 {
     match value_of(c) {

@@ -5,7 +5,7 @@ ghost use Rattle.rip_machine.specs.Reading.{form_of};
 ghost use Rattle.rip_machine.specs.Rows.Switch.{case_tests, clauses_from, entered_at, from_default, is_default, switch_row};
 ghost use Rattle.rip_machine.specs.Table.{own_rest};
 
-use crate::rows::answers::{ask, end, give, value_of};
+use crate::rows::answers::{Answer, ask, end, give, value_of};
 use crate::rows::statements::ended;
 use crate::source::Source;
 use rip_heap::{Heap, strictly_equal};
@@ -29,14 +29,15 @@ fn place_of_first(p: &Source, clause: u32) -> u32
     if is_default(p.form(clause)) { 0 } else { 1 }
 }
 
-pub(crate) fn begin_switch(p: &Source, at: &Part) -> Result<Next, NoMemory>
+pub(crate) fn begin_switch(p: &Source, at: &Part) -> Answer
     ensures row { DoesPurely p.now at.now result (switch_row p.now at.now) }
 {
     ask(p.part_at(at, 0), OwnWait::Discriminant)
 }
 
-pub(crate) fn after_discriminant(p: &Source, at: &Part, c: &Completion) -> Result<Next, NoMemory>
-    ensures row { DoesPurely p.now at.now result (own_rest p.now at.now OwnWait.Discriminant [] c.now) }
+pub(crate) fn after_discriminant(p: &Source, at: &Part, c: &Completion) -> Answer
+    ensures row { DoesPurely p.now at.now result
+        (own_rest p.now at.now OwnWait.Discriminant [] c.now) }
 {
     match value_of(c) {
         Some(v) => tests(p, at, v, 0),
@@ -48,8 +49,9 @@ pub(crate) fn after_discriminant(p: &Source, at: &Part, c: &Completion) -> Resul
 
 /// The tests of the clauses from this place on, and behind them `default`.
 #[tactic(auto, using(crate::proofs::Children::children_some, crate::proofs::Children::children_none))]
-fn tests(p: &Source, at: &Part, v: Value, from: u32) -> Result<Next, NoMemory>
-    ensures row { DoesPurely p.now at.now result (case_tests p.now at.now v (clauses_from p.now at.now from)) }
+fn tests(p: &Source, at: &Part, v: Value, from: u32) -> Answer
+    ensures row { DoesPurely p.now at.now result
+        (case_tests p.now at.now v (clauses_from p.now at.now from)) }
 {
     let mut clause = from;
     while clause < MOST_CLAUSES {
@@ -79,8 +81,9 @@ pub(crate) fn after_case_test(
     clause: u32,
     v: Value,
     c: &Completion,
-) -> Result<Next, NoMemory>
-    ensures row { Does p.now at.now result heap.now (own_rest p.now at.now (OwnWait.CaseTest clause v) [] c.now heap.now) }
+) -> Answer
+    ensures row { Does p.now at.now result heap.now
+        (own_rest p.now at.now (OwnWait.CaseTest clause v) [] c.now heap.now) }
 {
     if clause >= MOST_CLAUSES {
         return Err(NoMemory);
@@ -99,8 +102,9 @@ pub(crate) fn after_case_test(
 
 /// `default` and the clauses behind it, where there is one.
 #[tactic(auto, using(crate::proofs::Children::children_some, crate::proofs::Children::children_none))]
-fn default_clause(p: &Source, at: &Part) -> Result<Next, NoMemory>
-    ensures row { DoesPurely p.now at.now result (entered_at p.now at.now (from_default p.now (clauses_from p.now at.now 0))) }
+fn default_clause(p: &Source, at: &Part) -> Answer
+    ensures row { DoesPurely p.now at.now result
+        (entered_at p.now at.now (from_default p.now (clauses_from p.now at.now 0))) }
 {
     let mut clause = 0;
     while clause < MOST_CLAUSES {
@@ -119,8 +123,9 @@ fn default_clause(p: &Source, at: &Part) -> Result<Next, NoMemory>
 
 /// The statements of the clauses from this place on.
 #[tactic(auto, using(crate::proofs::Children::children_some, crate::proofs::Children::children_none))]
-fn clauses(p: &Source, at: &Part, from: u32) -> Result<Next, NoMemory>
-    ensures row { DoesPurely p.now at.now result (entered_at p.now at.now (clauses_from p.now at.now from)) }
+fn clauses(p: &Source, at: &Part, from: u32) -> Answer
+    ensures row { DoesPurely p.now at.now result
+        (entered_at p.now at.now (clauses_from p.now at.now from)) }
 {
     let mut clause = from;
     while clause < MOST_CLAUSES {
@@ -144,8 +149,9 @@ pub(crate) fn after_clause_statement(
     clause: u32,
     place: u32,
     c: &Completion,
-) -> Result<Next, NoMemory>
-    ensures row { DoesPurely p.now at.now result (own_rest p.now at.now (OwnWait.ClauseStatement clause place) [] c.now) }
+) -> Answer
+    ensures row { DoesPurely p.now at.now result
+        (own_rest p.now at.now (OwnWait.ClauseStatement clause place) [] c.now) }
 {
     if clause >= MOST_CLAUSES || place == u32::MAX {
         return Err(NoMemory);

@@ -7,20 +7,20 @@ ghost use Rattle.rip_runs.specs.Row.{with_value};
 ghost use Rattle.rip_machine.specs.Rows.Expressions.{gives, is_built_in_function, is_delete, is_deleted, is_member, is_name, is_type_of, is_unread, kind_of, kind_of_found, kind_text, operand, operand_end, operated, target_found, unary_row, with_outcome};
 ghost use Rattle.rip_machine.specs.Table.{own_rest};
 
-use crate::rows::answers::{ask, end, give, halt, value_of};
+use crate::rows::answers::{Answer, ask, end, give, value_of};
 use crate::rows::assignment::target_found;
 use crate::rows::members::{deletes, target_of};
-use crate::rows::names::throw;
+use crate::rows::names::abrupt;
 use crate::source::Source;
-use rip_heap::{Class, Heap, OpDone};
+use rip_heap::Heap;
 use rip_members::builtin_of;
 use rip_ops::{UnaryOp, unary};
-use rip_runs::{Completion, Inner, Next, OwnWait, Part, Stop};
+use rip_runs::{Completion, Inner, OwnWait, Part};
 use rip_tree::Form;
-use rip_values::{Builtin, FixedText, NoMemory, Span, UnaryOperator, Value};
+use rip_values::{Builtin, FixedText, Span, UnaryOperator, Value};
 use std::alloc::Global;
 
-pub(crate) fn begin_unary(p: &Source, at: &Part) -> Result<Next, NoMemory>
+pub(crate) fn begin_unary(p: &Source, at: &Part) -> Answer
     ensures row { DoesPurely p.now at.now result (unary_row p.now at.now) }
 {
     ask(operand(p, at), OwnWait::Operand)
@@ -72,95 +72,71 @@ fn is_member(form: Form) -> bool
     matches!(form, Form::Member(_) | Form::Index)
 }
 
-pub(crate) fn after_operand(
-    alloc: Global,
-    p: &Source,
-    heap: &mut Heap,
-    at: &Part,
-    c: &Completion,
-) -> Result<Next, NoMemory>
-    ensures row { Does p.now at.now result heap.new (own_rest p.now at.now OwnWait.Operand [] c.now heap.old) }
+pub(crate) fn after_operand(p: &Source, heap: &mut Heap, at: &Part, c: &Completion) -> Answer
+    ensures row { Does p.now at.now result heap.new
+        (own_rest p.now at.now OwnWait.Operand [] c.now heap.old) }
     ensures grows { Grows heap.old heap.new }
 {
     match p.unary_operator(at.node) {
-        UnaryOperator::Delete => after_deleted(alloc, p, heap, at, c),
-        op => after_value(alloc, p, heap, at, op, c),
+        UnaryOperator::Delete => after_deleted(p, heap, at, c),
+        op => after_value(p, heap, at, op, c),
     }
 }
 
 /// What `delete` does with its operand.
-fn after_deleted(
-    alloc: Global,
-    p: &Source,
-    heap: &mut Heap,
-    at: &Part,
-    c: &Completion,
-) -> Result<Next, NoMemory>
-    ensures row { Does p.now at.now result heap.new (operand_end p.now at.now UnaryOperator.Delete c.now heap.old) }
+fn after_deleted(p: &Source, heap: &mut Heap, at: &Part, c: &Completion) -> Answer
+    ensures row { Does p.now at.now result heap.new
+        (operand_end p.now at.now UnaryOperator.Delete c.now heap.old) }
     ensures grows { Grows heap.old heap.new }
 {
     match target_of(c) {
-        Ok(target) => deletes(alloc, heap, &target),
+        Ok(target) => deletes(p.alloc(), heap, &target),
         Err(other) => end(&other),
     }
 }
 
 /// What another operator does with its operand.
-fn after_value(
-    alloc: Global,
-    p: &Source,
-    heap: &mut Heap,
-    at: &Part,
-    op: UnaryOperator,
-    c: &Completion,
-) -> Result<Next, NoMemory>
-    ensures row { Does p.now at.now result heap.new (with_value c.now heap.old (λ a. operated p.now at.now op a heap.old)) }
+fn after_value(p: &Source, heap: &mut Heap, at: &Part, op: UnaryOperator, c: &Completion) -> Answer
+    ensures row { Does p.now at.now result heap.new
+        (with_value c.now heap.old (λ a. operated p.now at.now op a heap.old)) }
     ensures grows { Grows heap.old heap.new }
 {
     match value_of(c) {
-        Some(a) => operated(alloc, p, heap, at, op, a),
+        Some(a) => operated(p, heap, at, op, a),
         None => end(c),
     }
 }
 
-fn operated(
-    alloc: Global,
-    p: &Source,
-    heap: &mut Heap,
-    at: &Part,
-    op: UnaryOperator,
-    a: Value,
-) -> Result<Next, NoMemory>
+fn operated(p: &Source, heap: &mut Heap, at: &Part, op: UnaryOperator, a: Value) -> Answer
     ensures row { Does p.now at.now result heap.new (operated p.now at.now op a heap.old) }
     ensures grows { Grows heap.old heap.new }
 {
     match op {
-        UnaryOperator::Delete => deletes(alloc, heap, &None),
+        UnaryOperator::Delete => deletes(p.alloc(), heap, &None),
         UnaryOperator::Void => give(Value::Undefined),
         UnaryOperator::TypeOf => give(type_of(p, heap, at, a)),
-        UnaryOperator::Plus => calculated(alloc, heap, UnaryOp::Plus, a),
-        UnaryOperator::Minus => calculated(alloc, heap, UnaryOp::Minus, a),
-        UnaryOperator::BitNot => calculated(alloc, heap, UnaryOp::BitNot, a),
-        UnaryOperator::Not => calculated(alloc, heap, UnaryOp::Not, a),
+        UnaryOperator::Plus => calculated(p.alloc(), heap, UnaryOp::Plus, a),
+        UnaryOperator::Minus => calculated(p.alloc(), heap, UnaryOp::Minus, a),
+        UnaryOperator::BitNot => calculated(p.alloc(), heap, UnaryOp::BitNot, a),
+        UnaryOperator::Not => calculated(p.alloc(), heap, UnaryOp::Not, a),
     }
 }
 
-fn calculated(alloc: Global, heap: &mut Heap, op: UnaryOp, a: Value) -> Result<Next, NoMemory>
-    ensures row { DoesAnywhere result heap.new (with_outcome (unary_outcome heap.old op a) heap.old gives) }
+fn calculated(alloc: Global, heap: &mut Heap, op: UnaryOp, a: Value) -> Answer
+    ensures row { DoesAnywhere result heap.new (with_outcome (unary_outcome heap.old op a) heap.old
+        gives) }
     ensures grows { Grows heap.old heap.new }
 {
     match unary(alloc, heap, op, a) {
-        OpDone::Value(v) => give(v),
-        OpDone::TypeFault => throw(alloc, heap, Class::ThrownTypeError),
-        OpDone::Fault(fault) => halt(Stop::Fault(fault)),
-        OpDone::Limit(limit) => halt(Stop::Limit(limit)),
-        OpDone::Memory => Err(NoMemory),
+        Ok(v) => give(v),
+        Err(cause) => abrupt(alloc, heap, cause),
     }
 }
 
 /// What `typeof` gives.
 fn type_of(p: &Source, heap: &Heap, at: &Part, a: Value) -> Value
-    ensures { result ≡ (if is_unread p.now at.now then kind_of_found heap.now (target_found p.now at.now heap.now) else kind_text heap.now a) }
+    ensures { result ≡ (if is_unread p.now at.now
+        then kind_of_found heap.now (target_found p.now at.now heap.now) else kind_text heap.now a) }
 {
     if is_unread(p, at) {
         kind_of_found(heap, target_found(p, heap, at))
