@@ -179,7 +179,8 @@ pub(crate) fn call_table(
 
 /// The same of arguments in a list.
 fn answer_table(alloc: Global, heap: &mut Heap, b: Builtin, this: &Value, args: &[Value]) -> Answer
-    ensures row { DoesAnywhere result heap.new (with_outcome (builtin heap.old b this.now args.now) heap.old gives) }
+    ensures row { DoesAnywhere result heap.new (with_outcome (builtin heap.old b this.now args.now)
+        heap.old gives) }
     ensures grows { Grows heap.old heap.new }
 {
     match builtin(alloc, heap, b, *this, args) {
