@@ -31,7 +31,7 @@ use Rattle.rip_app.specs.declared.refusal.AppRefusal.TheVariants as app
 -- ---- what the bytes of a page come to, before the rest is looked at
 
 -- why a script has no tree
-data Stop : Type 0 where
+pub data Stop : Type 0 where
   NoTokens : ℕ → LexKind → Stop
   NoTree : ℕ → ParseKind → Stop
 
@@ -41,7 +41,7 @@ data Reading : Type 0 where
   Stopped : ℕ → Stop → Reading
   Read : Page → List Plant → Reading
 
-abbrev IsStopped : List ℕ → Stop → Type 0
+abbrev pub IsStopped : List ℕ → Stop → Type 0
 IsStopped script (NoTokens place kind) = IsFirstRefusal script place kind
 IsStopped script (NoTree place kind) = IsNoTree script place kind
 

@@ -49,7 +49,8 @@ has_script : (bytes : List ℕ) (page : Page) (number : ℕ) → PageOf bytes pa
 has_script bytes page number is from to =
     let numbered = get_some page.scripts (number - 1) (omega arith) in
     let within : AllByRecursion (λ m. m < length page.nodes) page.scripts =
-      subst (λ numbers. AllByRecursion (λ m. m < length page.nodes) numbers) (sym is.scripts-are) (scripts_within 0 page.nodes) in
+    subst (λ numbers. AllByRecursion (λ m. m < length page.nodes) numbers) (sym is.scripts-are)
+    (subst (λ n. AllByRecursion (λ m. m < n) (script_numbers 0 page.nodes)) (let e : 0 + length page.nodes ≡ length page.nodes = omega arith in e) (scripts_within 0 page.nodes)) in
     let node = get_some page.nodes numbered.0 (below_get (length page.nodes) page.scripts (number - 1) numbered.0 within numbered.1) in (
       node.0.text,
       ap (option_and_then (λ n. option_map (λ x. x.text) (slice_get page.nodes n))) numbered.1 ∙ ap (option_map (λ x. x.text)) node.1,
@@ -85,11 +86,11 @@ outcome_from page there (suc left) before all have =
     let script = there (length before + 1) (omega arith) (omega arith) in
     outcome_at page before script.0 have script.1
     (λ tree is.
-      outcome_from page there left (before ++ tree ∷ []) (omega (arith, length-append before (tree ∷ [])))
-      (trees_append page 1 before tree have (subst (λ n. HasTreeAt page n tree) (let e : length before + 1 ≡ 1 + length before = omega arith in e) (script.0, script.1, is))))
+    outcome_from page there left (before ++ tree ∷ []) (omega (arith, length-append before (tree ∷ [])))
+    (trees_append page 1 before tree have (subst (λ n. HasTreeAt page n tree) (let e : length before + 1 ≡ 1 + length before = omega arith in e) (script.0, script.1, is))))
 
-outcome : (bytes : List ℕ) (page : Page) → PageOf bytes page → Outcome page
-outcome bytes page is = outcome_from page (λ number from to. has_script bytes page number is from to) (length page.scripts) [] refl tt
+scripts_read : (bytes : List ℕ) (page : Page) → PageOf bytes page → Outcome page
+scripts_read bytes page is = outcome_from page (λ number from to. has_script bytes page number is from to) (length page.scripts) [] (omega arith) tt
 
 -- ---- answers
 
@@ -125,7 +126,7 @@ answer_trees bytes manifest page is trees have = elim (of_trees trees) [
 pub has_an_answer : HasAnAnswer
 has_an_answer bytes manifest = elim (some_reading bytes) [
   | inr refusal ↦ refuse bytes manifest (app.Page refusal.0 refusal.1) (λ e. cc) refusal.2
-  | inl page ↦ elim (outcome bytes page.0 page.1) [
+  | inl page ↦ elim (scripts_read bytes page.0 page.1) [
     | inl trees ↦ answer_trees bytes manifest page.0 page.1 trees.0 trees.1
     | inr stopped ↦ answer_stopped bytes manifest page.0 page.1 stopped.0 stopped.1 stopped.2 stopped.3 stopped.4
   ]

@@ -3,3 +3,4 @@ pub mod Pages
 pub mod LoadLemmas
 pub mod ScriptLemmas
 pub mod Answering
+pub mod Existing

@@ -5,6 +5,11 @@ use Rattle.rip_app.specs.App.{Loaded, AppOf, IsAppRefusal}
 use Rattle.rip_app.specs.declared.refusal.AppRefusal.{AppRefusal}
 use Rattle.rip_app.specs.declared.refusal.AppRefusal.TheVariants as app
 
+-- a page and a manifest have an application, or a cause why they have none; want of memory is no cause
+abbrev pub HasAnAnswer : Type 0
+HasAnAnswer = (bytes manifest : List ℕ)
+    → ((loaded : Loaded) × AppOf bytes manifest loaded) ⊎ ((refusal : AppRefusal) × (refusal ≢ app.Memory) × IsAppRefusal bytes manifest refusal)
+
 -- a page and a manifest have at most one application
 abbrev pub HasOneApp : Type 0
 HasOneApp = (bytes manifest : List ℕ) (loaded other : Loaded) → AppOf bytes manifest loaded → AppOf bytes manifest other → loaded ≡ other

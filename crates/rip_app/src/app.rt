@@ -3,7 +3,7 @@ ghost use Rattle.rip_values.specs.Limits.{AreInRange};
 ghost use Rattle.rip_html.specs.Pages.{PageOf};
 ghost use Rattle.rip_manifest.specs.Manifest.{ManifestOf};
 ghost use Rattle.rip_app.specs.App.{AppOf, IsAppRefusal, Loaded};
-ghost use Rattle.rip_app.specs.Laws.{HasOneApp, HasOneRefusal, IsNeverBoth, IsOrMemory};
+ghost use Rattle.rip_app.specs.Laws.{HasAnAnswer, HasOneApp, HasOneRefusal, IsNeverBoth, IsOrMemory};
 ghost use Rattle.rip_app.specs.Script.{RefusesManifest, RefusesPage};
 ghost use Rattle.rip_app.specs.declared.refusal.AppRefusal.{AppRefusal as AppRefusal'};
 
@@ -95,8 +95,9 @@ pub fn load(alloc: Global, page: &[u8], manifest: &[u8]) -> Result<App, AppRefus
     application_of(alloc, page, manifest)
 }
 
-/// A page and a manifest have one application, or they are refused for one first cause, and never both.
+/// Any page and manifest have one application, or they are refused for one first cause, and never both.
 pub fn applications_are_one()
+    ensures some { HasAnAnswer }
     ensures application { HasOneApp }
     ensures refusal { HasOneRefusal }
     ensures apart { IsNeverBoth }

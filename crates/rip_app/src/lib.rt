@@ -7,7 +7,7 @@
 //! |---|---|
 //! | the trees of a page's scripts | `App.HaveTrees` |
 //! | [`load`] | `App.AppOf`, or `App.IsAppRefusal`: the first cause in the order of its lines |
-//! | [`applications_are_one`]: a page and a manifest have one answer at most | `Laws.HasOneApp`, `HasOneRefusal`, `IsNeverBoth` |
+//! | [`applications_are_one`]: any page and manifest have one answer | `Laws.HasAnAnswer`, `HasOneApp`, `HasOneRefusal`, `IsNeverBoth` |
 //! | [`load_calls`] | `Page.MakesCalls` |
 //!
 //! The file `Script` of `specs/` says what the functions below [`load`] do, and no public clause cites it.

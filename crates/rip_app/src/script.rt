@@ -1,4 +1,4 @@
-ghost use Rattle.std.specs.Prelude.{◌<◌, ◌^◌, length, IfErr, IfOk};
+ghost use Rattle.std.specs.Prelude.{IfErr, IfOk};
 ghost use Rattle.rip_parser.specs.Parsed.{IsTreeOf};
 ghost use Rattle.rip_app.specs.Script.{RefusesScript};
 
@@ -10,7 +10,6 @@ use std::alloc::Global;
 
 /// The tree of the script with this number, or why it has none.
 pub fn tree_of(alloc: Global, number: u32, script: &[u16]) -> Result<Tree, AppRefusal>
-    requires { length script.now < 2 ^ 32 }
     ensures tree { IfOk result (IsTreeOf script.now) }
     ensures refused { IfErr result (RefusesScript number script.now) }
 {

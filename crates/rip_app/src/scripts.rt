@@ -40,11 +40,7 @@ fn tree_at(alloc: Global, page: &Page, number: u32) -> Result<Tree, AppRefusal>
     ensures tree { IfOk result (HasTreeAt page.now number) }
     ensures refused { IfErr result (RefusesScriptAt page.now number) }
 {
-    let script = page.script(number);
-    if script.len() > u32::MAX as usize {
-        return Err(AppRefusal::Memory);
-    }
-    tree_of(alloc, number, script.as_slice())
+    tree_of(alloc, number, page.script(number).as_slice())
 }
 
 /// The program of scripts with these trees.

@@ -17,11 +17,11 @@ either a b = elim (cases_lt a.place b.place) [
   | inr more ↦ elim (cases_lt b.place a.place) [
     | inl less ↦ inr (inl less)
     | inr within ↦
-      let same : a.place ≡ b.place = omega arith in
-      elim (cases_lt (order_of b.kind) (order_of a.kind)) [
-        | inl less ↦ inr (inr (sym same, omega arith))
-        | inr kinds ↦ inl (inr (same, kinds))
-      ]
+        let same : a.place ≡ b.place = omega arith in
+        elim (cases_lt (order_of b.kind) (order_of a.kind)) [
+          | inl less ↦ inr (inr (sym same, omega arith))
+          | inr kinds ↦ inl (inr (same, kinds))
+        ]
   ]
 ]
 

@@ -121,8 +121,8 @@ script_from top t there branches units at (b ∷ bs) stands clean =
     let here : node_of t.branches at ≡ Some b.node = ap (node_of t.branches) (let e : at ≡ at + 0 = omega arith in e) ∙ stands 0 in (
       says_moved (moved_piece there units) b.node.form (scoping_at top t at) (says_node top t at b.node here (left_nil own others clean)),
       script_from top t there branches units (at + 1) bs
-      (λ j. ap (node_of t.branches) (let e : at + 1 + j ≡ at + suc j = omega arith in e) ∙ stands (suc j))
-      (right_nil own others clean),
+          (λ j. ap (node_of t.branches) (let e : at + 1 + j ≡ at + suc j = omega arith in e) ∙ stands (suc j))
+          (right_nil own others clean),
     )
 
 script_agrees : (top : List Name) (t : Plant) (there branches units : ℕ) → mistakes top t ≡ [] → Agree (map (moved_branch there branches units) t.branches) (script_scoping top t)
@@ -137,8 +137,8 @@ scripts_agree top g said [] agree clean = subst (Agree g.branches) (sym (append-
 scripts_agree top g said (t ∷ ts) agree clean =
     let moved = map (moved_branch (length t.units) (length g.branches) (length g.units)) t.branches in
     let first : Agree (g.branches ++ moved) (said ++ script_scoping top t) =
-      agree_append g.branches moved said (script_scoping top t) agree
-      (script_agrees top t (length t.units) (length g.branches) (length g.units) (All-head (λ t. mistakes top t ≡ []) t ts clean)) in
+    agree_append g.branches moved said (script_scoping top t) agree
+    (script_agrees top t (length t.units) (length g.branches) (length g.units) (All-head (λ t. mistakes top t ≡ []) t ts clean)) in
     subst (Agree (fold with_tree (with_tree g t) ts).branches) (append_assoc said (script_scoping top t) (flat_map (script_scoping top) ts))
     (scripts_agree top (with_tree g t) (said ++ script_scoping top t) ts first (All-tail (λ t. mistakes top t ≡ []) t ts clean))
 

@@ -170,7 +170,10 @@ fn scripts_without_an_early_error_are_a_program(rt: HostRuntime) -> Result<(), F
     let trees = Trees::from_vec(vec![in rt.alloc(); script]?);
     let program = check(rt.alloc(), &trees)?;
     assert_eq!(rt; (program.count(), program.top_names()), (5, 0));
-    assert_eq!(rt; program.resolved(4), Some(Resolved::Global(GlobalName::NaN)));
+    assert_eq!(rt;
+        program.resolved(4),
+        Some(Resolved::Global(GlobalName::NaN))
+    );
     Ok(())
 }
 
