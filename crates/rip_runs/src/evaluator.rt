@@ -12,10 +12,7 @@ pub enum Advance {
     /// The run has completed, in whatever way, with so many of them.
     Passed(u64),
     /// The run has met a fault or a limit, with so many of them.
-    Broken {
-        stop: Stop,
-        used: u64,
-    },
+    Broken { stop: Stop, used: u64 },
     Memory,
 }
 

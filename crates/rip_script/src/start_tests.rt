@@ -136,11 +136,14 @@ fn outcome_text(
 ) -> Result<Bytes, Fail> {
     match outcome {
         Outcome::Value(v) => Ok(value_text(alloc, heap, program, v)?),
-        Outcome::Thrown(Value::Object(n)) => word(alloc, match heap.class(n) {
-            Class::ThrownTypeError => "thrown TypeError",
-            Class::Code => "thrown code",
-            _ => "thrown object",
-        }),
+        Outcome::Thrown(Value::Object(n)) => word(
+            alloc,
+            match heap.class(n) {
+                Class::ThrownTypeError => "thrown TypeError",
+                Class::Code => "thrown code",
+                _ => "thrown object",
+            },
+        ),
         Outcome::Thrown(_) => word(alloc, "thrown value"),
         Outcome::Fault(_) => word(alloc, "fault"),
         Outcome::Limit(_) => word(alloc, "limit"),
@@ -231,17 +234,47 @@ fn functions_start_from_outside(rt: HostRuntime) -> Result<(), Fail> {
     let two = [Value::Null, Value::NaN];
     let three = [Value::Null, Value::NaN, Value::Null];
     let truth = Value::Bool(true);
-    let few = ends_so(alloc, Target::Declared, truth, &one, "[true,null,undefined]", (5, 8))?;
+    let few = ends_so(
+        alloc,
+        Target::Declared,
+        truth,
+        &one,
+        "[true,null,undefined]",
+        (5, 8),
+    )?;
     assert!(rt; few);
-    let many = ends_so(alloc, Target::Declared, none, &three, "[undefined,null,NaN]", (5, 10))?;
+    let many = ends_so(
+        alloc,
+        Target::Declared,
+        none,
+        &three,
+        "[undefined,null,NaN]",
+        (5, 10),
+    )?;
     assert!(rt; many);
-    let called = ends_so(alloc, Target::Called, none, &two, "[null,NaN,undefined]", (5, 10))?;
+    let called = ends_so(
+        alloc,
+        Target::Called,
+        none,
+        &two,
+        "[null,NaN,undefined]",
+        (5, 10),
+    )?;
     assert!(rt; called);
     let is_nan = Target::Builtin(Builtin::IsNaN);
     assert!(rt; ends_so(alloc, is_nan, none, &two, "false", (0, 2))?);
     let now = Target::Builtin(Builtin::RipleyNow);
     assert!(rt; ends_so(alloc, now, none, &[], "null", (0, 0))?);
-    assert!(rt; ends_so(alloc, Target::Object(127), none, &[], "thrown TypeError", (0, 1))?);
+    assert!(rt;
+        ends_so(
+            alloc,
+            Target::Object(127),
+            none,
+            &[],
+            "thrown TypeError",
+            (0, 1)
+        )?
+    );
     let math = Target::Builtin(Builtin::Math);
     assert!(rt; ends_so(alloc, math, none, &[], "thrown TypeError", (0, 1))?);
     Ok(())
@@ -273,7 +306,10 @@ fn starts_that_pass_a_limit_do_nothing(rt: HostRuntime) -> Result<(), Fail> {
     let one = [Value::NaN];
     let short = Err(Refused::Limit(Limit::Cells));
     assert_eq!(rt; refused(alloc, Target::Declared, &one, 9, 20)?, (short, 6));
-    assert_eq!(rt; refused(alloc, Target::Declared, &one, 10, 20)?, (Ok(()), 10));
+    assert_eq!(rt;
+        refused(alloc, Target::Declared, &one, 10, 20)?,
+        (Ok(()), 10)
+    );
     let is_nan = Target::Builtin(Builtin::IsNaN);
     assert_eq!(rt; refused(alloc, is_nan, &one, 6, 20)?, (short, 6));
     assert_eq!(rt; refused(alloc, is_nan, &one, 7, 20)?, (Ok(()), 7));
@@ -294,7 +330,12 @@ static ASKING: [&str; 2] = [
 /// How the script ends after each answer, what `r` is then, and how a call of the host ends that is started from outside.
 static ANSWERED: [(Reply, &str, &str, &str); 5] = [
     (Reply::Gives, "undefined", "null", "null"),
-    (Reply::Throws, "undefined", "\"TypeError\"", "thrown TypeError"),
+    (
+        Reply::Throws,
+        "undefined",
+        "\"TypeError\"",
+        "thrown TypeError",
+    ),
     (Reply::Codes, "undefined", "8", "thrown code"),
     (Reply::Faults, "fault", "1", "fault"),
     (Reply::Stops, "limit", "1", "limit"),
@@ -369,6 +410,9 @@ fn a_run_is_whole(rt: HostRuntime) -> Result<(), Fail> {
     let text = outcome_text(alloc, &program, &heap, outcome)?;
     assert!(rt; text.as_slice() == b"[null,undefined,undefined]".as_slice());
     let outcome = machine.run(alloc, &program, &mut heap, &mut host, &start, 4)?;
-    assert_eq!(rt; (outcome, machine.spent()), (Outcome::Limit(Limit::Fuel), 4));
+    assert_eq!(rt;
+        (outcome, machine.spent()),
+        (Outcome::Limit(Limit::Fuel), 4)
+    );
     Ok(())
 }
