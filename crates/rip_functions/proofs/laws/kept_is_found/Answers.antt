@@ -1,5 +1,0 @@
-use Rattle.rip_functions.proofs.LawLemmas.{kept_is_found}
-use Rattle.rip_functions.proofs.laws.kept_is_found.Goals as goal
-
-pub returns : goal.returns
-returns c = kept_is_found

@@ -1,7 +1,0 @@
-pub mod Apply
-pub mod Args
-pub mod Held
-pub mod Laws
-pub mod Operations
-pub mod Outcomes
-pub mod Places

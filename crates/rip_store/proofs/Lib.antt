@@ -1,0 +1,6 @@
+pub mod ErrorLemmas
+pub mod KeptLemmas
+pub mod KeyLemmas
+pub mod LawLemmas
+pub mod PlaceLemmas
+pub mod ReplyLemmas
