@@ -4,8 +4,8 @@ ghost use Rattle.rip_runner.specs.Going.{Drives, IsWithin, Keeps, going};
 
 use crate::outside::Outside;
 use crate::runner::{Rested, Runner};
-use rip_runs::{Evaluator, Phase, Planner};
 use rip_heap::{Heap, Host};
+use rip_runs::{Evaluator, Phase, Planner};
 use rip_values::NoMemory;
 use std::alloc::Global;
 

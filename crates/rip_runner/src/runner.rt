@@ -3,8 +3,8 @@ ghost use Rattle.rip_heap.specs.Growth.{Grows};
 ghost use Rattle.rip_runner.specs.Going.{BeginsRun, IsOnward, IsWithin, IsWithinTurn, Keeps, Moves, Rests, going, turns, weight};
 ghost use Rattle.rip_runs.specs.Plan.{opened};
 
-use rip_runs::{Advance, Close, Evaluator, Opening, Phase, Planner, Step, Stop};
 use rip_heap::{Heap, Host};
+use rip_runs::{Advance, Close, Evaluator, Opening, Phase, Planner, Step, Stop};
 use rip_values::{NoMemory, Refused};
 use std::alloc::Global;
 

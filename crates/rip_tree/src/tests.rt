@@ -144,7 +144,10 @@ fn a_program_is_read(rt: HostRuntime) -> Result<(), Fail> {
     assert!(rt; program.node_at(6).is_none());
     assert_eq!(rt; program.units(name), [98].as_slice());
     assert_eq!(rt; (program.names(5), program.names(6)), (5, 0));
-    assert_eq!(rt; program.resolved(5), Some(Resolved::Global(GlobalName::String)));
+    assert_eq!(rt;
+        program.resolved(5),
+        Some(Resolved::Global(GlobalName::String))
+    );
     assert!(rt; program.resolved(6).is_none());
     assert!(rt; program.is_own_name(5));
     Ok(())
