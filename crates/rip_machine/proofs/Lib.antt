@@ -5,6 +5,7 @@ pub mod Clauses
 pub mod Filling
 pub mod Loads
 pub mod LoopRuns
+pub mod PlanLaws
 pub mod Scopes
 pub mod TextsStand
 pub mod WholeRuns

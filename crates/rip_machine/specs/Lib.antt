@@ -1,6 +1,8 @@
 pub mod Does
 pub mod Law
 pub mod Loading
+pub mod PlanLaws
+pub mod Plans
 pub mod Reading
 pub mod Rows
 pub mod Run

@@ -25,6 +25,7 @@
 //! | [`Machine::start`], [`Machine::resume`] | `Law.Starts`, `Law.Resumes`; what a start comes to `Starting.begun` |
 //! | [`Machine::run`] | `Run.Ran`: the run of a start, with all its fuel, is `Run.run_from` |
 //! | [`Machine::depth`] | `Law.open_depth` |
+//! | [`Machine`] as plans see it (`Evaluator`) | `Plans.evaluation` |
 //! | loops, with the completions of their parts | `Turns.antt` |
 //! | worked scripts, with their units and cells | `Worked.antt` |
 //!
@@ -32,6 +33,7 @@
 //! never written, so that the law holds for every program, heap and machine.
 #![tactic(auto)]
 
+mod evaluator;
 mod law;
 mod loading;
 mod machine;

@@ -88,6 +88,13 @@ impl Machine {
         self.run.spent()
     }
 
+    /// The fuel that is left to the run.
+    pub fn fuel(&self) -> u64
+        ensures { result ≡ self.now.fuel }
+    {
+        self.run.fuel()
+    }
+
     /// Begins a run with so much fuel. A script binds what it declares in the top scope, scope 0 of the heap; a function
     /// of the script is entered, at its own charge. Of a built-in function the arguments are charged, a cell each; its own
     /// work is done in `resume`, where the host may be asked, and takes no fuel. What is no function throws a TypeError. A

@@ -12,7 +12,7 @@ use std::alloc::Global;
 impl<E, P> Runner<E, P> {
     /// The same as [`Runner::resume`], and what the plan waits for is done within the call. `Awaits` says that the outside
     /// wanted memory for it.
-    pub fn go_on<H: Host, O: Outside<H>>(
+    pub fn go_on<H: Host, O: Outside<H, P>>(
         &mut self,
         alloc: Global,
         program: &E::Program,
@@ -34,7 +34,7 @@ impl<E, P> Runner<E, P> {
         let mut left = n;
         loop {
             match self.resume(alloc, program, heap, host, left) {
-                Rested::Awaits(units) => match outside.change(alloc, heap, host) {
+                Rested::Awaits(units) => match outside.change(alloc, &self.planner, heap, host) {
                     Ok(()) => {
                         self.phase = Phase::Asking;
                         left = units;

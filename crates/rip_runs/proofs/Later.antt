@@ -3,9 +3,10 @@ use Rattle.std.proofs.Common.{◌≡◌, ℕ, zero, suc, ◌+◌, ◌-◌, ◌<�
 use Rattle.std.proofs.lemmas.Bool.{le-leb}
 use Rattle.rip_heap.specs.World.{World}
 use Rattle.rip_runs.specs.declared.completion.Completion.{Completion}
+use Rattle.rip_runs.specs.declared.completion.Stop.{Stop}
 use Rattle.rip_runs.specs.declared.part.Part.{Part}
 use Rattle.rip_runs.specs.Cut.{conclude, run_of}
-use Rattle.rip_runs.specs.Evaluation.{IsEnded, IsLater, reached}
+use Rattle.rip_runs.specs.Evaluation.{Breaks, IsEnded, IsLater, reached}
 use Rattle.rip_runs.specs.Row.{Row, Ends, Halts, Asks, Again, AsksHost, Table, entered}
 use Rattle.rip_runs.specs.Run.{Answer, Completes, Stops, Cuts, Calling, follow, enter, run_by, run_to, run}
 use Rattle.rip_runs.proofs.Runs.{to-same}
@@ -115,3 +116,8 @@ ended-by depth true (Cuts room w s) h = tt
 
 pub of-ended : {S : Type 0} (h : Calling S) (t : Table) (depth room : ℕ) (row : Row) (s : S) (fuel u : ℕ) → fuel ≤ u → IsEnded (reached depth (run_of h t room row s fuel u))
 of-ended h t depth room row s fuel u le = ended-by depth (nat_le fuel u) (run h t room row (min fuel u) s) (le-leb fuel u le)
+
+-- of a run that has stopped before its first unit
+pub stopped-later : {S : Type 0} (stop : Stop) (w : World) (s : S) (fuel u k : ℕ) → IsLater (min (u + k) fuel - min u fuel) (Breaks stop (min fuel u) w s) (Breaks stop (min fuel (u + k)) w s)
+stopped-later stop w s fuel u k =
+    let e : min fuel (u + k) ≡ min fuel u + (min (u + k) fuel - min u fuel) = omega arith in ap (λ v. Breaks stop v w s) e

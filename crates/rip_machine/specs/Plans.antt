@@ -1,0 +1,30 @@
+-- What plans see of the machine.
+use Rattle.std.specs.Prelude.{ℕ, ◌-◌, List}
+use Rattle.rip_runs.specs.declared.completion.Stop.TheVariants.{Fault as AtFault, Limit as AtLimit}
+use Rattle.rip_runs.specs.declared.evaluator.Advance.{Advance}
+use Rattle.rip_runs.specs.declared.evaluator.Advance.TheVariants.{Passed, Broken, Memory as NoRoom}
+use Rattle.rip_runs.specs.Evaluation.{Evaluation, reached}
+use Rattle.rip_runs.specs.Run.{Calling}
+use Rattle.rip_tree.specs.Program.{Code}
+use Rattle.rip_runs.specs.declared.outcome.Outcome.{Outcome}
+use Rattle.rip_runs.specs.declared.outcome.Outcome.TheVariants.{Value as Gives, Thrown, Fault, Limit, Memory}
+use Rattle.rip_machine.specs.Law.{Standing, left, loaded, open_depth}
+use Rattle.rip_machine.specs.Run.{run_from}
+use Rattle.rip_machine.specs.Table.{table}
+
+-- what the runs of a program mean, where the host answers this
+abbrev pub evaluation : {S : Type 0} → Calling S → Code → Evaluation Standing S
+evaluation h code = record {
+  run = λ m start w s fuel k. reached m.depth (run_from h (loaded code m) m.depth start w s fuel k);
+  left = λ m w s k. reached m.depth (left h (table (loaded code m)) m w s k);
+  fuel = λ m. m.fuel;
+  in_use = open_depth;
+}
+
+-- what an outcome is for a plan, after so many units
+abbrev pub advance_of : Outcome → ℕ → Advance
+advance_of (Gives v) used = Passed used
+advance_of (Thrown v) used = Passed used
+advance_of (Fault fault) used = Broken (AtFault fault) used
+advance_of (Limit limit) used = Broken (AtLimit limit) used
+advance_of Memory used = NoRoom
