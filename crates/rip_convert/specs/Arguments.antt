@@ -1,0 +1,119 @@
+-- Data made of values: what the arguments of a call to the server are as JSON (RFC 8259).
+use Rattle.std.specs.Prelude.{◌≡◌, ℕ, zero, suc, ◌-◌, nat_le, if◌then◌else◌, List, [], ◌∷◌, ◌++◌, length, Option, None, Some, Result, Ok, Err, String, string_bytes}
+use Rattle.std.specs.Char.Utf16.{has_unpaired_surrogate}
+use Rattle.std.specs.declared.alloc.Global.{Global}
+use Rattle.serde_json.specs.Data.{Data, null, boolean, number, string, array, object, Members, no_members, put}
+use Rattle.serde_json.specs.View.{view, items_of}
+use Rattle.serde_json.specs.Written.{compact_text}
+use Rattle.serde_json.specs.declared.value.Value.{Value as JsonValue}
+use Rattle.rip_values.specs.declared.value.Value.{Value}
+use Rattle.rip_values.specs.declared.value.Value.TheVariants.{Undefined, Null, Bool as Boolean, Num, NaN, Text, Object}
+use Rattle.rip_values.specs.declared.value.Fault.{Fault}
+use Rattle.rip_values.specs.declared.value.Fault.TheVariants.{BadArgument, LoneSurrogate}
+use Rattle.rip_values.specs.Pool.{Texts, text_at}
+use Rattle.rip_heap.specs.declared.holder.Holder.{Holder}
+use Rattle.rip_heap.specs.declared.holder.Holder.TheVariants.{PlainObject, ArrayObject, OtherObject}
+use Rattle.rip_heap.specs.declared.outcome.Abrupt.{Abrupt}
+use Rattle.rip_heap.specs.declared.outcome.Abrupt.TheVariants.{TypeError, Fault as AtFault, Limit as AtLimit, Memory}
+use Rattle.rip_heap.specs.declared.property.Property.{Property}
+use Rattle.rip_heap.specs.Arrays.{elements_at}
+use Rattle.rip_heap.specs.Holders.{holder_of}
+use Rattle.rip_heap.specs.World.{World, Object as HeapObject, object_at}
+use Rattle.rip_data.specs.Datum.{number_of_whole, utf8_of}
+
+-- what a walk over values finds, and how many pieces are left to it; or the fault that ends it
+abbrev pub Walk : Type 0 → Type 0
+Walk A = Result (A × ℕ) Fault
+
+-- a walk, and what follows where no fault ended it
+abbrev pub then_walks : {A B : Type 0} → Walk A → (A → ℕ → Walk B) → Walk B
+then_walks (Ok found) next = next found.0 found.1
+then_walks (Err fault) next = Err fault
+
+-- a value, which takes one of the pieces that are left
+abbrev pub taking : {A : Type 0} → ℕ → (ℕ → Walk A) → Walk A
+taking left next = if nat_le 1 left then next (left - 1) else Err BadArgument
+
+-- a text or a name in UTF-8: each of its units is a piece, and no surrogate is without its partner
+abbrev pub spelled : List ℕ → ℕ → Walk (List ℕ)
+spelled units left =
+    if nat_le (length units) left then
+    (if has_unpaired_surrogate units then Err LoneSurrogate else Ok (utf8_of units, left - length units))
+    else Err BadArgument
+
+-- the elements of an array, left to right, behind those found
+abbrev pub elements_walked : (Value → ℕ → Walk Data) → List Data → List Value → ℕ → Walk (List Data)
+elements_walked walk found [] left = Ok (found, left)
+elements_walked walk found (v ∷ vs) left = then_walks (walk v left) (λ d rest. elements_walked walk (found ++ d ∷ []) vs rest)
+
+-- the properties of an object, in the order of making, among those found: each name, and then its value. As data they
+-- stand in the order of the names' bytes
+abbrev pub fields_walked : (Value → ℕ → Walk Data) → Texts → Members → List Property → ℕ → Walk Members
+fields_walked walk pool found [] left = Ok (found, left)
+fields_walked walk pool found (p ∷ ps) left =
+    then_walks (spelled (text_at pool p.name) left) (λ name rest.
+    then_walks (walk p.value rest) (λ d end. fields_walked walk pool (put name d found) ps end))
+
+-- the properties of an object
+abbrev pub properties_of : Option HeapObject → List Property
+properties_of None = []
+properties_of (Some o) = o.properties
+
+-- an object: an array by its elements, and a plain object, of which thrown codes are some, by its own properties;
+-- nothing else is data
+abbrev pub parts_walked : Holder → (Value → ℕ → Walk Data) → World → ℕ → ℕ → Walk Data
+parts_walked ArrayObject walk w n left =
+    then_walks (elements_walked walk [] (elements_at w n) left) (λ ds rest. Ok (array (items_of ds), rest))
+parts_walked PlainObject walk w n left =
+    then_walks (fields_walked walk w.pool no_members (properties_of (object_at w n)) left) (λ ms rest. Ok (object ms, rest))
+parts_walked OtherObject walk w n left = Err BadArgument
+
+-- a value, whose objects are walked so: undefined and NaN are no data
+abbrev pub value_walked : (ℕ → ℕ → Walk Data) → World → Value → ℕ → Walk Data
+value_walked parts w Undefined left = Err BadArgument
+value_walked parts w Null left = Ok (null, left)
+value_walked parts w (Boolean b) left = Ok (boolean b, left)
+value_walked parts w (Num z) left = Ok (number (number_of_whole z), left)
+value_walked parts w NaN left = Err BadArgument
+value_walked parts w (Text span) left = then_walks (spelled (text_at w.pool span) left) (λ bytes rest. Ok (string bytes, rest))
+value_walked parts w (Object n) left = parts n left
+
+-- a value, which is a piece, where so many levels of arrays and objects are left
+abbrev pub walked : ℕ → World → Value → ℕ → Walk Data
+walked zero w v left = taking left (value_walked (λ n rest. Err BadArgument) w v)
+walked (suc levels) w v left =
+    taking left (value_walked (λ n rest. parts_walked (holder_of (object_at w n)) (walked levels w) w n rest) w v)
+
+-- what is found is data where its text has at most 16,384 bytes
+abbrev pub text_judged : Walk Data → Result (List ℕ) Fault
+text_judged (Ok found) = if nat_le (length (compact_text found.0)) 16384 then Ok (compact_text found.0) else Err BadArgument
+text_judged (Err fault) = Err fault
+
+-- the canonical text of a value as data, or the first fault on the way: it nests at most 8 levels deep, has at most
+-- 16,384 pieces, whose text would be longer, and at last a text of at most 16,384 bytes
+abbrev pub arguments_text : World → Value → Result (List ℕ) Fault
+arguments_text w v = text_judged (walked 8 w v 16384)
+
+-- ANSWERS
+
+-- the cause is the fault that ends a walk. Of want of memory nothing is said; no limit is passed, and no TypeError thrown
+abbrev pub Fails : {A : Type 0} → Result A Fault → Abrupt → Type 0
+Fails meant (AtFault fault) = meant ≡ Err fault
+Fails meant TypeError = ⊥
+Fails meant (AtLimit limit) = ⊥
+Fails meant Memory = Unit {0}
+
+-- the answer is this text, or why there is none
+abbrev pub IsText : Result (List ℕ) Fault → Result (List ℕ) Abrupt → Type 0
+IsText meant (Ok text) = meant ≡ Ok text
+IsText meant (Err cause) = Fails meant cause
+
+-- the answer is what this walk finds, whose data is held as a value of `serde_json`
+abbrev pub Walks : Walk Data → Result (JsonValue × ℕ) Abrupt → Type 0
+Walks meant (Ok found) = meant ≡ Ok (view found.0, found.1)
+Walks meant (Err cause) = Fails meant cause
+
+-- the same of a text or a name, whose bytes are held as a `String`
+abbrev pub Spells : Walk (List ℕ) → Result (String Global × ℕ) Abrupt → Type 0
+Spells meant (Ok found) = meant ≡ Ok (string_bytes found.0, found.1)
+Spells meant (Err cause) = Fails meant cause
