@@ -6,8 +6,8 @@ ghost use Rattle.rip_machine.specs.Starting.{started_of};
 
 use crate::machine::Machine;
 use crate::outcome::Start;
-use rip_runs::{Advance, Evaluator, Opening, Outcome, Stop, Turned};
 use rip_heap::{Heap, Host};
+use rip_runs::{Advance, Evaluator, Opening, Outcome, Stop, Turned};
 use rip_tree::Program;
 use rip_values::Refused;
 use std::alloc::Global;
