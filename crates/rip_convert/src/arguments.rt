@@ -14,11 +14,10 @@ use serde_json::{Map, Value as Json};
 use std::alloc::{AllocError, Global};
 use std::string::FromUtf16Error;
 
-/// The canonical text of a value as data, which is how the arguments of a call to the server are told: the text of
-/// [`write_datum`](rip_data::write_datum). The heap stays as it is.
+/// The canonical text of a value as data, which is how the arguments of a call to the server are told: the compact text
+/// of `serde_json`, which is what [`write_datum`](rip_data::write_datum) writes. The heap stays as it is.
 ///
-/// It takes time in proportion to what it walks, which has no more than 16,384 pieces, and calls itself once for each
-/// of at most 8 levels.
+/// It walks no more than 16,384 pieces, and calls itself once for each of at most 8 levels. It takes memory.
 pub fn arguments_text(alloc: Global, heap: &Heap, args: Value) -> Result<Bytes, Abrupt>
     ensures { IsText (arguments_text heap.now args) result }
 {

@@ -9,7 +9,8 @@ use rip_heap::Heap;
 use rip_values::{Limit, Refused, Units, Value};
 use std::alloc::Global;
 
-/// The value of a datum, in a heap. It calls itself once for each level of nesting.
+/// The value of a datum, in a heap. It calls itself once for each level of nesting, and for each field the heap looks
+/// through those of its object.
 #[cycle(values)]
 pub fn value_of_datum(alloc: Global, heap: &mut Heap, datum: &Datum) -> Result<Value, Refused>
     ensures made { Does (made_value (tree_of datum.now) heap.old) result heap.new }
