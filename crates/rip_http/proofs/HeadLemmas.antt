@@ -1,8 +1,10 @@
 -- The search for a head's end.
-use Rattle.std.proofs.Common.{◌≡◌, ℕ, suc, ◌+◌, ◌≤◌, ◌<◌, List, [], ◌∷◌, ◌++◌, length, take, drop, get_or, Option, Some, None, option_map, refl, sym, ap, ◌∙◌, subst, arith}
-use Rattle.std.proofs.lemmas.List.{take_more, length-take-le, take-append-drop, drop_more}
+use Rattle.std.proofs.Common.{◌≡◌, ◌≢◌, ◌==◌, ℕ, zero, suc, ◌+◌, ◌≤◌, ◌<◌, List, [], ◌∷◌, ◌++◌, length, take, drop, get_or, Option, Some, None, option_map, refl, sym, ap, ◌∙◌, subst, arith}
+use Rattle.std.proofs.lemmas.List.{take_more, take_all, length-take-le, length-drop, get_or-drop, take-append-drop, drop_more}
+use Rattle.std.proofs.lemmas.Bool.{cond-false, ne_eqb}
 use Rattle.rip_http.specs.Heads.{step, after, end_from, ended_or}
 use Rattle.rip_http.specs.declared.head.Scan.{Scan}
+use Rattle.rip_http.specs.declared.head.Scan.TheVariants.{Before, Inside, AfterFeed}
 
 pub mapped : (r : Option ℕ) (n : ℕ) → option_map (λ k. suc k) r ≡ Some n → (m : ℕ) × (r ≡ Some m) × (n ≡ suc m)
 mapped None n e = cc
@@ -100,3 +102,26 @@ end_at s t xs i inside e f =
     ap (end_from s) (sym (take-append-drop i xs) ∙ ap (λ ys. take i xs ++ ys) (drop_more xs i 0 inside))
     ∙ end-more s t (take i xs) (drop (i + 1) xs) (get_or xs i 0) e f
     ∙ ap (λ n. Some (n + 1)) (length-take-le i xs (omega arith))
+
+-- bytes within a line that are no LF leave the search within it
+pub after_line : (xs : List ℕ) (i n : ℕ) → i + n ≤ length xs → ((k : ℕ) → k < n → get_or xs (i + k) 0 ≢ 10) → after Before (take i xs) ≡ Some Inside → after Before (take (i + n) xs) ≡ Some Inside
+after_line xs i zero within f e = let same : i ≡ i + 0 = omega arith in subst (λ k. after Before (take k xs) ≡ Some Inside) same e
+after_line xs i (suc n) within f e =
+    let first : i ≡ i + 0 = omega arith in
+    let off : get_or xs i 0 ≢ 10 = subst (λ k. get_or xs k 0 ≢ 10) (sym first) (f 0 (omega arith)) in
+    let here : step Inside (get_or xs i 0) ≡ Some Inside = cond-false (get_or xs i 0 == 10) (Some AfterFeed) (Some Inside) (ne_eqb (get_or xs i 0) 10 off) in
+    let next = after_at Before Inside Inside xs i (omega (arith, within)) e here in
+    let later : (k : ℕ) → k < n → get_or xs (i + 1 + k) 0 ≢ 10 = (λ k h. let same : i + suc k ≡ i + 1 + k = omega arith in subst (λ j. get_or xs j 0 ≢ 10) same (f (suc k) (omega (arith, h)))) in
+    let all = after_line xs (i + 1) n (omega (arith, within)) later next in
+    let same : i + 1 + n ≡ i + suc n = omega arith in
+    subst (λ k. after Before (take k xs) ≡ Some Inside) same all
+
+-- the same of the bytes behind the first ones
+pub after_rest : (xs ys : List ℕ) (i n : ℕ) → ys ≡ drop i xs → i ≤ length xs → n ≤ length ys → ((k : ℕ) → k < n → get_or ys k 0 ≢ 10) → after Before (take i xs) ≡ Some Inside → after Before (take (i + n) xs) ≡ Some Inside
+after_rest xs ys i n same low within f e =
+    after_line xs i n (omega (arith, within, low, ap length same, length-drop i xs))
+    (λ k h. subst (λ b. b ≢ 10) (ap (λ zs. get_or zs k 0) same ∙ get_or-drop i xs k 0) (f k h)) e
+
+-- at the end of the bytes
+pub after_all : (xs : List ℕ) (i : ℕ) (s : Scan) → length xs ≤ i → after Before (take i xs) ≡ Some s → after Before xs ≡ Some s
+after_all xs i s h e = ap (after Before) (sym (take_all i xs h)) ∙ e

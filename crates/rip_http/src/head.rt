@@ -1,7 +1,9 @@
-ghost use Rattle.std.specs.Prelude.{◌≡◌, ◌≤◌, length, take, Some};
+ghost use Rattle.std.specs.Prelude.{◌≡◌, ◌≢◌, ℕ, ◌<◌, ◌≤◌, length, slice_index, take, Some};
 ghost use Rattle.rip_http.specs.Heads.{step, after, is_line_byte, blank};
 ghost use Rattle.rip_http.specs.Stages.{IsSought};
 ghost use Rattle.rip_http.specs.declared.head.Scan.TheVariants.{Before};
+
+use memchr::memchr;
 
 /// How far the search for a head's end has come.
 #[derive(Clone, Copy)]
@@ -39,6 +41,31 @@ impl Scan {
     }
 }
 
+/// How many bytes stand before the first LF, or how many there are.
+fn line_length(bytes: &[u8]) -> usize
+    ensures within { result ≤ length bytes.now }
+    ensures inside { (k : ℕ) → k < result → slice_index bytes.now k ≢ 10 }
+{
+    match memchr(b'\n', bytes) {
+        Some(k) => k,
+        None => bytes.len(),
+    }
+}
+
+/// Behind how many bytes a search that has looked at the first `from` stands as it does now: within a line, at its LF.
+fn skip_line(bytes: &[u8], from: usize, scan: Scan) -> usize
+    requires within { from ≤ length bytes.now }
+    requires looked { after Before (take from bytes.now) ≡ Some scan }
+    ensures looked { after Before (take result bytes.now) ≡ Some scan }
+    ensures within { result ≤ length bytes.now }
+    ensures on { from ≤ result }
+{
+    match scan {
+        Scan::Inside => from + line_length(&bytes[from..]),
+        Scan::Before | Scan::AfterFeed | Scan::AfterReturn => from,
+    }
+}
+
 /// Goes on with the search behind the first `from` bytes.
 pub(crate) fn seek_end(bytes: &[u8], from: usize, scan: Scan) -> Sought
     requires within { from ≤ length bytes.now }
@@ -46,9 +73,13 @@ pub(crate) fn seek_end(bytes: &[u8], from: usize, scan: Scan) -> Sought
     ensures { IsSought bytes.now result }
 {
     let mut scan = scan;
-    for i in from..bytes.len() {
+    let mut i = skip_line(bytes, from, scan);
+    while i < bytes.len() {
         match scan.step(bytes[i]) {
-            Some(next) => scan = next,
+            Some(next) => {
+                scan = next;
+                i = skip_line(bytes, i + 1, next);
+            }
             None => return Sought::Ended(i + 1),
         }
     }
