@@ -1,0 +1,9 @@
+pub mod Closed
+pub mod EndingLemmas
+pub mod HistoryLemmas
+pub mod Identifiers
+pub mod KindLemmas
+pub mod LineLemmas
+pub mod Numbers
+pub mod PartLemmas
+pub mod SameLemmas
