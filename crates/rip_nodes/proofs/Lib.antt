@@ -1,0 +1,6 @@
+pub mod AddsLemmas
+pub mod CapitalLemmas
+pub mod ChildLemmas
+pub mod LimitLemmas
+pub mod LinkLemmas
+pub mod NameLemmas
