@@ -1,0 +1,4 @@
+pub mod BatchLemmas
+pub mod ItemLemmas
+pub mod ServedLaws
+pub mod StandingLemmas

@@ -1,0 +1,5 @@
+pub mod Batch
+pub mod Items
+pub mod Rules
+pub mod Served
+pub mod Standing
