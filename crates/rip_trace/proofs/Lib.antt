@@ -1,0 +1,7 @@
+pub mod KnockLemmas
+pub mod LineLemmas
+pub mod RequestLemmas
+pub mod SayLemmas
+pub mod Spaces
+pub mod StepLemmas
+pub mod TraceLemmas

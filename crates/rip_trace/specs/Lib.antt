@@ -1,0 +1,7 @@
+pub mod Lines
+pub mod Requests
+pub mod Shown
+pub mod Spaces
+pub mod Spelling
+pub mod Steps
+pub mod Traces
