@@ -41,3 +41,4 @@ pub use control::{FormPart, part_of};
 pub use laws::{clicks_are_undone, states_are_read};
 pub use report::legal;
 pub use state::{ControlState, FormState, Forms};
+pub use value::Value;

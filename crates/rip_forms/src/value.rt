@@ -11,7 +11,7 @@ use std::alloc::Global;
 
 /// A value that is read: a text that stands in the pool, or the texts below a node, which are to be joined.
 #[derive(Clone, Copy, Debug)]
-pub(crate) enum Value {
+pub enum Value {
     Stands(Span),
     Below(u32),
 }

@@ -1,0 +1,12 @@
+pub mod Answers
+pub mod EventMembers
+pub mod Events
+pub mod Flow
+pub mod FormMembers
+pub mod HostCalls
+pub mod Listening
+pub mod Opening
+pub mod Owners
+pub mod Ripley
+pub mod Stays
+pub mod Visit

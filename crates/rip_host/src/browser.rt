@@ -1,0 +1,25 @@
+use crate::events::Events;
+use rip_dom::Dom;
+use rip_events::Listeners;
+use rip_forms::Forms;
+use rip_values::{Span, Whole};
+use std::alloc::Global;
+
+/// What stands behind the objects of a page that are not the heap's: the document, its listeners and events, and
+/// `ripley`. The rooms of all are taken when it is made, so that no call after that takes memory.
+#[derive(Debug, Drop)]
+pub struct Browser {
+    pub dom: Dom,
+    pub forms: Forms,
+    pub listeners: Listeners,
+    pub events: Events,
+    /// The moment that `ripley.now` tells, in milliseconds.
+    pub moment: Whole,
+    /// The random word.
+    pub random: u32,
+    /// The body of the page, also where a script took it out.
+    pub body: Option<u32>,
+    /// Where the text `class` stands, for `className`.
+    pub class: Span,
+    pub alloc: Global,
+}
