@@ -64,7 +64,7 @@ field_here walk pool found (Some o) i name v left h =
           ∙ ap go there.3
           ∙ ap step (ap (λ q. unwrap_or q (name, v)) same)
       | inr past ↦
-          let none : None ≡ Some (name, v) = sym (ap (option_map named) past.1) ∙ h in
+          let none : ◌≡◌ {A = Option (Span × Value)} None (Some (name, v)) = sym (ap (option_map named) past.1) ∙ h in
           cc
     ]
 
@@ -75,7 +75,7 @@ pub fields_end : (walk : Value → ℕ → Walk Data) (pool : Texts) (found : Me
 fields_end walk pool found None i left h = at_drop_all (λ l. fields_walked walk pool found l left) [] i (omega arith)
 fields_end walk pool found (Some o) i left h = elim (slice_get_cases o.properties i).1 [
   | inl there ↦
-      let some : Some (there.0.name, there.0.value) ≡ None = sym (ap (option_map named) there.2) ∙ h in
+      let some : ◌≡◌ {A = Option (Span × Value)} (Some (there.0.name, there.0.value)) None = sym (ap (option_map named) there.2) ∙ h in
       cc
   | inr past ↦ at_drop_all (λ l. fields_walked walk pool found l left) o.properties i past.0
 ]

@@ -1,3 +1,4 @@
 pub mod Arguments
 pub mod Pieces
+pub mod Told
 pub mod Values

@@ -1,10 +1,13 @@
-ghost use Rattle.std.specs.Prelude.{◌≡◌, ◌<◌, ◌≤◌, ◌∷◌, ◌++◌, [], IfOk, OnOk, string_bytes};
+ghost use Rattle.std.specs.Prelude.{◌≡◌, ◌<◌, ◌≤◌, ◌∷◌, ◌++◌, [], IfOk, OnOk, string_bytes, string_cmp};
 ghost use Rattle.serde_json.specs.Data.{put};
 ghost use Rattle.serde_json.specs.View.{view, members_view};
 ghost use Rattle.rip_values.specs.Pool.{text_at};
 ghost use Rattle.rip_heap.specs.Arrays.{elements_at};
 ghost use Rattle.rip_heap.specs.Holders.{holder_of};
 ghost use Rattle.rip_heap.specs.World.{object_at};
+ghost use Rattle.std.specs.List.Sorted.{IsStrictlySortedBy};
+ghost use Rattle.std.specs.Map.{keys_of};
+ghost use Rattle.rip_convert.specs.Told.{IsCanonical, IsSpelt, IsTold};
 ghost use Rattle.rip_convert.specs.Arguments.{arguments_text, walked, parts_walked, spelled, IsText, Walks, Spells};
 
 use rip_data::{MAX_DEPTH, MAX_LENGTH};
@@ -19,7 +22,8 @@ use std::string::FromUtf16Error;
 ///
 /// It walks no more than 16,384 pieces, and calls itself once for each of at most 8 levels. It takes memory.
 pub fn arguments_text(alloc: Global, heap: &Heap, args: Value) -> Result<Bytes, Abrupt>
-    ensures { IsText (arguments_text heap.now args) result }
+    ensures text { IsText (arguments_text heap.now args) result }
+    ensures told { IfOk result (λ text. IsCanonical text) }
 {
     let (data, _) = walked(alloc, heap, args, MAX_DEPTH, MAX_LENGTH as u32)?;
     let text = data.to_string(alloc)?;
@@ -39,6 +43,7 @@ fn walked(
     left: u32,
 ) -> Result<(Json, u32), Abrupt>
     ensures found { Walks (walked levels heap.now v left) result }
+    ensures told { IfOk result (λ found. IsTold (view found.0)) }
     ensures fewer { IfOk result (λ found. found.1 < left) }
 {
     if left == 0 {
@@ -66,6 +71,7 @@ fn walked(
 // A text or a name in UTF-8, and the pieces that are left.
 fn spelled(alloc: Global, units: &[u16], left: u32) -> Result<(String, u32), Abrupt>
     ensures found { Spells (spelled units.now left) result }
+    ensures told { IfOk result (λ found. IsSpelt (string_bytes found.0)) }
     ensures no_more { IfOk result (λ found. found.1 ≤ left) }
 {
     if units.len() > left as usize {
@@ -89,6 +95,7 @@ fn parts(
     left: u32,
 ) -> Result<(Json, u32), Abrupt>
     ensures found { Walks (parts_walked (holder_of (object_at heap.now number)) (walked levels heap.now) heap.now number left) result }
+    ensures told { IfOk result (λ found. IsTold (view found.0)) }
     ensures no_more { IfOk result (λ found. found.1 ≤ left) }
 {
     match holder_of(heap, number) {
@@ -108,6 +115,7 @@ fn elements(
     pieces: u32,
 ) -> Result<(Json, u32), Abrupt>
     ensures found { Walks (parts_walked Holder.ArrayObject (walked levels heap.now) heap.now array pieces) result }
+    ensures told { IfOk result (λ found. IsTold (view found.0)) }
     ensures no_more { IfOk result (λ found. found.1 ≤ pieces) }
 {
     let mut found = Vec::new(alloc);
@@ -131,6 +139,7 @@ fn fields(
     pieces: u32,
 ) -> Result<(Json, u32), Abrupt>
     ensures found { Walks (parts_walked Holder.PlainObject (walked levels heap.now) heap.now object pieces) result }
+    ensures told { IfOk result (λ found. IsTold (view found.0)) }
     ensures no_more { IfOk result (λ found. found.1 ≤ pieces) }
 {
     let mut found = Map::new(alloc);
@@ -157,7 +166,9 @@ fn push(found: &mut Vec<Json>, value: Json) -> Result<(), NoMemory>
 // Gives the member of this name the data.
 #[tactic(auto, using(crate::proofs::Walking::inserted))]
 fn put(found: &mut Map<String, Json>, name: String, value: Json) -> Result<(), NoMemory>
-    ensures { OnOk result (members_view found.new.entries ≡ put (string_bytes name) (view value) (members_view found.old.entries)) }
+    ensures members { OnOk result (members_view found.new.entries
+        ≡ put (string_bytes name) (view value) (members_view found.old.entries)) }
+    ensures ordered { IsStrictlySortedBy string_cmp (keys_of found.new.entries) }
 {
     found.insert(name, value)?;
     Ok(())

@@ -7,7 +7,7 @@
 //! | what | its definition in `specs/` |
 //! |---|---|
 //! | [`value_of_datum`] | `Values.made_value`, the steps in the order of their charges; `Values.Does` says what an answer means |
-//! | [`arguments_text`] | `Arguments.arguments_text`: the walk `Arguments.walked`, left to right, and at last the length; `Arguments.IsText` says what an answer means |
+//! | [`arguments_text`] | `Arguments.arguments_text`: the walk `Arguments.walked`, left to right, and at last the length; `Arguments.IsText` says what an answer means, and `Told.IsCanonical` that it is the text of a datum that is well made |
 //!
 //! A layer above may rest on this: each call is total, a number that is no object of the heap included. A limit ends the
 //! making of a value at the step that would pass it, and the steps before it stand. The walk over arguments changes

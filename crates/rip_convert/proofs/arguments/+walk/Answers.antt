@@ -1,10 +1,10 @@
-use Rattle.std.proofs.Common.{◌≡◌, ℕ, List, string_bytes, ◌-◌, ◌∙◌, ◌++◌, ◌∷◌, [], ◌+◌, Ok, unwrap_or, drop, map, sym, ap, subst, arith}
+use Rattle.std.proofs.Common.{rules, ◌≡◌, ℕ, List, string_bytes, ◌-◌, ◌∙◌, ◌++◌, ◌∷◌, [], ◌+◌, Ok, unwrap_or, drop, map, sym, ap, subst, arith}
 use Rattle.std.proofs.lemmas.List.{at_drop_all, map-append}
 use Rattle.std.proofs.lemmas.Option.{unwrap_or-slice_get}
 use Rattle.std.proofs.lemmas.Result.{err_from_is_err_and}
 use Rattle.serde_json.proofs.Views.{view-Array, view-Object}
 use Rattle.serde_json.specs.Data.{Data, array, object, string, put}
-use Rattle.serde_json.specs.View.{view, items_of, members_view}
+use Rattle.serde_json.specs.View.{view, items_of, members_view, items_view}
 use Rattle.rip_values.specs.Pool.{text_at}
 use Rattle.rip_values.specs.declared.value.Value.TheVariants.{Undefined}
 use Rattle.rip_heap.specs.Arrays.{elements_at}
@@ -12,6 +12,14 @@ use Rattle.rip_heap.specs.World.{object_at}
 use Rattle.rip_heap.specs.declared.holder.Holder.TheVariants.{PlainObject, ArrayObject}
 use Rattle.rip_convert.specs.Arguments.{walked, elements_walked, fields_walked, properties_of, parts_walked, then_walks, spelled, Walk, Walks}
 use Rattle.rip_convert.proofs.Walking.{ends, then_ends, returned, element_here, field_here, fields_end, walked_object, walked_text}
+use Rattle.rip_convert.proofs.Telling.{told_number, told_text, told_array, told_object, told_push, told_put}
+use Rattle.rip_convert.specs.Told.{AreTold, HaveTold}
+use Rattle.rip_data.proofs.DataLemmas.{AreInOrder-members_view}
+use Rattle.serde_json.specs.declared.value.Value.{Null, Bool, String, Array, Object, the_lemmas}
+use Rattle.serde_json.specs.Data as json
+use Rattle.serde_json.specs.Find.{of_integer}
+use Rattle.std.proofs.lemmas.Grind.{common_steps}
+use Rattle.rip_data.specs.Datum as datum
 use Rattle.rip_convert.proofs.arguments.+walk.Goals as goal
 
 pub elements-returns-in_err-data-clause-found : goal.elements-returns-in_err-data-clause-found
@@ -41,6 +49,7 @@ elements-loop-place-preserved t c =
           ∙ ap (λ xs. elements_walked walk xs (drop (c.loop-place.place + 1) vs) c.in_ok-data.rest) (map-append view c.loop-place.found.items (c.in_ok-data.data ∷ []))
           ∙ sym (ap (λ m. then_walks m (λ e rest. elements_walked walk (found ++ e ∷ []) (drop (c.loop-place.place + 1) vs) rest)) c.in_ok-data.ensures.found)
           ∙ sym here ∙ c.loop-place.invariant.walk;
+      told = subst (λ xs. AreTold (items_view xs)) (sym c.in_ok-push.ensures) (told_push c.loop-place.found.items c.in_ok-data.data c.loop-place.invariant.told c.in_ok-data.ensures.told);
       no_more = omega (arith, c.in_ok-data.ensures.fewer, c.loop-place.invariant.no_more);
     }
 
@@ -53,6 +62,14 @@ elements-returns-clause-found t c =
     ap (λ m. then_walks m (λ ds rest. Ok (array (items_of ds), rest)))
     (sym c.loop-place.invariant.walk ∙ at_drop_all (λ l. elements_walked walk found l c.loop-place.left) vs c.loop-place.place (omega (arith, c.loop-place-test.false, c.count-place-end.ensures)))
     ∙ ap (λ d. Ok (d, c.loop-place.left)) (sym (view-Array c.loop-place.found))
+
+pub elements-returns-clause-told : goal.elements-returns-clause-told
+elements-returns-clause-told t c = told_array (items_view c.loop-place.found.items) (Array c.loop-place.found) c.loop-place.invariant.told (view-Array c.loop-place.found)
+
+pub fields-returns-clause-told : goal.fields-returns-clause-told
+fields-returns-clause-told t c =
+    told_object (members_view c.loop-name.found.entries) (Object c.loop-name.found) c.loop-name.invariant.told
+    (AreInOrder-members_view c.loop-name.found.entries c.loop-name.invariant.ordered) (view-Object c.loop-name.found)
 
 pub fields-returns-in_err-name-clause-found : goal.fields-returns-in_err-name-clause-found
 fields-returns-in_err-name-clause-found t c =
@@ -100,10 +117,12 @@ fields-loop-name-preserved t c =
     let here = sym c.loop-name.invariant.walk ∙ field_here walk w.pool found o c.loop-name.place c.in-Some.name c.in-Some.v c.loop-name.left (sym c.in-Some.ensures)
     ∙ ap (λ u. then_walks (spelled u c.loop-name.left) further) (sym spelling) in
     let bytes = string_bytes c.in_ok-name.name in record {
-      walk = ap (λ ms. fields_walked walk w.pool ms ps c.in_ok-data.rest) c.in_ok-put.ensures
+      walk = ap (λ ms. fields_walked walk w.pool ms ps c.in_ok-data.rest) c.in_ok-put.ensures.members
           ∙ sym (ap (λ m. then_walks m (λ d end. fields_walked walk w.pool (put bytes d found) ps end)) c.in_ok-data.ensures.found)
           ∙ sym (ap (λ m. then_walks m further) c.in_ok-name.ensures.found)
           ∙ sym here;
+      told = subst HaveTold (sym c.in_ok-put.ensures.members) (told_put bytes (view c.in_ok-data.data) found c.in_ok-name.ensures.told c.in_ok-data.ensures.told c.loop-name.invariant.told);
+      ordered = c.put.ensures.ordered;
       no_more = omega (arith, c.in_ok-data.ensures.fewer, c.in_ok-name.ensures.no_more, c.loop-name.invariant.no_more);
     }
 
@@ -137,3 +156,24 @@ walked-returns-else-levels-eq0-clause-found t c =
     let n = c.in-Object.number in
     let P = λ (m : Walk Data). Walks m c.parts.result in
     subst P (sym (ap (λ v. walked c.args.levels w v c.args.left) c.in-Object.is ∙ walked_object c.args.levels w n c.args.left (omega (arith, c.if-levels-eq0.false)) (omega (arith, c.if-left-eq0.false)))) c.parts.ensures.found
+
+pub walked-returns-in-Null-clause-told : goal.walked-returns-in-Null-clause-told
+walked-returns-in-Null-clause-told t c =
+    let e : json.null ≡ view Null = search (rules, the_lemmas) in
+    (datum.null, (tt, e))
+
+pub walked-returns-in-Bool-clause-told : goal.walked-returns-in-Bool-clause-told
+walked-returns-in-Bool-clause-told t c =
+    let e : json.boolean c.in-Bool.b ≡ view (Bool c.in-Bool.b) = search (rules, the_lemmas) in
+    (datum.boolean c.in-Bool.b, (tt, e))
+
+pub walked-returns-in-Num-clause-told : goal.walked-returns-in-Num-clause-told
+walked-returns-in-Num-clause-told t c =
+    let e : view c.from.result ≡ json.number (of_integer c.in-Num.whole) = first_of (cc, search rules, grind (arith, common_steps)) in
+    told_number c.in-Num.whole c.from.result c.get.ensures.whole e
+
+pub walked-returns-in_ok-text-in-Text-clause-told : goal.walked-returns-in_ok-text-in-Text-clause-told
+walked-returns-in_ok-text-in-Text-clause-told t c =
+    let text = c.in_ok-text-in-Text.text in
+    let e : view (String text) ≡ json.string (string_bytes text) = search (rules, the_lemmas) in
+    told_text (string_bytes text) (String text) c.in_ok-text-in-Text.ensures.told e
