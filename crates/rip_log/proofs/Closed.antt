@@ -1,8 +1,8 @@
 -- Words that end where they end, whatever stands behind them.
-use Rattle.std.proofs.Common.{◌≡◌, ◌≢◌, ℕ, zero, suc, ◌+◌, ◌-◌, ◌*◌, ◌/◌, ◌%◌, ◌<◌, ◌≤◌, ◌^◌, ◌==◌, nat_lt, ◌&&◌, ◌||◌, ℤ, pos, negsuc, if◌then◌else◌, List, [], ◌∷◌, ◌++◌, Bool, true, false, cond, length, get_or, codes, decimal, Option, Some, None, refl, sym, ap, ◌∙◌, subst, arith, append-nil, take, drop, drop-cons, add-one, ap₂}
+use Rattle.std.proofs.Common.{◌≡◌, ◌≢◌, ℕ, zero, suc, ◌+◌, ◌-◌, ◌/◌, ◌%◌, ◌<◌, ◌≤◌, ◌^◌, ◌==◌, nat_lt, ◌&&◌, ◌||◌, ℤ, pos, negsuc, if◌then◌else◌, List, [], ◌∷◌, ◌++◌, Bool, true, false, cond, length, get_or, decimal, Option, Some, None, refl, sym, ap, ◌∙◌, arith, append-nil, take, drop, drop-cons, add-one, ap₂}
 use Rattle.std.specs.Int.{to_be_bytes, w128}
 use Rattle.std.specs.Char.{digit_char, is_ascii_digit}
-use Rattle.std.specs.List.{flat_map, list_all, join_with_byte, AllByRecursion}
+use Rattle.std.specs.List.{list_all, join_with_byte, AllByRecursion}
 use Rattle.std.proofs.lemmas.Bool.{ne_eqb}
 use Rattle.std.proofs.lemmas.Int.{ints}
 use Rattle.std.proofs.lemmas.List.{take_all, drop_all, take_more}

@@ -1,6 +1,5 @@
 -- Histories and their logs.
 use Rattle.std.proofs.Common.{◌≡◌, ◌≢◌, ℕ, suc, ◌+◌, ◌<◌, ◌≤◌, List, [], ◌∷◌, ◌++◌, length, map, refl, sym, ap, ◌∙◌, arith, append_assoc, append-nil, length-append}
-use Rattle.std.specs.List.{AllByRecursion}
 use Rattle.rip_log.specs.Entries.{Recorded, recorded_of, entry_text}
 use Rattle.rip_log.specs.Histories.{history_text, IsHistory, IsRefusedAt, LogTellsHistory, RefusalIsOne}
 use Rattle.rip_log.specs.Ranges.{IsRecorded}

@@ -1,12 +1,12 @@
 -- Identifiers: the number of 128 bits, its 16 bytes, its text.
-use Rattle.std.proofs.Common.{◌≡◌, ◌≢◌, ℕ, zero, suc, ◌+◌, ◌*◌, ◌/◌, ◌%◌, ◌^◌, ◌<◌, List, [], ◌∷◌, length, get_or, slice_index_or, Option, Some, Result, Ok, Err, IsOk, ◌↔◌, refl, sym, ap, ◌∙◌, inl, arith}
+use Rattle.std.proofs.Common.{◌≡◌, ℕ, zero, suc, ◌+◌, ◌*◌, ◌/◌, ◌%◌, ◌^◌, ◌<◌, List, Some, Result, Ok, Err, IsOk, ◌↔◌, refl, sym, ap, ◌∙◌, inl, arith}
 use Rattle.std.specs.Prelude.{All, None, IfOk}
 use Rattle.std.specs.Result.{result_ok}
 use Rattle.std.specs.Int.{to_be_bytes, from_be_bytes, w128, bytes_high_first, byte_at}
 use Rattle.std.proofs.lemmas.Bool.{false≢true}
 use Rattle.std.proofs.lemmas.Nat.{mod_below}
 use Rattle.std.proofs.Math.Nat.{div-div-eq-div-mul}
-use Rattle.uuid.specs.Text.{hyphenated_text, lower, parsed}
+use Rattle.uuid.specs.Text.{lower, parsed}
 use Rattle.uuid.proofs.RoundTrips.{parses_hyphenated}
 use Rattle.rip_log.specs.Parts.{identifier_text}
 

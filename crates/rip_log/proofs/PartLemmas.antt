@@ -1,6 +1,6 @@
 -- What the parts of a line are not.
-use Rattle.std.proofs.Common.{◌≡◌, ◌≢◌, ℕ, ◌<◌, ◌≤◌, ◌⊎◌, inl, inr, List, [], ◌∷◌, length, Some, None, false, refl, sym, ap, subst, ◌∙◌, arith}
-use Rattle.serde_json.specs.Data.{Data, depth}
+use Rattle.std.proofs.Common.{◌≡◌, ℕ, ◌<◌, ◌≤◌, ◌⊎◌, inl, inr, List, length, Some, None, false, sym, ap, subst, ◌∙◌, arith}
+use Rattle.serde_json.specs.Data.{Data}
 use Rattle.serde_json.specs.Written.{compact_text}
 use Rattle.rip_data.specs.Datum.{Tree, data_of, canonical_text, nesting, IsDatum}
 use Rattle.rip_data.specs.Datum as tree

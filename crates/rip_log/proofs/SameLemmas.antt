@@ -1,5 +1,5 @@
 -- Two entries with the same words are equal.
-use Rattle.std.proofs.Common.{◌≡◌, ◌≢◌, ℕ, ◌<◌, ◌^◌, List, [], ◌∷◌, cond, bytes_eq, codes, decimal, get_or, inl, inr, Option, Some, None, refl, sym, ap, ap₂, ◌∙◌, arith}
+use Rattle.std.proofs.Common.{◌≡◌, ℕ, ◌<◌, ◌^◌, List, [], ◌∷◌, cond, bytes_eq, codes, decimal, get_or, Option, Some, None, refl, sym, ap, ◌∙◌, arith}
 use Rattle.rip_values.specs.declared.report.BadReport.{BadReport}
 use Rattle.rip_values.specs.declared.report.BadReport.TheVariants as B
 use Rattle.rip_values.specs.declared.value.Limit.{Limit}
@@ -9,10 +9,10 @@ use Rattle.rip_values.specs.declared.value.Fault.TheVariants as F
 use Rattle.rip_data.specs.Datum.{Tree, data_of}
 use Rattle.rip_data.specs.Datum as tree
 use Rattle.rip_data.proofs.TextLaws.{canonical_text-one}
-use Rattle.rip_wire.specs.Batches.{Contents, items_text}
+use Rattle.rip_wire.specs.Batches.{Contents}
 use Rattle.rip_wire.specs.Calls.{IsCallText}
 use Rattle.rip_wire.specs.Items.{Reported, args_tree}
-use Rattle.rip_wire.specs.Reasons.{limit_reason, fault_reason, reason_word, reason_of}
+use Rattle.rip_wire.specs.Reasons.{limit_reason, fault_reason, reason_word}
 use Rattle.rip_wire.specs.declared.ending.Ending.{Ending}
 use Rattle.rip_wire.specs.declared.ending.Ending.TheVariants as E
 use Rattle.rip_wire.specs.declared.ending.Reason.{Reason}
@@ -23,10 +23,10 @@ use Rattle.rip_wire.proofs.TextLemmas.{IsUtf16-IsName}
 use Rattle.rip_log.specs.Endings.{report_word, made_word, ending_words}
 use Rattle.rip_log.specs.Entries.{Recorded, opened, admitted, served, done, closed, ended, entry_words}
 use Rattle.rip_log.specs.Parts.{IsNoneOrCallText}
-use Rattle.rip_log.specs.Ranges.{IsRecorded, IsNoneOrEnding, IsStatus}
-use Rattle.rip_log.proofs.EndingLemmas.{first_same, rest_same, form_of, form, form_same}
+use Rattle.rip_log.specs.Ranges.{IsRecorded, IsNoneOrEnding}
+use Rattle.rip_log.proofs.EndingLemmas.{first_same, rest_same, form, form_same}
 use Rattle.rip_log.proofs.Identifiers.{identifier_text-one}
-use Rattle.rip_log.proofs.KindLemmas.{batch_items, kind_of, kind, kind_same, status_small}
+use Rattle.rip_log.proofs.KindLemmas.{batch_items, kind, kind_same, status_small}
 use Rattle.rip_log.proofs.Numbers.{number_same}
 
 short : (n : ℕ) → n < 2 ^ 32 → n < 2 ^ 64

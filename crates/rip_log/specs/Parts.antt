@@ -1,5 +1,5 @@
 -- The parts of a line that are more than a numeral or a word.
-use Rattle.std.specs.Prelude.{◌≡◌, ℕ, ◌≤◌, List, length, ⊤, Option, Some, None}
+use Rattle.std.specs.Prelude.{ℕ, ◌≤◌, List, length, ⊤, Option, Some, None}
 use Rattle.std.specs.Int.{to_be_bytes, w128}
 use Rattle.uuid.specs.Text.{hyphenated_text, lower}
 use Rattle.rip_data.specs.Datum.{Tree, canonical_text, nesting, IsDatum}

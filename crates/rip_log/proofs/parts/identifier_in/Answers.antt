@@ -1,4 +1,4 @@
-use Rattle.std.proofs.Common.{refl, sym, ap, ◌∙◌}
+use Rattle.std.proofs.Common.{sym, ap, ◌∙◌}
 use Rattle.rip_log.specs.Parts.{identifier_text}
 use Rattle.rip_log.proofs.Identifiers.{not_parsed, parsed_bytes, read_of_text}
 use Rattle.rip_log.proofs.parts.identifier_in.Goals as goal
