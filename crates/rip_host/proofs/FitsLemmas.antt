@@ -1,12 +1,12 @@
 -- What a browser goes with, and what each answer keeps.
-use Rattle.std.proofs.Common.{◌≡◌, ℕ, ◌+◌, ◌<◌, ◌≤◌, length, refl, sym, ap, ◌∙◌, subst, arith}
+use Rattle.std.proofs.Common.{◌≡◌, length, refl, sym, ap, subst, arith}
 use Rattle.rip_values.specs.declared.value.Value.{Value as ScriptValue}
 use Rattle.rip_values.specs.Pool.{Texts}
 use Rattle.rip_heap.specs.declared.host.HostDone.{HostDone}
 use Rattle.rip_heap.specs.declared.host.HostDone.TheVariants.{Value, TypeFault, Dom, Fault, Limit, Memory}
-use Rattle.rip_heap.specs.Growth.{Grows, Belongs}
+use Rattle.rip_heap.specs.Growth.{Belongs}
 use Rattle.rip_heap.specs.Host.{Keeps, LeavesOnRefusal}
-use Rattle.rip_heap.specs.World.{World, first_object}
+use Rattle.rip_heap.specs.World.{World}
 use Rattle.rip_dom.specs.Tree.{Tree}
 use Rattle.rip_nodes.specs.Answers.{AddsTexts, IsAnswered, KeepsTree}
 use Rattle.rip_host.specs.declared.browser.Browser.{Browser}

@@ -1,6 +1,6 @@
 -- What is left of a flow begins with the cursor's next call.
-use Rattle.std.proofs.Common.{◌≡◌, ℕ, zero, suc, ◌+◌, ◌-◌, ◌*◌, ◌^◌, ◌<◌, ◌≤◌, ◌⊎◌, inl, inr, Bool, true, false, Option, None, Some, Result, Ok, Err, List, [], ◌∷◌, length, refl, sym, ap, ap₂, ◌∙◌, subst, arith}
-use Rattle.std.specs.Prelude.{if◌then◌else◌, IfSome}
+use Rattle.std.proofs.Common.{◌≡◌, ℕ, zero, suc, ◌+◌, ◌-◌, ◌<◌, ◌≤◌, inl, inr, Bool, true, false, Option, None, Some, Err, List, [], ◌∷◌, length, refl, sym, ap, ◌∙◌, subst, arith}
+use Rattle.std.specs.Prelude.{IfSome}
 use Rattle.std.proofs.lemmas.Bool.{cases_Bool, cond-true, cond-false}
 use Rattle.std.proofs.lemmas.Option.{none-some, same_Some}
 use Rattle.rip_values.specs.declared.value.Limit.TheVariants.{Cells}
@@ -12,7 +12,7 @@ use Rattle.rip_values.specs.Pool.{Texts}
 use Rattle.rip_heap.specs.World.{World}
 use Rattle.rip_events.specs.declared.station.Station.{Station}
 use Rattle.rip_events.specs.declared.station.Place.{Place}
-use Rattle.rip_events.specs.Flow.{Arrival, Course, begun, stations, call_at, called_at, called_here, ended, goes_on, here_or_ahead, here_or_behind, in_reach, next_arrival, next_call, wanted_at, with_station}
+use Rattle.rip_events.specs.Flow.{Arrival, Course, begun, stations, called_at, called_here, goes_on, here_or_ahead, here_or_behind, in_reach, next_arrival, next_call, wanted_at, with_station}
 use Rattle.rip_events.specs.Listed.{Listed, first_number, fits, listener_at}
 use Rattle.rip_runs.specs.declared.close.Close.TheVariants.{Stopped}
 use Rattle.rip_runs.specs.declared.completion.Stop.TheVariants.{Limit as AtLimit}
@@ -22,7 +22,7 @@ use Rattle.rip_nodes.specs.Answers.{node_value}
 use Rattle.rip_host.specs.declared.browser.Browser.{Browser}
 use Rattle.rip_host.specs.EventMembers.{bubbles}
 use Rattle.rip_host.specs.Opening.{IsLimit, Opens}
-use Rattle.rip_host.specs.Flow.{along, called, calls_at, event_opened, flow, flow_of, flow_ahead, flow_left, flow_steps, is_stopped, left_here, over, reached, room_of, standing, unless_stopped}
+use Rattle.rip_host.specs.Flow.{along, called, calls_at, event_opened, flow, flow_of, flow_ahead, flow_left, is_stopped, left_here, over, reached, room_of, standing}
 
 -- a plan in a world and a browser
 abbrev pub Going : Type 0

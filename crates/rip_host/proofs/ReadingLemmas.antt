@@ -1,5 +1,5 @@
 -- A value that is read adds texts alone.
-use Rattle.std.proofs.Common.{◌≡◌, ℕ, List, length, Result, Ok, Err, refl, sym, ap, ◌∙◌, subst}
+use Rattle.std.proofs.Common.{◌≡◌, ℕ, List, length, Result, Ok, Err, ap, subst}
 use Rattle.rip_values.specs.declared.value.Limit.TheVariants.{Fuel, Cells, Units, Nodes, Depth, Queue, Replies}
 use Rattle.rip_values.specs.declared.value.Refused.TheVariants.{Limit as At, Memory}
 use Rattle.rip_values.specs.declared.value.Span.{Span}

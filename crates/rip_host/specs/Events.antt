@@ -1,5 +1,5 @@
 -- The events of a session.
-use Rattle.std.specs.Prelude.{◌≡◌, ℕ, ◌<◌, ◌≤◌, ◌==◌, false, if◌then◌else◌, Option, None, List, [], ◌∷◌, find, length, slice_index_or}
+use Rattle.std.specs.Prelude.{ℕ, ◌<◌, ◌≤◌, ◌==◌, false, if◌then◌else◌, Option, None, List, [], ◌∷◌, find, length, slice_index_or}
 use Rattle.rip_host.specs.declared.events.Event.{Event}
 
 -- the events that were dispatched, in the order of their objects, and the most that there may be

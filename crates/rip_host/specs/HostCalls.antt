@@ -1,5 +1,5 @@
 -- The calls that a browser answers, among the built-in functions.
-use Rattle.std.specs.Prelude.{Option, None, Some, option_map}
+use Rattle.std.specs.Prelude.{Option, Some, option_map}
 use Rattle.rip_values.specs.declared.builtin.Builtin.{Builtin}
 use Rattle.rip_values.specs.declared.builtin.Builtin.TheVariants.{AddEventListener, RemoveEventListener, StopPropagation, PreventDefault, RipleyNow, RipleyRandom}
 use Rattle.rip_nodes.specs.Members.{call_of}

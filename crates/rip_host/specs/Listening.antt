@@ -1,5 +1,5 @@
 -- addEventListener and removeEventListener (DOM Level 2 Events 1.3.1).
-use Rattle.std.specs.Prelude.{◌≡◌, ℕ, ◌+◌, Bool, true, false, ◌&&◌, nat_le, if◌then◌else◌, is_some, Option, None, Some}
+use Rattle.std.specs.Prelude.{ℕ, Bool, true, false, ◌&&◌, nat_le, if◌then◌else◌, is_some, Option, None, Some}
 use Rattle.rip_values.specs.declared.builtin.Builtin.{Builtin}
 use Rattle.rip_values.specs.declared.value.Fault.{Fault}
 use Rattle.rip_values.specs.declared.value.Fault.TheVariants.{NotInProfile}
@@ -14,7 +14,7 @@ use Rattle.rip_heap.specs.Conversions.{boolean_of, text_fault}
 use Rattle.rip_heap.specs.World.{World, code_of, object_at}
 use Rattle.rip_members.specs.Calls.{builtin_of}
 use Rattle.rip_events.specs.declared.listener.Listener.{Listener}
-use Rattle.rip_events.specs.Listed.{Listed, cost_of_listener, found, registered, same_as, without_listener}
+use Rattle.rip_events.specs.Listed.{Listed, found, registered, same_as, without_listener}
 use Rattle.rip_nodes.specs.Texts.{are_past, cost_of_text, text_span, world_with}
 use Rattle.rip_host.specs.declared.browser.Browser.{Browser}
 use Rattle.rip_host.specs.declared.listening.Handler.{Handler}

@@ -1,5 +1,5 @@
 -- A heap that only grew is still one that a browser goes with.
-use Rattle.std.specs.Prelude.{◌≡◌, ℕ, ◌+◌, ◌<◌, ◌≤◌, length}
+use Rattle.std.specs.Prelude.{◌≡◌, ℕ, ◌<◌, ◌≤◌}
 use Rattle.std.proofs.Common.{sym, ◌∙◌, subst}
 use Rattle.std.proofs.Math.Nat.{le_trans, le_refl, add-le-add}
 use Rattle.rip_heap.specs.Growth.{Grows}

@@ -1,4 +1,4 @@
-use Rattle.std.proofs.Common.{◌∙◌, ap, arith}
+use Rattle.std.proofs.Common.{ap, arith}
 use Rattle.rip_dom.specs.Tree.{Tree}
 use Rattle.rip_host.specs.Flow.{event_opened}
 use Rattle.rip_host.proofs.FlowLemmas.{flow-begins, flow-exceeds, opened-kept}

@@ -1,4 +1,4 @@
-use Rattle.std.proofs.Common.{◌<◌, ◌^◌, length, refl, arith, Some, None}
+use Rattle.std.proofs.Common.{◌<◌, ◌^◌, length, arith, Some, None}
 use Rattle.rip_host.proofs.EventFits.{fits-reached, place-below}
 use Rattle.rip_host.proofs.FlowLemmas.{next-fewer, next-plan}
 use Rattle.rip_host.proofs.flow.next_call.Goals as goal

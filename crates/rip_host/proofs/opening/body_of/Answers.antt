@@ -1,5 +1,5 @@
 use Rattle.std.proofs.Common.{◌∙◌, sym}
-use Rattle.rip_host.proofs.OpeningLemmas.{body-on, body-here, body-end}
+use Rattle.rip_host.proofs.OpeningLemmas.{body-on, body-here}
 use Rattle.rip_host.proofs.opening.body_of.Goals as goal
 
 pub loop-i-preserved : goal.loop-i-preserved

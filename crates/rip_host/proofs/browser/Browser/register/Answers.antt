@@ -1,4 +1,4 @@
-use Rattle.std.proofs.Common.{◌<◌, ◌≤◌, length, arith}
+use Rattle.std.proofs.Common.{arith}
 use Rattle.rip_events.specs.Listed.{HasRoom}
 use Rattle.rip_host.proofs.browser.Browser.register.Goals as goal
 
