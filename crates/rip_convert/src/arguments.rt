@@ -94,7 +94,9 @@ fn parts(
     levels: usize,
     left: u32,
 ) -> Result<(Json, u32), Abrupt>
-    ensures found { Walks (parts_walked (holder_of (object_at heap.now number)) (walked levels heap.now) heap.now number left) result }
+    ensures found { Walks
+        (parts_walked (holder_of (object_at heap.now number)) (walked levels heap.now) heap.now number left)
+        result }
     ensures told { IfOk result (λ found. IsTold (view found.0)) }
     ensures no_more { IfOk result (λ found. found.1 ≤ left) }
 {
@@ -114,7 +116,8 @@ fn elements(
     levels: usize,
     pieces: u32,
 ) -> Result<(Json, u32), Abrupt>
-    ensures found { Walks (parts_walked Holder.ArrayObject (walked levels heap.now) heap.now array pieces) result }
+    ensures found { Walks
+        (parts_walked Holder.ArrayObject (walked levels heap.now) heap.now array pieces) result }
     ensures told { IfOk result (λ found. IsTold (view found.0)) }
     ensures no_more { IfOk result (λ found. found.1 ≤ pieces) }
 {
@@ -138,7 +141,8 @@ fn fields(
     levels: usize,
     pieces: u32,
 ) -> Result<(Json, u32), Abrupt>
-    ensures found { Walks (parts_walked Holder.PlainObject (walked levels heap.now) heap.now object pieces) result }
+    ensures found { Walks
+        (parts_walked Holder.PlainObject (walked levels heap.now) heap.now object pieces) result }
     ensures told { IfOk result (λ found. IsTold (view found.0)) }
     ensures no_more { IfOk result (λ found. found.1 ≤ pieces) }
 {
