@@ -1,0 +1,150 @@
+-- A session does the same wherever it is given the same.
+use Rattle.std.proofs.Common.{◌≡◌, ◌⊎◌, inl, inr, ℕ, zero, suc, ◌+◌, ◌-◌, ◌/◌, ◌≤◌, Bool, true, false, cond, eqb, List, [], ◌∷◌, ◌++◌, length, map, take, Option, Some, None, refl, sym, ap, ◌∙◌, subst, arith}
+use Rattle.std.specs.Prelude.{slice_get, unwrap_or}
+use Rattle.std.proofs.lemmas.List.{append-nil}
+use Rattle.rip_data.specs.Datum.{Tree}
+use Rattle.rip_wire.specs.Batches.{Contents}
+use Rattle.rip_wire.specs.declared.ending.Ending.{Ending}
+use Rattle.rip_log.specs.Entries.{Recorded, opened, admitted, served, done, closed, ended}
+use Rattle.rip_course.specs.Turns.{turn_at}
+use Rattle.rip_course.specs.Sessions.{Fact, serves, finishes, Part, Given, Meaning, serves_call, served_count, ReadsGivenInTurn, opening_in, batches_in, turns_in, given_in, Deed, deeds_in, admission, comes_by, deed_of, deeds_by, IsSessionOf, Distant, distant, story_in, IsFrontOf, Agree, SessionsAreAlone}
+
+-- ---- fronts
+
+map-join : {A B : Type 0} (f : A → B) (xs more : List A) → map f (xs ++ more) ≡ map f xs ++ map f more
+map-join f [] more = refl
+map-join f (x ∷ xs) more = ap (λ t. f x ∷ t) (map-join f xs more)
+
+front-map : {A B : Type 0} (f : A → B) (xs ys : List A) → IsFrontOf xs ys → IsFrontOf (map f xs) (map f ys)
+front-map f xs ys (more, e) = (map f more, ap (map f) e ∙ map-join f xs more)
+
+-- two fronts of one list agree
+longer : {A : Type 0} (x : A) (xs ys : List A) → Agree xs ys → Agree (x ∷ xs) (x ∷ ys)
+longer x xs ys (inl (more, e)) = inl (more, ap (λ t. x ∷ t) e)
+longer x xs ys (inr (more, e)) = inr (more, ap (λ t. x ∷ t) e)
+
+takes-agree : {A : Type 0} (k n : ℕ) (xs : List A) → Agree (take k xs) (take n xs)
+takes-agree zero n xs = inl (take n xs, refl)
+takes-agree (suc k) zero xs = inr (take (suc k) xs, refl)
+takes-agree (suc k) (suc n) [] = inl ([], refl)
+takes-agree (suc k) (suc n) (x ∷ xs) = longer x (take k xs) (take n xs) (takes-agree k n xs)
+
+agree-map : {A B : Type 0} (f : A → B) (xs ys : List A) → Agree xs ys → Agree (map f xs) (map f ys)
+agree-map f xs ys (inl h) = inl (front-map f xs ys h)
+agree-map f xs ys (inr h) = inr (front-map f ys xs h)
+
+-- ---- deeds are a front of the parts
+
+-- how many parts come by the last turn
+abbrev reached : ℕ → List ℕ → List Part → ℕ
+reached last turns [] = 0
+reached last turns (p ∷ ps) = cond (comes_by last p.cost (admission turns p)) (suc (reached last turns ps)) 0
+
+deeds-step : (turns : List ℕ) (p : Part) (ps : List Part) (ds : List Deed) (k : ℕ) (b : Bool) → ds ≡ map (deed_of turns) (take k ps)
+    → cond b (deed_of turns p ∷ ds) [] ≡ map (deed_of turns) (take (cond b (suc k) 0) (p ∷ ps))
+deeds-step turns p ps ds k true e = ap (λ (t : List Deed). deed_of turns p ∷ t) e
+deeds-step turns p ps ds k false e = refl
+
+deeds-are : (last : ℕ) (turns : List ℕ) (ps : List Part) → deeds_by last turns ps ≡ map (deed_of turns) (take (reached last turns ps) ps)
+deeds-are last turns [] = refl
+deeds-are last turns (p ∷ ps) =
+    deeds-step turns p ps (deeds_by last turns ps) (reached last turns ps) (comes_by last p.cost (admission turns p)) (deeds-are last turns ps)
+
+-- how many deeds serve a call
+abbrev serving : List Deed → ℕ
+serving [] = 0
+serving (d ∷ ds) = cond (serves_call d.fact) (suc (serving ds)) (serving ds)
+
+serving-parts : (turns : List ℕ) (ps : List Part) → serving (map (deed_of turns) ps) ≡ served_count ps
+serving-parts turns [] = refl
+serving-parts turns (p ∷ ps) = ap (λ n. cond (serves_call p.fact) (suc n) n) (serving-parts turns ps)
+
+serving-served : (b : Bool) (d : Deed) (ds : List Deed) (g : Given) (gs : List Given) → serves_call d.fact ≡ true
+    → serving ds ≡ length gs → serving (cond b (d ∷ ds) ds) ≡ length (cond b (g ∷ gs) gs)
+serving-served true d ds g gs calls e = ap (λ (c : Bool). cond c (suc (serving ds)) (serving ds)) calls ∙ ap suc e
+serving-served false d ds g gs calls e = e
+
+serving-done : (b : Bool) (d : Deed) (ds : List Deed) → serves_call d.fact ≡ false → serving (cond b (d ∷ ds) ds) ≡ serving ds
+serving-done true d ds calls = ap (λ (c : Bool). cond c (suc (serving ds)) (serving ds)) calls
+serving-done false d ds calls = refl
+
+serving-given : (n : ℕ) (h : List Recorded) → serving (deeds_in n h) ≡ length (given_in n h)
+serving-given n [] = refl
+serving-given n (opened turn session id seed time ∷ h) = serving-given n h
+serving-given n (admitted turn session b ∷ h) = serving-given n h
+serving-given n (served turn session number k name args time reply ∷ h) =
+    let d : Deed = record { turn = turn; batch = number; fact = serves k name args } in
+    let g : Given = record { time = time; reply = reply } in
+    serving-served (eqb session n) d (deeds_in n h) g (given_in n h) refl (serving-given n h)
+serving-given n (done turn session number how ∷ h) =
+    let d : Deed = record { turn = turn; batch = number; fact = finishes how } in
+    serving-done (eqb session n) d (deeds_in n h) refl ∙ serving-given n h
+serving-given n (closed turn session ∷ h) = serving-given n h
+serving-given n (ended turn status ∷ h) = serving-given n h
+
+-- ---- distances
+
+-- a part without its turn
+abbrev distance_of : Part → Distant
+distance_of p = record { distance = (p.cost - 1) / 1000; batch = p.batch; fact = p.fact }
+
+far : (t cost : ℕ) → turn_at t cost - t ≡ (cost - 1) / 1000
+far t cost = omega arith
+
+distants : (turns : List ℕ) (ps : List Part) → map (distant turns) (map (deed_of turns) ps) ≡ map distance_of ps
+distants turns [] = refl
+distants turns (p ∷ ps) =
+    (λ i. record { distance = far (unwrap_or (slice_get turns p.batch) 0) p.cost i; batch = p.batch; fact = p.fact } ∷ distants turns ps i)
+
+-- ---- isolation
+
+-- what a session of a history did, as a front of what the meaning gives
+record Fronts (m : Meaning) (history : List Recorded) (n seed time : ℕ) : Type 0 where
+  count : ℕ
+  few : served_count (take count (m seed time (batches_in n history) (given_in n history))) ≡ length (given_in n history)
+  story : story_in n history ≡ map distance_of (take count (m seed time (batches_in n history) (given_in n history)))
+
+fronts : (m : Meaning) (last : ℕ) (history : List Recorded) (n : ℕ) (s : IsSessionOf m last history n) → Fronts m history n s.seed s.time
+fronts m last history n s =
+    let turns = turns_in n history in
+    let parts = m s.seed s.time (batches_in n history) (given_in n history) in
+    let k = reached last turns parts in
+    let deeds : deeds_in n history ≡ map (deed_of turns) (take k parts) = s.deeds ∙ deeds-are last turns parts in
+    record {
+      count = k;
+      few = sym (serving-parts turns (take k parts)) ∙ ap serving (sym deeds) ∙ serving-given n history;
+      story = ap (map (distant turns)) deeds ∙ distants turns (take k parts);
+    }
+
+front_alone : (m : Meaning) → ReadsGivenInTurn m → (history other : List Recorded) (n k seed time : ℕ)
+    → Fronts m history n seed time → Fronts m other k seed time
+    → batches_in n history ≡ batches_in k other → IsFrontOf (given_in n history) (given_in k other)
+    → Agree (story_in n history) (story_in k other)
+front_alone m reads history other n k seed time f g same (more, e) =
+    let batches = batches_in n history in
+    let given = given_in n history in
+    let whole = m seed time batches (given ++ more) in
+    let here : story_in n history ≡ map distance_of (take f.count whole) =
+    f.story ∙ ap (map distance_of) (reads seed time batches given more f.count (omega (arith, f.few))) in
+    let there : story_in k other ≡ map distance_of (take g.count whole) =
+    g.story ∙ (λ i. map distance_of (take g.count (m seed time (sym same i) (e i)))) in
+    subst (λ (xs : List Distant). Agree xs (story_in k other)) (sym here)
+    (subst (λ (ys : List Distant). Agree (map distance_of (take f.count whole)) ys) (sym there)
+    (agree-map distance_of (take f.count whole) (take g.count whole) (takes-agree f.count g.count whole)))
+
+flip : {A : Type 0} (xs ys : List A) → Agree xs ys → Agree ys xs
+flip xs ys (inl h) = inr h
+flip xs ys (inr h) = inl h
+
+pub sessions_are_alone : SessionsAreAlone
+sessions_are_alone m reads last other_last history other n k s t opening batches agree =
+    let pairs : Some (s.seed, s.time) ≡ Some (t.seed, t.time) = sym s.opening ∙ opening ∙ t.opening in
+    let pair : (s.seed, s.time) ≡ (t.seed, t.time) = ap (λ (o : Option (ℕ × ℕ)). unwrap_or o (s.seed, s.time)) pairs in
+    let f = fronts m last history n s in
+    let g : Fronts m other k s.seed s.time =
+    subst (λ (p : ℕ × ℕ). Fronts m other k p.0 p.1) (sym pair) (fronts m other_last other k t) in
+    by f g agree
+  where
+    by : Fronts m history n s.seed s.time → Fronts m other k s.seed s.time → Agree (given_in n history) (given_in k other) → Agree (story_in n history) (story_in k other)
+    by f g (inl h) = front_alone m reads history other n k s.seed s.time f g batches h
+    by f g (inr h) = flip (story_in k other) (story_in n history) (front_alone m reads other history k n s.seed s.time g f (sym batches) h)

@@ -1,0 +1,7 @@
+pub mod Decisions
+pub mod Handlings
+pub mod Requests
+pub mod Sequences
+pub mod Sessions
+pub mod Standings
+pub mod Turns

@@ -1,0 +1,57 @@
+ghost use Rattle.rip_course.specs.Decisions.{AdmitsNext, ClosesIdle};
+ghost use Rattle.rip_course.specs.Handlings.{HandledOnce, TurnsAreHandled};
+ghost use Rattle.rip_course.specs.Requests.{AdmissionsAre, AskedIsOne, OpeningsAre};
+ghost use Rattle.rip_course.specs.Sequences.{BatchesCount, EndsLast, IdentifiersDiffer, OrdinalsCount};
+ghost use Rattle.rip_course.specs.Sessions.{SessionsAreAlone};
+ghost use Rattle.rip_course.specs.Standings.{StandingsAreOwn, StandingsFollow};
+ghost use Rattle.rip_course.specs.Turns.{DistanceIsOfCost, TurnsAreFirst, TurnsKeepOrder};
+
+/// The law of turns: what an item does comes in the first turn by whose end the units cover its cost, and how many turns
+/// that is after the admission depends on the cost alone.
+pub fn turns_are_first()
+    ensures first { TurnsAreFirst }
+    ensures order { TurnsKeepOrder }
+    ensures distance { DistanceIsOfCost }
+{}
+
+/// How a session stands is told entry by entry, by its own entries alone.
+pub fn standings_follow()
+    ensures follow { StandingsFollow }
+    ensures own { StandingsAreOwn }
+{}
+
+/// A batch is admitted exactly where it is the next of a live session that is not busy; such a session alone is closed.
+pub fn next_are_admitted()
+    ensures next { AdmitsNext }
+    ensures idle { ClosesIdle }
+{}
+
+/// Isolation: what a session does depends on nothing but its opening, its batches and what its served calls were given,
+/// so other sessions reach it through the moments and replies alone.
+pub fn sessions_are_alone()
+    ensures { SessionsAreAlone }
+{}
+
+/// A message asks one thing. What is admitted is the batch that was asked for, and the next of a live session that is not
+/// busy; a session is opened with the next ordinal and the drawn identifier, which none had, while fewer live than may.
+pub fn decisions_are_exact()
+    ensures asked { AskedIsOne }
+    ensures admissions { AdmissionsAre }
+    ensures openings { OpeningsAre }
+{}
+
+/// Where each entry may come after those before it, sessions are counted from 1, and so are the batches of each; no
+/// two sessions have one identifier; the entry that ends the run is the last.
+pub fn sequences_count()
+    ensures ordinals { OrdinalsCount }
+    ensures batches { BatchesCount }
+    ensures identifiers { IdentifiersDiffer }
+    ensures last { EndsLast }
+{}
+
+/// Each request of a connection is handled in the first turn in which its bytes have come and the one before it is
+/// answered, and these turns are one list.
+pub fn requests_are_handled_once()
+    ensures some { TurnsAreHandled }
+    ensures one { HandledOnce }
+{}

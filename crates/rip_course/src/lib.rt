@@ -1,0 +1,44 @@
+//! What a legal course of the server is, as far as it can be said without connections and buffers: when what a session
+//! does comes, how a session stands after a history, what is decided on a request, which entry may follow which, and that
+//! what a session does depends on nothing but what it is given.
+//!
+//! A history is a list of entries (`rip_log`). What a session does is an argument of the definitions, `Sessions.Meaning`: of
+//! a seed and a time, of batches and of what its served calls are given. So nothing here rests on an evaluator.
+//!
+//! | what | its definition in `specs/` |
+//! |---|---|
+//! | [`turn_of_cost`] | `Turns.turn_at`; `Turns.IsFirstTurn`, the first turn by whose end the units cover the cost |
+//! | [`Standing`] and what changes it | `Standings.when_opened`, `when_admitted`, `when_done`, `when_closed`; `Standings.standing_of`, how a session stands after a history |
+//! | [`Standing::decide_batch`], [`Standing::decide_close`] | `Decisions.batch_decision`, `Decisions.close_decision`: the first answer that applies |
+//! | a request | `Requests.Asks`, what a message asks; `Requests.decide`, what is decided on it by the history so far |
+//! | the turns of a connection's requests | `Handlings.AreHandled`, each in the first turn in which it may be; `Handlings.handled_turns`, the same one after another |
+//! | a history | `Sequences.IsOrderly`: each of its entries may come after those before it |
+//! | a session of a history | `Sessions.IsSessionOf`: up to the last turn it did what the meaning says, each in the turn of its cost |
+//!
+//! | law | its definition |
+//! |---|---|
+//! | [`turns_are_first`] | `Turns.TurnsAreFirst`, `TurnsKeepOrder`, `DistanceIsOfCost` |
+//! | [`standings_follow`] | `Standings.StandingsFollow`, `StandingsAreOwn` |
+//! | [`next_are_admitted`] | `Decisions.AdmitsNext`, `ClosesIdle` |
+//! | [`decisions_are_exact`] | `Requests.AskedIsOne`, `AdmissionsAre`, `OpeningsAre` |
+//! | [`requests_are_handled_once`] | `Handlings.TurnsAreHandled`, `HandledOnce` |
+//! | [`sequences_count`] | `Sequences.OrdinalsCount`, `BatchesCount`, `IdentifiersDiffer`, `EndsLast` |
+//! | [`sessions_are_alone`] | `Sessions.SessionsAreAlone`, of a meaning that reads what is given at its served calls (`ReadsGivenInTurn`) |
+//!
+//! A layer above may rest on these. The functions take no memory and the time of a few comparisons.
+#![tactic(auto)]
+
+mod decision;
+mod laws;
+mod standing;
+#[cfg(test)]
+mod tests;
+mod turn;
+
+pub use decision::{BatchDecision, CloseDecision};
+pub use laws::{
+    decisions_are_exact, next_are_admitted, requests_are_handled_once, sequences_count,
+    sessions_are_alone, standings_follow, turns_are_first,
+};
+pub use standing::Standing;
+pub use turn::{SLICE, turn_of_cost};
