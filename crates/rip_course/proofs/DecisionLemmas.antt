@@ -1,7 +1,7 @@
 -- Which batches are admitted, and which sessions are closed.
-use Rattle.std.proofs.Common.{◌≡◌, ◌↔◌, ℕ, ◌+◌, ◌-◌, Bool, true, false, cond, not, Option, Some, None, refl, sym, ap, ◌∙◌, subst, arith, eqb, ltb}
+use Rattle.std.proofs.Common.{◌≡◌, ◌↔◌, ℕ, ◌+◌, ◌-◌, Bool, true, false, cond, not, Option, Some, None, refl, sym, ap, ◌∙◌, subst, arith, ltb}
 use Rattle.std.specs.Prelude.{◌&&◌, is_none}
-use Rattle.std.proofs.lemmas.Bool.{eqb-true, eqb-false, ltb-false, le-ltb, eq-eqb, ne_eqb, not-false, and_left, and_right, and_from, true≢false}
+use Rattle.std.proofs.lemmas.Bool.{eqb-true, ltb-false, le-ltb, eq-eqb, ne_eqb, not-false, and_right, and_from, true≢false}
 use Rattle.rip_wire.specs.declared.ending.Reason.{Reason}
 use Rattle.rip_course.specs.Decisions.{batch_decision, close_decision}
 use Rattle.rip_course.specs.Standings.{has_done}

@@ -1,7 +1,7 @@
 -- Requests are handled in the first turns in which they may be.
-use Rattle.std.proofs.Common.{◌≡◌, ℕ, zero, suc, ◌+◌, ◌<◌, ◌≤◌, max, List, [], ◌∷◌, Option, Some, None, refl, sym, ap, ◌∙◌, subst, arith}
+use Rattle.std.proofs.Common.{◌≡◌, ℕ, ◌≤◌, max, List, [], ◌∷◌, Option, Some, None, refl, subst, arith}
 use Rattle.std.proofs.Math.Nat.{le-max_left, le-max_right, max-le}
-use Rattle.rip_course.specs.Handlings.{Answered, at_once, when_done, never, Request, IsAnsweredBefore, IsFree, MayBeHandled, AreHandled, free_from, handled_turns, TurnsAreHandled, HandledOnce}
+use Rattle.rip_course.specs.Handlings.{Answered, at_once, when_done, never, Request, IsFree, AreHandled, free_from, handled_turns, TurnsAreHandled, HandledOnce}
 
 -- what a request may rest on: from that turn on, and in none before, the one before it is answered
 abbrev FreeFrom : Option ℕ → Option (ℕ × Request) → Type 0

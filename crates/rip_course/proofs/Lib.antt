@@ -1,4 +1,6 @@
+pub mod CourseLemmas
 pub mod DecisionLemmas
+pub mod Examples
 pub mod HandlingLemmas
 pub mod RequestLemmas
 pub mod SequenceLemmas

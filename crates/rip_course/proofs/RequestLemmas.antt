@@ -1,19 +1,21 @@
 -- What is asked and decided.
-use Rattle.std.proofs.Common.{◌≡◌, ℕ, ◌+◌, ◌<◌, Bool, true, false, cond, eqb, leb, List, length, Option, Some, None, refl, sym, ap, ◌∙◌, subst}
+use Rattle.std.proofs.Common.{◌≡◌, ℕ, ◌+◌, Bool, true, false, cond, leb, List, length, Option, Some, None, refl, sym, ap, ◌∙◌, subst}
 use Rattle.std.specs.Prelude.{codes}
 use Rattle.std.proofs.lemmas.Bool.{leb-false}
-use Rattle.rip_http.specs.declared.request.Message.{Message}
 use Rattle.rip_http.specs.declared.request.Route.{Route}
 use Rattle.rip_http.specs.declared.request.Route.TheVariants.{Page, Events, Quit}
 use Rattle.rip_wire.specs.Batches.{Contents}
 use Rattle.rip_wire.proofs.LawLemmas.{body_tells}
 use Rattle.rip_log.specs.Entries.{Recorded}
-use Rattle.rip_course.specs.Decisions.{batch_decision}
+use Rattle.rip_course.specs.Decisions.{batch_decision, close_decision}
+use Rattle.rip_course.specs.Sequences.{IsReadyFor}
 use Rattle.rip_course.specs.Standings.{standing_of}
-use Rattle.rip_course.specs.Requests.{Asked, page, batch, quit, identifier_in, Says, AsksAt, Asks, AskedIsOne, identifiers_in, was_opened, live_count, Lack, no_lack, early, late, Drawn, Decision, answers, opens, admits, closes, fails, on_batch_of, on_batch_to, for_session, named_by, decide, IsAdmission, AdmissionsAre, IsNewSession, OpeningsAre}
+use Rattle.rip_course.specs.Requests.{Asked, page, batch, quit, identifier_in, Says, AsksAt, AskedIsOne, identifiers_in, was_opened, live_count, Lack, no_lack, early, late, Drawn, Decision, answers, opens, admits, closes, fails, on_batch_of, on_batch_to, on_close_of, on_close_to, for_session, named_by, decide, IsAdmission, AdmissionsAre, IsNewSession, OpeningsAre}
 use Rattle.rip_course.specs.declared.standing.Standing.{Standing}
 use Rattle.rip_course.specs.declared.decision.BatchDecision.{BatchDecision}
 use Rattle.rip_course.specs.declared.decision.BatchDecision.TheVariants as on_batch
+use Rattle.rip_course.specs.declared.decision.CloseDecision.{CloseDecision}
+use Rattle.rip_course.specs.declared.decision.CloseDecision.TheVariants as on_close
 use Rattle.rip_course.proofs.DecisionLemmas.{admits_next}
 
 -- ---- what is asked
@@ -34,13 +36,13 @@ asked_is_one m a b h k = asks_one m.route m.segment m.body a b h k
 
 -- ---- what a decision is
 
-abbrev Admitting : Decision → Type 0
+abbrev pub Admitting : Decision → Type 0
 Admitting (answers code body) = ⊥
 Admitting (opens n id seed) = ⊥
 Admitting (admits n b) = Unit {0}
 Admitting (closes n body) = ⊥
 
-abbrev Opening : Decision → Type 0
+abbrev pub Opening : Decision → Type 0
 Opening (answers code body) = ⊥
 Opening (opens n id seed) = Unit {0}
 Opening (admits n b) = ⊥
@@ -60,10 +62,10 @@ admitted_of other (opens n id seed) = other
 admitted_of other (admits n b) = (n, b)
 admitted_of other (closes n body) = other
 
-not_admitted : (d : Decision) (n : ℕ) (b : Contents) → d ≡ admits n b → Admitting d
+pub not_admitted : (d : Decision) (n : ℕ) (b : Contents) → d ≡ admits n b → Admitting d
 not_admitted d n b e = subst Admitting (sym e) tt
 
-not_opened : (d : Decision) (n id seed : ℕ) → d ≡ opens n id seed → Opening d
+pub not_opened : (d : Decision) (n id seed : ℕ) → d ≡ opens n id seed → Opening d
 not_opened d n id seed e = subst Opening (sym e) tt
 
 -- ---- admissions
@@ -143,3 +145,81 @@ openings_are limit h drawn no_lack n id seed e =
     by_tests limit h drawn n id seed (leb limit (live_count h)) (leb 1000000 (length (identifiers_in h))) (was_opened drawn.id h) refl refl refl e
 openings_are limit h drawn early n id seed e = absurd (not_opened (fails 503 (codes "memory")) n id seed e)
 openings_are limit h drawn late n id seed e = absurd (no_late (leb limit (live_count h)) (leb 1000000 (length (identifiers_in h))) n id seed e)
+
+-- ---- what is asked decides of which kind the decision may be
+
+batch_opens_none : (n : ℕ) (h : List Recorded) (s : Standing) (b : Contents) (d : BatchDecision) → Opening (on_batch_of n h s b d) → ⊥
+batch_opens_none n h s b on_batch.Repeat p = p
+batch_opens_none n h s b on_batch.Gone p = p
+batch_opens_none n h s b on_batch.Busy p = p
+batch_opens_none n h s b on_batch.Old p = p
+batch_opens_none n h s b on_batch.Gap p = p
+batch_opens_none n h s b on_batch.Admit p = p
+
+batch_to_opens_none : (n : ℕ) (h : List Recorded) (s : Option Standing) (b : Option Contents) → Opening (on_batch_to n h s b) → ⊥
+batch_to_opens_none n h None b p = p
+batch_to_opens_none n h (Some s) None p = p
+batch_to_opens_none n h (Some s) (Some b) p = batch_opens_none n h s b (batch_decision s b.number) p
+
+named_opens_none : (h : List Recorded) (o : Option ℕ) (b : Option Contents) → Opening (for_session o (λ n. on_batch_to n h (standing_of n h) b)) → ⊥
+named_opens_none h None b p = p
+named_opens_none h (Some n) b p = batch_to_opens_none n h (standing_of n h) b p
+
+close_is_neither : (n : ℕ) (s : Standing) (d : CloseDecision) → (Opening (on_close_of n s d) → ⊥) × (Admitting (on_close_of n s d) → ⊥)
+close_is_neither n s on_close.Gone = (λ p. p, λ p. p)
+close_is_neither n s on_close.Busy = (λ p. p, λ p. p)
+close_is_neither n s on_close.Close = (λ p. p, λ p. p)
+
+close_to_is_neither : (n : ℕ) (s : Option Standing) → (Opening (on_close_to n s) → ⊥) × (Admitting (on_close_to n s) → ⊥)
+close_to_is_neither n None = (λ p. p, λ p. p)
+close_to_is_neither n (Some s) = close_is_neither n s (close_decision s)
+
+quit_is_neither : (h : List Recorded) (o : Option ℕ)
+    → (Opening (for_session o (λ n. on_close_to n (standing_of n h))) → ⊥) × (Admitting (for_session o (λ n. on_close_to n (standing_of n h))) → ⊥)
+quit_is_neither h None = (λ p. p, λ p. p)
+quit_is_neither h (Some n) = close_to_is_neither n (standing_of n h)
+
+page_admits_none : (limit : ℕ) (h : List Recorded) (drawn : Drawn) (lack : Lack) → Admitting (decide limit h page drawn lack) → ⊥
+page_admits_none limit h drawn early p = p
+page_admits_none limit h drawn no_lack p = by (leb limit (live_count h)) (leb 1000000 (length (identifiers_in h))) (was_opened drawn.id h) p
+  where
+    by : (full spent clash : Bool)
+        → Admitting (cond full (fails 503 (codes "full")) (cond spent (fails 503 (codes "spent")) (cond clash (fails 503 (codes "clash")) (opens (length (identifiers_in h) + 1) drawn.id drawn.seed)))) → ⊥
+    by true spent clash q = q
+    by false true clash q = q
+    by false false true q = q
+    by false false false q = q
+page_admits_none limit h drawn late p = by (leb limit (live_count h)) (leb 1000000 (length (identifiers_in h))) p
+  where
+    by : (full spent : Bool) → Admitting (cond full (fails 503 (codes "full")) (cond spent (fails 503 (codes "spent")) (fails 503 (codes "memory")))) → ⊥
+    by true spent q = q
+    by false true q = q
+    by false false q = q
+
+-- a session is opened only where the page is asked for
+pub opened_is_new : (limit : ℕ) (h : List Recorded) (asked : Asked) (drawn : Drawn) (lack : Lack) (n id seed : ℕ)
+    → decide limit h asked drawn lack ≡ opens n id seed → IsNewSession limit h drawn n id seed
+opened_is_new limit h page drawn lack n id seed e = openings_are limit h drawn lack n id seed e
+opened_is_new limit h (batch name b) drawn no_lack n id seed e =
+    absurd (named_opens_none h (named_by name h) b (not_opened (decide limit h (batch name b) drawn no_lack) n id seed e))
+opened_is_new limit h (batch name b) drawn early n id seed e = absurd (not_opened (decide limit h (batch name b) drawn early) n id seed e)
+opened_is_new limit h (batch name b) drawn late n id seed e = absurd (not_opened (decide limit h (batch name b) drawn late) n id seed e)
+opened_is_new limit h (quit name) drawn no_lack n id seed e =
+    let neither = quit_is_neither h (named_by name h) in
+    absurd (neither.0 (not_opened (decide limit h (quit name) drawn no_lack) n id seed e))
+opened_is_new limit h (quit name) drawn early n id seed e = absurd (not_opened (decide limit h (quit name) drawn early) n id seed e)
+opened_is_new limit h (quit name) drawn late n id seed e = absurd (not_opened (decide limit h (quit name) drawn late) n id seed e)
+
+-- a batch is admitted only where it was asked for
+pub admitted_is_ready : (limit : ℕ) (h : List Recorded) (asked : Asked) (drawn : Drawn) (lack : Lack) (n : ℕ) (b : Contents)
+    → decide limit h asked drawn lack ≡ admits n b → IsReadyFor h n b.number
+admitted_is_ready limit h page drawn lack n b e = absurd (page_admits_none limit h drawn lack (not_admitted (decide limit h page drawn lack) n b e))
+admitted_is_ready limit h (batch name asked) drawn lack n b e =
+    let a = admissions_are limit h name asked drawn lack n b e in
+    let s = a.standing in
+    record { standing = s; stands = a.stands; admits = (admits_next s b.number).1 (a.lives, a.idle, a.next) }
+admitted_is_ready limit h (quit name) drawn no_lack n b e =
+    let neither = quit_is_neither h (named_by name h) in
+    absurd (neither.1 (not_admitted (decide limit h (quit name) drawn no_lack) n b e))
+admitted_is_ready limit h (quit name) drawn early n b e = absurd (not_admitted (decide limit h (quit name) drawn early) n b e)
+admitted_is_ready limit h (quit name) drawn late n b e = absurd (not_admitted (decide limit h (quit name) drawn late) n b e)

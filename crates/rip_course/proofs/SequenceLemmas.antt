@@ -1,5 +1,5 @@
 -- Counting sessions and batches along a history.
-use Rattle.std.proofs.Common.{◌≡◌, ℕ, zero, suc, ◌+◌, ◌<◌, ◌≤◌, Bool, true, false, cond, eqb, List, [], ◌∷◌, ◌++◌, length, map, Option, Some, None, refl, sym, ap, ◌∙◌, subst, arith, append-nil, append_assoc, length-append}
+use Rattle.std.proofs.Common.{◌≡◌, ℕ, zero, suc, ◌+◌, ◌<◌, Bool, true, false, cond, eqb, List, [], ◌∷◌, ◌++◌, length, Option, Some, None, refl, sym, ap, ◌∙◌, subst, arith, append-nil, append_assoc, length-append}
 use Rattle.std.specs.Prelude.{option_map, unwrap_or}
 use Rattle.std.specs.List.{list_any}
 use Rattle.std.proofs.lemmas.Bool.{eqb-true, eqb-false, ne_eqb, or_parts, or_from, false≢true}
@@ -7,8 +7,8 @@ use Rattle.std.proofs.lemmas.List.{length-map}
 use Rattle.rip_wire.specs.Batches.{Contents}
 use Rattle.rip_wire.specs.Reasons.{reason_of}
 use Rattle.rip_log.specs.Entries.{Recorded, opened, admitted, served, done, closed, ended}
-use Rattle.rip_course.specs.Requests.{identifiers_in}
-use Rattle.rip_course.specs.Sequences.{IsReadyFor, MayFollow, EachFollows, IsOrderly, counted, ordinals_in, numbers_of, is_over, AreDistinct, OrdinalsCount, BatchesCount, IdentifiersDiffer, EndsLast}
+use Rattle.rip_course.specs.Requests.{identifiers_in, was_opened}
+use Rattle.rip_course.specs.Sequences.{IsReadyFor, MayFollow, EachFollows, counted, ordinals_in, numbers_of, is_over, AreDistinct, OrdinalsCount, BatchesCount, IdentifiersDiffer, EndsLast}
 use Rattle.rip_course.specs.Sessions.{batches_in}
 use Rattle.rip_course.specs.Standings.{after_entry, standing_of, when_opened, when_admitted, when_done, when_closed}
 use Rattle.rip_course.specs.declared.standing.Standing.{Standing}
@@ -81,11 +81,11 @@ no_none : (a : Standing) → Some a ≡ None → ⊥
 no_none a e = subst IsThere e tt
 
 -- of count sessions that were opened, the one of ordinal n stands so after these batches
-record Counts (count n : ℕ) (s : Option Standing) (bs : List Contents) : Type 0 where
-  numbers : numbers_of bs ≡ counted 1 (length bs)
-  last : (t : Standing) → s ≡ Some t → t.last ≡ length bs
-  unopened : s ≡ None → bs ≡ []
-  later : count < n → s ≡ None
+pub record Counts (count n : ℕ) (s : Option Standing) (bs : List Contents) : Type 0 where
+  pub numbers : numbers_of bs ≡ counted 1 (length bs)
+  pub last : (t : Standing) → s ≡ Some t → t.last ≡ length bs
+  pub unopened : s ≡ None → bs ≡ []
+  pub later : count < n → s ≡ None
 
 -- the count grows by one, and the session may be the one that is opened
 counts-opened : (count n session : ℕ) (s : Option Standing) (bs : List Contents) (b : Bool) → eqb session n ≡ b → session ≡ count + 1
@@ -157,8 +157,18 @@ counts-same count n s bs c = subst (λ (xs : List Contents). Counts count n s xs
 counts-still : (count n : ℕ) (s : Option Standing) (bs : List Contents) → Counts count n s bs → Counts (count + 0) n s (bs ++ [])
 counts-still count n s bs c = let same : count ≡ count + 0 = omega arith in subst (λ (k : ℕ). Counts k n s (bs ++ [])) same (counts-same count n s bs c)
 
+-- what makes an entry count: a session is opened with the next ordinal and an identifier that none had, a batch is admitted
+-- where that is decided
+abbrev pub IsCounted : List Recorded → Recorded → Type 0
+IsCounted h (opened turn session id seed time) = (session ≡ length (identifiers_in h) + 1) × (was_opened id h ≡ false)
+IsCounted h (admitted turn session b) = IsReadyFor h session b.number
+IsCounted h (served turn session number k name args time reply) = Unit {0}
+IsCounted h (done turn session number how) = Unit {0}
+IsCounted h (closed turn session) = Unit {0}
+IsCounted h (ended turn status) = Unit {0}
+
 -- by the entry
-counts-step : (count n : ℕ) (h : List Recorded) (e : Recorded) → count ≡ length (identifiers_in h) → MayFollow h e
+counts-step : (count n : ℕ) (h : List Recorded) (e : Recorded) → count ≡ length (identifiers_in h) → IsCounted h e
     → Counts count n (standing_of n h) (batches_in n h)
     → Counts (count + length (ordinals_in (e ∷ []))) n (after_entry n (standing_of n h) e) (batches_in n h ++ batches_in n (e ∷ []))
 counts-step count n h (opened turn session id seed time) size follows c =
@@ -207,7 +217,7 @@ distinct-push (x ∷ xs) y d h =
 distinct-same : (h : List Recorded) → AreDistinct (identifiers_in h) → AreDistinct (identifiers_in h ++ [])
 distinct-same h d = subst AreDistinct (sym (append-nil (identifiers_in h))) d
 
-distinct-step : (h : List Recorded) (e : Recorded) → MayFollow h e → AreDistinct (identifiers_in h) → AreDistinct (identifiers_in h ++ identifiers_in (e ∷ []))
+distinct-step : (h : List Recorded) (e : Recorded) → IsCounted h e → AreDistinct (identifiers_in h) → AreDistinct (identifiers_in h ++ identifiers_in (e ∷ []))
 distinct-step h (opened turn session id seed time) follows d = distinct-push (identifiers_in h) id d follows.1
 distinct-step h (admitted turn session b) follows d = distinct-same h d
 distinct-step h (served turn session number k name args time reply) follows d = distinct-same h d
@@ -217,15 +227,15 @@ distinct-step h (ended turn status) follows d = distinct-same h d
 
 -- ---- the whole history
 
-record Good (h : List Recorded) : Type 0 where
-  ordinals : ordinals_in h ≡ counted 1 (length (ordinals_in h))
-  distinct : AreDistinct (identifiers_in h)
-  sessions : (n : ℕ) → Counts (length (identifiers_in h)) n (standing_of n h) (batches_in n h)
+pub record Good (h : List Recorded) : Type 0 where
+  pub ordinals : ordinals_in h ≡ counted 1 (length (ordinals_in h))
+  pub distinct : AreDistinct (identifiers_in h)
+  pub sessions : (n : ℕ) → Counts (length (identifiers_in h)) n (standing_of n h) (batches_in n h)
 
 ordinals-same : (h : List Recorded) → ordinals_in h ≡ counted 1 (length (ordinals_in h)) → ordinals_in h ++ [] ≡ counted 1 (length (ordinals_in h ++ []))
 ordinals-same h o = subst (λ (xs : List ℕ). xs ≡ counted 1 (length xs)) (sym (append-nil (ordinals_in h))) o
 
-ordinals-step : (h : List Recorded) (e : Recorded) → MayFollow h e → ordinals_in h ≡ counted 1 (length (ordinals_in h))
+ordinals-step : (h : List Recorded) (e : Recorded) → IsCounted h e → ordinals_in h ≡ counted 1 (length (ordinals_in h))
     → ordinals_in h ++ ordinals_in (e ∷ []) ≡ counted 1 (length (ordinals_in h ++ ordinals_in (e ∷ [])))
 ordinals-step h (opened turn session id seed time) follows o = counts-push (ordinals_in h) session o (follows.0 ∙ ap (λ (k : ℕ). k + 1) (same_count h))
 ordinals-step h (admitted turn session b) follows o = ordinals-same h o
@@ -234,7 +244,7 @@ ordinals-step h (done turn session number how) follows o = ordinals-same h o
 ordinals-step h (closed turn session) follows o = ordinals-same h o
 ordinals-step h (ended turn status) follows o = ordinals-same h o
 
-good-step : (h : List Recorded) (e : Recorded) → MayFollow h e → Good h → Good (h ++ e ∷ [])
+pub good-step : (h : List Recorded) (e : Recorded) → IsCounted h e → Good h → Good (h ++ e ∷ [])
 good-step h e follows g =
     let size : length (identifiers_in h) + length (ordinals_in (e ∷ [])) ≡ length (identifiers_in (h ++ e ∷ [])) =
     omega (arith, same_count h, same_count (h ++ e ∷ []), ap length (ordinals-push h e), length-append (ordinals_in h) (ordinals_in (e ∷ []))) in
@@ -248,26 +258,43 @@ good-step h e follows g =
           subst (λ (bs : List Contents). Counts (length (identifiers_in (h ++ e ∷ []))) n (standing_of n (h ++ e ∷ [])) bs) (sym (batches-push n h e)) stood;
     }
 
-good-all : (before h : List Recorded) → EachFollows before h → Good before → Good (before ++ h)
-good-all before [] each g = subst Good (sym (append-nil before)) g
-good-all before (e ∷ h) each g =
-    subst Good (append_assoc before (e ∷ []) h) (good-all (before ++ e ∷ []) h each.2 (good-step before e each.1 g))
+-- each of the entries counts after those before it
+abbrev pub EachCounted : List Recorded → List Recorded → Type 0
+EachCounted before [] = Unit {0}
+EachCounted before (e ∷ h) = IsCounted before e × EachCounted (before ++ e ∷ []) h
 
-good : (h : List Recorded) → IsOrderly h → Good h
-good h each = good-all [] h each (record {
+good-run : (before h : List Recorded) → EachCounted before h → Good before → Good (before ++ h)
+good-run before [] each g = subst Good (sym (append-nil before)) g
+good-run before (e ∷ h) each g =
+    subst Good (append_assoc before (e ∷ []) h) (good-run (before ++ e ∷ []) h each.1 (good-step before e each.0 g))
+
+pub good : (h : List Recorded) → EachCounted [] h → Good h
+good h each = good-run [] h each (record {
   ordinals = refl;
   distinct = tt;
   sessions = λ n. record { numbers = refl; last = λ t e. absurd (no_none t (sym e)); unopened = λ e. refl; later = λ above. refl };
 })
 
+follows_counts : (h : List Recorded) (e : Recorded) → MayFollow h e → IsCounted h e
+follows_counts h (opened turn session id seed time) follows = follows
+follows_counts h (admitted turn session b) follows = follows
+follows_counts h (served turn session number k name args time reply) follows = tt
+follows_counts h (done turn session number how) follows = tt
+follows_counts h (closed turn session) follows = tt
+follows_counts h (ended turn status) follows = tt
+
+each_counts : (before h : List Recorded) → EachFollows before h → EachCounted before h
+each_counts before [] each = tt
+each_counts before (e ∷ h) each = (follows_counts before e each.1, each_counts (before ++ e ∷ []) h each.2)
+
 pub ordinals_count : OrdinalsCount
-ordinals_count h each = let g = good h each in g.ordinals
+ordinals_count h each = let g = good h (each_counts [] h each) in g.ordinals
 
 pub identifiers_differ : IdentifiersDiffer
-identifiers_differ h each = let g = good h each in g.distinct
+identifiers_differ h each = let g = good h (each_counts [] h each) in g.distinct
 
 pub batches_count : BatchesCount
-batches_count h n each = let g = good h each in let c = g.sessions n in c.numbers
+batches_count h n each = let g = good h (each_counts [] h each) in let c = g.sessions n in c.numbers
 
 -- ---- the last entry
 

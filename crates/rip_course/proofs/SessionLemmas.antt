@@ -1,13 +1,9 @@
 -- A session does the same wherever it is given the same.
-use Rattle.std.proofs.Common.{◌≡◌, ◌⊎◌, inl, inr, ℕ, zero, suc, ◌+◌, ◌-◌, ◌/◌, ◌≤◌, Bool, true, false, cond, eqb, List, [], ◌∷◌, ◌++◌, length, map, take, Option, Some, None, refl, sym, ap, ◌∙◌, subst, arith}
+use Rattle.std.proofs.Common.{◌≡◌, inl, inr, ℕ, zero, suc, ◌-◌, ◌/◌, Bool, true, false, cond, eqb, List, [], ◌∷◌, ◌++◌, length, map, take, Option, Some, refl, sym, ap, ◌∙◌, subst, arith}
 use Rattle.std.specs.Prelude.{slice_get, unwrap_or}
-use Rattle.std.proofs.lemmas.List.{append-nil}
-use Rattle.rip_data.specs.Datum.{Tree}
-use Rattle.rip_wire.specs.Batches.{Contents}
-use Rattle.rip_wire.specs.declared.ending.Ending.{Ending}
 use Rattle.rip_log.specs.Entries.{Recorded, opened, admitted, served, done, closed, ended}
 use Rattle.rip_course.specs.Turns.{turn_at}
-use Rattle.rip_course.specs.Sessions.{Fact, serves, finishes, Part, Given, Meaning, serves_call, served_count, ReadsGivenInTurn, opening_in, batches_in, turns_in, given_in, Deed, deeds_in, admission, comes_by, deed_of, deeds_by, IsSessionOf, Distant, distant, story_in, IsFrontOf, Agree, SessionsAreAlone}
+use Rattle.rip_course.specs.Sessions.{serves, finishes, Part, Given, Meaning, serves_call, served_count, ReadsGivenInTurn, batches_in, turns_in, given_in, Deed, deeds_in, admission, comes_by, deed_of, deeds_by, IsSessionOf, Distant, distant, story_in, IsFrontOf, Agree, SessionsAreAlone}
 
 -- ---- fronts
 

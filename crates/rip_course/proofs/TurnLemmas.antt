@@ -1,7 +1,6 @@
 -- Turns of costs.
-use Rattle.std.proofs.Common.{◌≡◌, ℕ, zero, suc, ◌+◌, ◌-◌, ◌*◌, ◌/◌, ◌≤◌, ◌<◌, refl, sym, arith}
-use Rattle.std.proofs.Math.Nat.{div-mul-le_self}
-use Rattle.rip_course.specs.Turns.{turn_at, units_by, IsFirstTurn}
+use Rattle.std.proofs.Common.{◌≡◌, ℕ, ◌-◌, ◌≤◌, arith}
+use Rattle.rip_course.specs.Turns.{turn_at, IsFirstTurn}
 
 pub turns_are_first : (t cost : ℕ) → IsFirstTurn t cost (turn_at t cost)
 turns_are_first t cost = record {

@@ -1,3 +1,4 @@
+pub mod Course
 pub mod Decisions
 pub mod Handlings
 pub mod Requests

@@ -1,5 +1,5 @@
 -- What is decided on a request, by the history so far.
-use Rattle.std.specs.Prelude.{◌≡◌, ℕ, zero, suc, ◌+◌, ◌<◌, ◌==◌, ◌%◌, ◌^◌, ◌&&◌, Bool, true, false, nat_le, List, [], ◌∷◌, ◌++◌, length, Option, Some, None, option_map, codes, if◌then◌else◌}
+use Rattle.std.specs.Prelude.{◌≡◌, ℕ, zero, suc, ◌+◌, ◌<◌, ◌==◌, ◌%◌, ◌^◌, ◌&&◌, Bool, false, nat_le, List, [], ◌∷◌, ◌++◌, length, Option, Some, None, option_map, codes, if◌then◌else◌}
 use Rattle.std.specs.List.{list_any}
 use Rattle.std.specs.Int.{to_be_bytes, from_be_bytes, w64, w128}
 use Rattle.serde_json.specs.Data.{object, member, no_members, string}
@@ -13,7 +13,6 @@ use Rattle.rip_http.specs.declared.request.Route.{Route}
 use Rattle.rip_http.specs.declared.request.Route.TheVariants.{Page, Events, Quit}
 use Rattle.rip_wire.specs.Answers.{Served, answer_text}
 use Rattle.rip_wire.specs.Batches.{Contents, Spells, SpellsNone}
-use Rattle.rip_wire.specs.declared.ending.Reason.{Reason}
 use Rattle.rip_wire.specs.declared.ending.Reason.TheVariants.{Closed}
 use Rattle.rip_log.specs.Entries.{Recorded, opened, admitted, served, done, closed, ended}
 use Rattle.rip_course.specs.Decisions.{batch_decision, close_decision}

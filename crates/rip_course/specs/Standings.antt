@@ -1,5 +1,5 @@
 -- How a session stands after a history.
-use Rattle.std.specs.Prelude.{◌≡◌, ◌≢◌, ℕ, ◌==◌, Bool, true, false, not, List, [], ◌∷◌, ◌++◌, Option, Some, None, is_none, option_map, if◌then◌else◌}
+use Rattle.std.specs.Prelude.{◌≡◌, ℕ, ◌==◌, Bool, false, not, List, [], ◌∷◌, ◌++◌, Option, Some, None, is_none, option_map, if◌then◌else◌}
 use Rattle.rip_wire.specs.Reasons.{reason_of}
 use Rattle.rip_wire.specs.declared.ending.Reason.{Reason}
 use Rattle.rip_wire.specs.declared.ending.Reason.TheVariants.{Closed}

@@ -1,3 +1,4 @@
+ghost use Rattle.rip_course.specs.Course.{CoursesAreInOrder, CoursesCount, CoursesIsolate};
 ghost use Rattle.rip_course.specs.Decisions.{AdmitsNext, ClosesIdle};
 ghost use Rattle.rip_course.specs.Handlings.{HandledOnce, TurnsAreHandled};
 ghost use Rattle.rip_course.specs.Requests.{AdmissionsAre, AskedIsOne, OpeningsAre};
@@ -54,4 +55,12 @@ pub fn sequences_count()
 pub fn requests_are_handled_once()
     ensures some { TurnsAreHandled }
     ensures one { HandledOnce }
+{}
+
+/// In a course the turns never fall, none is below 1 or above the last; sessions and batches are counted from 1, and no two
+/// sessions have one identifier. A session that is given the same in two courses, over any services, does the same in both.
+pub fn courses_hold()
+    ensures order { CoursesAreInOrder }
+    ensures counts { CoursesCount }
+    ensures isolation { CoursesIsolate }
 {}

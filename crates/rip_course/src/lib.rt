@@ -1,6 +1,6 @@
-//! What a legal course of the server is, as far as it can be said without connections and buffers: when what a session
-//! does comes, how a session stands after a history, what is decided on a request, which entry may follow which, and that
-//! what a session does depends on nothing but what it is given.
+//! What a legal course of the server is, from the requests that are handled in each turn on: when what a session does
+//! comes, how a session stands after a history, what is decided on a request, which entry may follow which, and that what
+//! a session does depends on nothing but what it is given.
 //!
 //! A history is a list of entries (`rip_log`). What a session does is an argument of the definitions, `Sessions.Meaning`: of
 //! a seed and a time, of batches and of what its served calls are given. So nothing here rests on an evaluator.
@@ -14,6 +14,7 @@
 //! | the turns of a connection's requests | `Handlings.AreHandled`, each in the first turn in which it may be; `Handlings.handled_turns`, the same one after another |
 //! | a history | `Sequences.IsOrderly`: each of its entries may come after those before it |
 //! | a session of a history | `Sessions.IsSessionOf`: up to the last turn it did what the meaning says, each in the turn of its cost |
+//! | a course | `Course.IsCourse`: openings, admissions and closings are those that are decided on the requests of each turn, in order; behind them each session does what the meaning says; moments, words and replies are those of one clock, one source of words and one service |
 //!
 //! | law | its definition |
 //! |---|---|
@@ -24,8 +25,11 @@
 //! | [`requests_are_handled_once`] | `Handlings.TurnsAreHandled`, `HandledOnce` |
 //! | [`sequences_count`] | `Sequences.OrdinalsCount`, `BatchesCount`, `IdentifiersDiffer`, `EndsLast` |
 //! | [`sessions_are_alone`] | `Sessions.SessionsAreAlone`, of a meaning that reads what is given at its served calls (`ReadsGivenInTurn`) |
+//! | [`courses_hold`] | `Course.CoursesAreInOrder`, `CoursesCount`, `CoursesIsolate` |
 //!
-//! A layer above may rest on these. The functions take no memory and the time of a few comparisons.
+//! A layer above may rest on these. Not said yet: that the requests handled are those of the connections, which answers are
+//! sent, what becomes of a session for which memory is wanting, and when a run stops. The functions take no memory and the
+//! time of a few comparisons.
 #![tactic(auto)]
 
 mod decision;
@@ -37,8 +41,8 @@ mod turn;
 
 pub use decision::{BatchDecision, CloseDecision};
 pub use laws::{
-    decisions_are_exact, next_are_admitted, requests_are_handled_once, sequences_count,
-    sessions_are_alone, standings_follow, turns_are_first,
+    courses_hold, decisions_are_exact, next_are_admitted, requests_are_handled_once,
+    sequences_count, sessions_are_alone, standings_follow, turns_are_first,
 };
 pub use standing::Standing;
 pub use turn::{SLICE, turn_of_cost};
