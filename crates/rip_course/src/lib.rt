@@ -35,8 +35,6 @@
 mod decision;
 mod laws;
 mod standing;
-#[cfg(test)]
-mod tests;
 mod turn;
 
 pub use decision::{BatchDecision, CloseDecision};
