@@ -25,8 +25,6 @@ mod print;
 mod read;
 mod refusal;
 mod report;
-#[cfg(test)]
-mod start_tests;
 mod status;
 #[cfg(test)]
 mod tests;
