@@ -1,4 +1,1 @@
-pub mod BatchLemmas
-pub mod ItemLemmas
-pub mod ServedLaws
 pub mod StandingLemmas

@@ -1,5 +1,1 @@
-pub mod Batch
-pub mod Items
-pub mod Rules
-pub mod Served
 pub mod Standing

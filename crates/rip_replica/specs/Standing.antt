@@ -10,8 +10,8 @@ use Rattle.rip_runner.specs.Laws.{StandsAt}
 use Rattle.rip_runner.specs.Play.{Closes, Holds, Played, play}
 use Rattle.rip_runner.specs.declared.runner.Rested.{Rested}
 use Rattle.rip_runner.specs.declared.runner.Rested.TheVariants as rest
-use Rattle.rip_replica.specs.declared.batch.Batch.{Batch}
-use Rattle.rip_replica.specs.Batch.{batch_plan, left_of_batch}
+use Rattle.rip_items.specs.declared.batch.Batch.{Batch}
+use Rattle.rip_items.specs.Batch.{batch_plan, left_of_batch}
 use Rattle.rip_replica.specs.declared.replica.Progress.{Progress}
 use Rattle.rip_replica.specs.declared.replica.Progress.TheVariants.{Busy, Finished, Lacks, LacksInRun}
 

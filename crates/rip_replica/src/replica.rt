@@ -4,7 +4,7 @@ ghost use Rattle.rip_runner.specs.Going.{IsWithin, going};
 ghost use Rattle.rip_runner.specs.Laws.{StandsAt};
 ghost use Rattle.rip_replica.specs.Standing.{Advances, planned, played_batch, progress_of, unspent};
 
-use crate::batch::{Batch, Items, Stage};
+use rip_items::{Batch, Items, Stage};
 use rip_heap::{Heap, Host};
 use rip_runner::{Outside, Rested, Runner};
 use rip_runs::{Close, Evaluator, Phase};

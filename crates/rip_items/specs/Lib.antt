@@ -1,0 +1,4 @@
+pub mod Batch
+pub mod Items
+pub mod Rules
+pub mod Served
