@@ -8,11 +8,11 @@ use Rattle.rip_items.specs.declared.session.Item.{Item}
 use Rattle.rip_items.specs.declared.session.Item.TheVariants.{Event, Reply}
 use Rattle.rip_items.specs.declared.session.UnderWay.{UnderWay}
 use Rattle.rip_items.specs.declared.session.UnderWay.TheVariants.{Fresh}
-use Rattle.rip_items.specs.Items.{event_plan, item_plan, left_of_item, reply_plan}
+use Rattle.rip_items.specs.Items.{fine, item_plan, left_of_item, reply_plan}
 use Rattle.rip_items.specs.Rules.{Rules}
 
 pub of_event : {F S E : Type 0} (rules : Rules F S) (batch : ℕ) (what : Item) (report : Report) (number : ℕ) (w x : World) (s r : S) (rest : Item → World → S → Plan S) (result : Result Step E)
-    → what ≡ Event report → IfOk result (λ step. (item : Item) → event_plan rules.flow number (rules.reported s w report) w s ≡ ahead (rest item) step x r)
+    → what ≡ Event report → IfOk result (λ step. (item : Item) → rules.event s w report number fine ≡ ahead (rest item) step x r)
     → IfOk result (λ step. item_plan rules batch what number w s ≡ ahead (rest what) step x r)
 of_event rules batch what report number w x s r rest (Ok step) is h = ap (λ i. item_plan rules batch i number w s) is ∙ h what
 of_event rules batch what report number w x s r rest (Err e) is h = tt

@@ -16,18 +16,11 @@ use Rattle.rip_items.specs.declared.session.Item.{Item}
 use Rattle.rip_items.specs.declared.session.Item.TheVariants.{Event, Call, Reply}
 use Rattle.rip_items.specs.declared.session.UnderWay.{UnderWay}
 use Rattle.rip_items.specs.declared.session.UnderWay.TheVariants.{Fresh, Flowing, Ending}
-use Rattle.rip_items.specs.Rules.{CallsBack, Delivered, Flows, Illegal, NotDue, Reported, ReplyPasses, ReportPasses, Rules}
+use Rattle.rip_items.specs.Rules.{CallsBack, Delivered, NotDue, ReplyPasses, Rules}
 
 -- an item that is over and fine
 abbrev pub fine : {S : Type 0} → World → S → Plan S
 fine w s = Over Fine w s
-
--- an event: where its report is not legal it ends the session, and so does a limit; else its flow takes place
--- (DOM Level 2 Events 1.2), from this left of it
-abbrev pub event_plan : {F S : Type 0} → (F → ℕ → (World → S → Plan S) → World → S → Plan S) → ℕ → Reported F S → World → S → Plan S
-event_plan flow item (Illegal kind) w s = Over (Refused item kind) w s
-event_plan flow item (ReportPasses limit x r) w s = Over (Stopped item (AtLimit limit)) x r
-event_plan flow item (Flows f x r) w s = flow f item fine x r
 
 -- a reply: where it is not due it ends the session, and so does a limit; else its callback is called with `this` undefined,
 -- and how that comes out counts for nothing
@@ -46,7 +39,7 @@ call_plan item position.Served w s = Awaits w s (λ r. fine w r)
 
 -- what an item of this number does in a batch of this number
 abbrev pub item_plan : {F S : Type 0} → Rules F S → ℕ → Item → ℕ → World → S → Plan S
-item_plan rules batch (Event report) item w s = event_plan rules.flow item (rules.reported s w report) w s
+item_plan rules batch (Event report) item w s = rules.event s w report item fine
 item_plan rules batch (Call number text) item w s = call_plan item (rules.position s number text) w s
 item_plan rules batch (Reply number) item w s = reply_plan item (rules.delivered s w batch number) w s
 

@@ -9,8 +9,8 @@
 //! |---|---|
 //! | a batch of items, whatever the items do ([`Items`]) | `Batch.batch_plan`, by `Batch.items_from` |
 //! | [`Batch`], which plans one item after another | `Batch.left_of_batch` |
-//! | an event, a call and a reply | `Items.item_plan`: `Items.event_plan`, `Items.call_plan`, `Items.reply_plan` |
-//! | what items come to over a page ([`PageHost`]) | `Rules.Rules` |
+//! | an event, a call and a reply | `Items.item_plan`: `Rules.event` of the page, `Items.call_plan`, `Items.reply_plan` |
+//! | what items come to over a page ([`PageHost`]) | `Rules.Rules`: events by `Rules.Reports`, replies by `Rules.Delivers`, calls by `Rules.StandsSo` |
 //! | which reported calls are served | `Served.IsServed`, the longest prefix of them that the script made |
 //!
 //! | law | its definition |

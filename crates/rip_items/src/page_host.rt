@@ -49,7 +49,7 @@ pub enum ReplyRefused {
 
 /// What stands behind the script of a page, as the items of a batch use it, where F is the type of a flow under way.
 pub trait PageHost<F>: Host {
-    ghost use Rattle.std.specs.Prelude.{◌≡◌, ◌<◌, ◌≤◌, ℕ, MatchOption};
+    ghost use Rattle.std.specs.Prelude.{◌≡◌, ◌<◌, ◌≤◌, ℕ, MatchOption, OnOk};
     ghost use Rattle.rip_heap.specs.Growth.{Grows};
     ghost use Rattle.rip_heap.specs.World.{World};
     ghost use Rattle.rip_runs.specs.Plan.{Plan};
@@ -63,7 +63,7 @@ pub trait PageHost<F>: Host {
 
     ghost most_flow_steps: { ℕ };
 
-    /// Does what a report does before its flow.
+    /// Does what an event does before its flow: what is left of it is the flow.
     fn report(
         &mut self,
         heap: &mut Heap,
@@ -73,8 +73,8 @@ pub trait PageHost<F>: Host {
         requires { Self.fits self.old heap.old }
         ensures fits { Self.fits self.new heap.new }
         ensures grows { Grows heap.old heap.new }
-        ensures reports { Reports (rules.reported self.old heap.old report.now) heap.old self.old result heap.new self.new flow.new }
-        ensures steps { flow_steps flow.new ≤ most_flow_steps };
+        ensures reports { Reports rules report.now heap.old self.old result heap.new self.new flow.new }
+        ensures steps { OnOk result (flow_steps flow.new ≤ most_flow_steps) };
 
     /// What is to be called next in a flow; none where it is over, and then what follows it is done.
     fn next_call(&mut self, heap: &mut Heap, flow: &mut F) -> Option<FlowCall>

@@ -1,7 +1,7 @@
 ghost use Rattle.std.specs.Prelude.{◌≡◌, ◌+◌, IfOk, OnErr};
 ghost use Rattle.rip_heap.specs.Growth.{Grows};
 ghost use Rattle.rip_runs.specs.Plan.{IsFewer, ahead};
-ghost use Rattle.rip_items.specs.Items.{call_step, event_plan, fine, item_plan, left_of_item, reply_plan, steps_of_item, under_way_of};
+ghost use Rattle.rip_items.specs.Items.{call_step, fine, item_plan, left_of_item, reply_plan, steps_of_item, under_way_of};
 
 use crate::batch::Items;
 use crate::page_host::{PageHost, Position, ReplyRefused, ReportRefused};
@@ -111,7 +111,7 @@ impl<F> SessionItems<F> {
         requires fresh { self.old.under_way ≡ UnderWay.Fresh }
         ensures fits { H.fits host.new heap.new }
         ensures grows { Grows heap.old heap.new }
-        ensures plan { IfOk result (λ step. (item : Item) → event_plan H.rules.flow number (H.rules.reported host.old heap.old report.now) heap.old host.old ≡ ahead (left_of_item H.rules self.old.batch self.new.flow self.new.under_way item number) step heap.new host.new) }
+        ensures plan { IfOk result (λ step. (item : Item) → H.rules.event host.old heap.old report.now number fine ≡ ahead (left_of_item H.rules self.old.batch self.new.flow self.new.under_way item number) step heap.new host.new) }
         ensures batch { self.new.batch ≡ self.old.batch }
         ensures fewer { IfOk result (λ step. IsFewer step (steps_of_item H.most_flow_steps (H.flow_steps self.new.flow) self.new.under_way) (H.most_flow_steps + 2)) }
         ensures memory { OnErr result ((self.new.under_way ≡ UnderWay.Fresh) × (heap.new ≡ heap.old) × (host.new ≡ host.old)) }
