@@ -4,6 +4,7 @@ pub mod Examples
 pub mod HandlingLemmas
 pub mod RequestLemmas
 pub mod SequenceLemmas
+pub mod ServiceLemmas
 pub mod SessionLemmas
 pub mod StandingLemmas
 pub mod TurnLemmas

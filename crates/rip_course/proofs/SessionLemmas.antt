@@ -1,18 +1,12 @@
 -- A session does the same wherever it is given the same.
-use Rattle.std.proofs.Common.{◌≡◌, inl, inr, ℕ, zero, suc, ◌-◌, ◌/◌, Bool, true, false, cond, eqb, List, [], ◌∷◌, ◌++◌, length, map, take, Option, Some, refl, sym, ap, ◌∙◌, subst, arith}
+use Rattle.std.proofs.Common.{◌≡◌, inl, inr, ℕ, zero, suc, ◌-◌, ◌/◌, Bool, true, false, cond, eqb, List, [], ◌∷◌, ◌++◌, length, map, take, Option, Some, None, refl, sym, ap, ◌∙◌, subst, arith}
 use Rattle.std.specs.Prelude.{slice_get, unwrap_or}
 use Rattle.rip_log.specs.Entries.{Recorded, opened, admitted, served, done, closed, ended}
 use Rattle.rip_course.specs.Turns.{turn_at}
-use Rattle.rip_course.specs.Sessions.{serves, finishes, Part, Given, Meaning, serves_call, served_count, ReadsGivenInTurn, batches_in, turns_in, given_in, Deed, deeds_in, admission, comes_by, deed_of, deeds_by, IsSessionOf, Distant, distant, story_in, IsFrontOf, Agree, SessionsAreAlone}
+use Rattle.rip_course.specs.Parts.{Fact, passes, serves, finishes, Part, Given, Meaning, serves_call, served_count, ReadsGivenInTurn, Lacking, with_lack}
+use Rattle.rip_course.specs.Sessions.{batches_in, turns_in, given_in, Deed, deeds_in, admission, comes_by, come_by, deed_of, is_deed, deeds_of, deeds_by, IsSessionOf, Distant, distant, story_in, IsFrontOf, Agree, SessionsAreAlone}
 
 -- ---- fronts
-
-map-join : {A B : Type 0} (f : A → B) (xs more : List A) → map f (xs ++ more) ≡ map f xs ++ map f more
-map-join f [] more = refl
-map-join f (x ∷ xs) more = ap (λ t. f x ∷ t) (map-join f xs more)
-
-front-map : {A B : Type 0} (f : A → B) (xs ys : List A) → IsFrontOf xs ys → IsFrontOf (map f xs) (map f ys)
-front-map f xs ys (more, e) = (map f more, ap (map f) e ∙ map-join f xs more)
 
 -- two fronts of one list agree
 longer : {A : Type 0} (x : A) (xs ys : List A) → Agree xs ys → Agree (x ∷ xs) (x ∷ ys)
@@ -25,10 +19,6 @@ takes-agree (suc k) zero xs = inr (take (suc k) xs, refl)
 takes-agree (suc k) (suc n) [] = inl ([], refl)
 takes-agree (suc k) (suc n) (x ∷ xs) = longer x (take k xs) (take n xs) (takes-agree k n xs)
 
-agree-map : {A B : Type 0} (f : A → B) (xs ys : List A) → Agree xs ys → Agree (map f xs) (map f ys)
-agree-map f xs ys (inl h) = inl (front-map f xs ys h)
-agree-map f xs ys (inr h) = inr (front-map f ys xs h)
-
 -- ---- deeds are a front of the parts
 
 -- how many parts come by the last turn
@@ -36,24 +26,34 @@ abbrev reached : ℕ → List ℕ → List Part → ℕ
 reached last turns [] = 0
 reached last turns (p ∷ ps) = cond (comes_by last p.cost (admission turns p)) (suc (reached last turns ps)) 0
 
-deeds-step : (turns : List ℕ) (p : Part) (ps : List Part) (ds : List Deed) (k : ℕ) (b : Bool) → ds ≡ map (deed_of turns) (take k ps)
-    → cond b (deed_of turns p ∷ ds) [] ≡ map (deed_of turns) (take (cond b (suc k) 0) (p ∷ ps))
-deeds-step turns p ps ds k true e = ap (λ (t : List Deed). deed_of turns p ∷ t) e
-deeds-step turns p ps ds k false e = refl
+come-step : (p : Part) (ps qs : List Part) (k : ℕ) (b : Bool) → qs ≡ take k ps
+    → cond b (p ∷ qs) [] ≡ take (cond b (suc k) 0) (p ∷ ps)
+come-step p ps qs k true e = ap (λ (t : List Part). p ∷ t) e
+come-step p ps qs k false e = refl
 
-deeds-are : (last : ℕ) (turns : List ℕ) (ps : List Part) → deeds_by last turns ps ≡ map (deed_of turns) (take (reached last turns ps) ps)
-deeds-are last turns [] = refl
-deeds-are last turns (p ∷ ps) =
-    deeds-step turns p ps (deeds_by last turns ps) (reached last turns ps) (comes_by last p.cost (admission turns p)) (deeds-are last turns ps)
+comes-are : (last : ℕ) (turns : List ℕ) (ps : List Part) → come_by last turns ps ≡ take (reached last turns ps) ps
+comes-are last turns [] = refl
+comes-are last turns (p ∷ ps) =
+    come-step p ps (come_by last turns ps) (reached last turns ps) (comes_by last p.cost (admission turns p)) (comes-are last turns ps)
+
+deeds-are : (last : ℕ) (turns : List ℕ) (ps : List Part) → deeds_by last turns ps ≡ deeds_of turns (take (reached last turns ps) ps)
+deeds-are last turns ps = ap (deeds_of turns) (comes-are last turns ps)
 
 -- how many deeds serve a call
 abbrev serving : List Deed → ℕ
 serving [] = 0
 serving (d ∷ ds) = cond (serves_call d.fact) (suc (serving ds)) (serving ds)
 
-serving-parts : (turns : List ℕ) (ps : List Part) → serving (map (deed_of turns) ps) ≡ served_count ps
+serving-part : (turns : List ℕ) (p : Part) (ds : List Deed) (f : Fact) → p.fact ≡ f
+    → serving (cond (is_deed f) (deed_of turns p ∷ ds) ds) ≡ cond (serves_call f) (suc (serving ds)) (serving ds)
+serving-part turns p ds passes e = refl
+serving-part turns p ds (serves number name args) e = ap (λ (f : Fact). cond (serves_call f) (suc (serving ds)) (serving ds)) e
+serving-part turns p ds (finishes how) e = ap (λ (f : Fact). cond (serves_call f) (suc (serving ds)) (serving ds)) e
+
+serving-parts : (turns : List ℕ) (ps : List Part) → serving (deeds_of turns ps) ≡ served_count ps
 serving-parts turns [] = refl
-serving-parts turns (p ∷ ps) = ap (λ n. cond (serves_call p.fact) (suc n) n) (serving-parts turns ps)
+serving-parts turns (p ∷ ps) =
+    serving-part turns p (deeds_of turns ps) p.fact refl ∙ ap (λ n. cond (serves_call p.fact) (suc n) n) (serving-parts turns ps)
 
 serving-served : (b : Bool) (d : Deed) (ds : List Deed) (g : Given) (gs : List Given) → serves_call d.fact ≡ true
     → serving ds ≡ length gs → serving (cond b (d ∷ ds) ds) ≡ length (cond b (g ∷ gs) gs)
@@ -87,10 +87,40 @@ distance_of p = record { distance = (p.cost - 1) / 1000; batch = p.batch; fact =
 far : (t cost : ℕ) → turn_at t cost - t ≡ (cost - 1) / 1000
 far t cost = omega arith
 
-distants : (turns : List ℕ) (ps : List Part) → map (distant turns) (map (deed_of turns) ps) ≡ map distance_of ps
+-- the deeds of parts without their turns
+abbrev distances : List Part → List Distant
+distances [] = []
+distances (p ∷ ps) = cond (is_deed p.fact) (distance_of p ∷ distances ps) (distances ps)
+
+distant-part : (turns : List ℕ) (p : Part) (ds : List Deed) (b : Bool)
+    → map (distant turns) (cond b (deed_of turns p ∷ ds) ds) ≡ cond b (distance_of p ∷ map (distant turns) ds) (map (distant turns) ds)
+distant-part turns p ds true =
+    (λ i. record { distance = far (unwrap_or (slice_get turns p.batch) 0) p.cost i; batch = p.batch; fact = p.fact } ∷ map (distant turns) ds)
+distant-part turns p ds false = refl
+
+distants : (turns : List ℕ) (ps : List Part) → map (distant turns) (deeds_of turns ps) ≡ distances ps
 distants turns [] = refl
 distants turns (p ∷ ps) =
-    (λ i. record { distance = far (unwrap_or (slice_get turns p.batch) 0) p.cost i; batch = p.batch; fact = p.fact } ∷ distants turns ps i)
+    distant-part turns p (deeds_of turns ps) (is_deed p.fact)
+    ∙ ap (λ (ds : List Distant). cond (is_deed p.fact) (distance_of p ∷ ds) ds) (distants turns ps)
+
+-- fronts of parts give fronts of these
+distances-step : (p : Part) (ds ws more : List Distant) (b : Bool) → ws ≡ ds ++ more
+    → cond b (distance_of p ∷ ws) ws ≡ cond b (distance_of p ∷ ds) ds ++ more
+distances-step p ds ws more true e = ap (λ t. distance_of p ∷ t) e
+distances-step p ds ws more false e = e
+
+distances-join : (ps more : List Part) → distances (ps ++ more) ≡ distances ps ++ distances more
+distances-join [] more = refl
+distances-join (p ∷ ps) more =
+    distances-step p (distances ps) (distances (ps ++ more)) (distances more) (is_deed p.fact) (distances-join ps more)
+
+front-distances : (ps qs : List Part) → IsFrontOf ps qs → IsFrontOf (distances ps) (distances qs)
+front-distances ps qs (more, e) = (distances more, ap distances e ∙ distances-join ps more)
+
+agree-distances : (ps qs : List Part) → Agree ps qs → Agree (distances ps) (distances qs)
+agree-distances ps qs (inl h) = inl (front-distances ps qs h)
+agree-distances ps qs (inr h) = inr (front-distances qs ps h)
 
 -- ---- isolation
 
@@ -98,14 +128,15 @@ distants turns (p ∷ ps) =
 record Fronts (m : Meaning) (history : List Recorded) (n seed time : ℕ) : Type 0 where
   count : ℕ
   few : served_count (take count (m seed time (batches_in n history) (given_in n history))) ≡ length (given_in n history)
-  story : story_in n history ≡ map distance_of (take count (m seed time (batches_in n history) (given_in n history)))
+  story : story_in n history ≡ distances (take count (m seed time (batches_in n history) (given_in n history)))
 
-fronts : (m : Meaning) (last : ℕ) (history : List Recorded) (n : ℕ) (s : IsSessionOf m last history n) → Fronts m history n s.seed s.time
-fronts m last history n s =
+fronts : (m : Meaning) (last : ℕ) (history : List Recorded) (n : ℕ) (s : IsSessionOf m last history n) → s.lacking ≡ None → Fronts m history n s.seed s.time
+fronts m last history n s none =
     let turns = turns_in n history in
     let parts = m s.seed s.time (batches_in n history) (given_in n history) in
     let k = reached last turns parts in
-    let deeds : deeds_in n history ≡ map (deed_of turns) (take k parts) = s.deeds ∙ deeds-are last turns parts in
+    let deeds : deeds_in n history ≡ deeds_of turns (take k parts) =
+    s.deeds ∙ ap (λ (l : Option Lacking). deeds_by last turns (with_lack l parts)) none ∙ deeds-are last turns parts in
     record {
       count = k;
       few = sym (serving-parts turns (take k parts)) ∙ ap serving (sym deeds) ∙ serving-given n history;
@@ -120,25 +151,25 @@ front_alone m reads history other n k seed time f g same (more, e) =
     let batches = batches_in n history in
     let given = given_in n history in
     let whole = m seed time batches (given ++ more) in
-    let here : story_in n history ≡ map distance_of (take f.count whole) =
-    f.story ∙ ap (map distance_of) (reads seed time batches given more f.count (omega (arith, f.few))) in
-    let there : story_in k other ≡ map distance_of (take g.count whole) =
-    g.story ∙ (λ i. map distance_of (take g.count (m seed time (sym same i) (e i)))) in
+    let here : story_in n history ≡ distances (take f.count whole) =
+    f.story ∙ ap distances (reads seed time batches given more f.count (omega (arith, f.few))) in
+    let there : story_in k other ≡ distances (take g.count whole) =
+    g.story ∙ (λ i. distances (take g.count (m seed time (sym same i) (e i)))) in
     subst (λ (xs : List Distant). Agree xs (story_in k other)) (sym here)
-    (subst (λ (ys : List Distant). Agree (map distance_of (take f.count whole)) ys) (sym there)
-    (agree-map distance_of (take f.count whole) (take g.count whole) (takes-agree f.count g.count whole)))
+    (subst (λ (ys : List Distant). Agree (distances (take f.count whole)) ys) (sym there)
+    (agree-distances (take f.count whole) (take g.count whole) (takes-agree f.count g.count whole)))
 
 flip : {A : Type 0} (xs ys : List A) → Agree xs ys → Agree ys xs
 flip xs ys (inl h) = inr h
 flip xs ys (inr h) = inl h
 
 pub sessions_are_alone : SessionsAreAlone
-sessions_are_alone m reads last other_last history other n k s t opening batches agree =
+sessions_are_alone m reads last other_last history other n k s t lacks_none other_none opening batches agree =
     let pairs : Some (s.seed, s.time) ≡ Some (t.seed, t.time) = sym s.opening ∙ opening ∙ t.opening in
     let pair : (s.seed, s.time) ≡ (t.seed, t.time) = ap (λ (o : Option (ℕ × ℕ)). unwrap_or o (s.seed, s.time)) pairs in
-    let f = fronts m last history n s in
+    let f = fronts m last history n s lacks_none in
     let g : Fronts m other k s.seed s.time =
-    subst (λ (p : ℕ × ℕ). Fronts m other k p.0 p.1) (sym pair) (fronts m other_last other k t) in
+    subst (λ (p : ℕ × ℕ). Fronts m other k p.0 p.1) (sym pair) (fronts m other_last other k t other_none) in
     by f g agree
   where
     by : Fronts m history n s.seed s.time → Fronts m other k s.seed s.time → Agree (given_in n history) (given_in k other) → Agree (story_in n history) (story_in k other)

@@ -1,11 +1,12 @@
 -- A course: the requests that are handled in each turn, what is decided on them, and what the sessions do at its end.
 use Rattle.std.specs.Prelude.{◌≡◌, ℕ, ◌+◌, ◌≤◌, ◌&&◌, nat_lt, Bool, true, false, List, [], ◌∷◌, ◌++◌, length, map, Some, None}
 use Rattle.std.specs.List.{AllByRecursion}
-use Rattle.rip_data.specs.Datum.{Tree}
 use Rattle.rip_log.specs.Entries.{Recorded, opened, admitted, served, done, closed, ended}
 use Rattle.rip_course.specs.Requests.{Asked, page, batch, quit, Drawn, drawn_of, Lack, early, live_count, Decision, answers, opens, admits, closes, decide, identifiers_in}
 use Rattle.rip_course.specs.Sequences.{AreDistinct, counted, numbers_of, ordinals_in}
-use Rattle.rip_course.specs.Sessions.{Meaning, ReadsGivenInTurn, IsSessionOf, Agree, opening_in, batches_in, given_in, deeds_in, story_in}
+use Rattle.rip_course.specs.Parts.{Meaning, ReadsGivenInTurn}
+use Rattle.rip_course.specs.Services.{Called, Service}
+use Rattle.rip_course.specs.Sessions.{IsSessionOf, Agree, opening_in, batches_in, given_in, deeds_in, story_in}
 
 -- a request that is handled: what it asks, the words that would be drawn, and want of memory
 pub record Handled : Type 0 where
@@ -100,14 +101,6 @@ abbrev pub AreMade : ℕ → List Turn → Type 0
 AreMade turn [] = Unit {0}
 AreMade turn (t ∷ ts) = AllByRecursion (IsMadeIn turn t.moment) t.made × AreBySession 0 t.made × AreMade (turn + 1) ts
 
--- a call that was served: its name and args
-abbrev pub Called : Type 0
-Called = List ℕ × List Tree
-
--- what a service replies to a call, by all calls that were served before it, in order, whatever session they are of
-abbrev pub Service : Type 0
-Service = List Called → Called → Tree
-
 -- each reply is that of the service, after the calls before and those of the entries before it
 abbrev pub AreReplies : Service → List Called → List Recorded → Type 0
 AreReplies service before [] = Unit {0}
@@ -124,7 +117,7 @@ pub record Told : Type 0 where
   pub moments : List ℕ
   pub words : List ℕ
 
--- the history of turns in which no session wants memory: openings, admissions and closings are those that are decided;
+-- the history of turns: openings, admissions and closings are those that are decided;
 -- behind them each session does, up to the last turn, what the meaning says, in the turn of its cost; the moments, the
 -- words and the replies are those of one clock, one source of words and one service
 pub record IsCourse (m : Meaning) (service : Service) (limit : ℕ) (told : Told) (turns : List Turn) (history : List Recorded) : Type 0 where
@@ -171,15 +164,19 @@ CoursesCount =
     (m : Meaning) (service : Service) (limit : ℕ) (told : Told) (turns : List Turn) (history : List Recorded)
     → IsCourse m service limit told turns history → CountsFromOne history
 
--- isolation: two courses of one meaning, over any services, that give a session of each the same opening, the same batches
--- and, as far as both go, the same moments and replies, have it do the same as far as both go
+-- isolation: two courses of one meaning, over any services, that give a session of each, which wants no memory there, the
+-- same opening, the same batches and, as far as both go, the same moments and replies, have it do the same as far as both
+-- go
 abbrev pub CoursesIsolate : Type 0
 CoursesIsolate =
     (m : Meaning) → ReadsGivenInTurn m
     → (service other_service : Service) (limit other_limit : ℕ) (told other_told : Told) (turns other_turns : List Turn)
     → (history other : List Recorded) (n k : ℕ) (opening : ℕ × ℕ)
-    → IsCourse m service limit told turns history → IsCourse m other_service other_limit other_told other_turns other
-    → opening_in n history ≡ Some opening → opening_in k other ≡ Some opening
+    → (course : IsCourse m service limit told turns history)
+    → (other_course : IsCourse m other_service other_limit other_told other_turns other)
+    → (here : opening_in n history ≡ Some opening) (there : opening_in k other ≡ Some opening)
+    → (let s = course.sessions n opening here in s.lacking ≡ None)
+    → (let s = other_course.sessions k opening there in s.lacking ≡ None)
     → batches_in n history ≡ batches_in k other
     → Agree (given_in n history) (given_in k other)
     → Agree (story_in n history) (story_in k other)

@@ -1,8 +1,11 @@
 pub mod Course
 pub mod Decisions
 pub mod Handlings
+pub mod Parts
 pub mod Requests
 pub mod Sequences
+pub mod Services
 pub mod Sessions
+pub mod Stages
 pub mod Standings
 pub mod Turns

@@ -1,49 +1,9 @@
 -- What a history has of a session, and that it is what the session does.
-use Rattle.std.specs.Prelude.{◌≡◌, ℕ, suc, ◌-◌, ◌≤◌, ◌==◌, Bool, true, false, nat_le, List, [], ◌∷◌, ◌++◌, ◌⊎◌, length, map, take, slice_get, Option, Some, None, unwrap_or, if◌then◌else◌}
-use Rattle.rip_data.specs.Datum.{Tree}
+use Rattle.std.specs.Prelude.{◌≡◌, ℕ, ◌-◌, ◌==◌, Bool, true, false, nat_le, List, [], ◌∷◌, ◌++◌, ◌⊎◌, map, slice_get, Option, Some, None, unwrap_or, if◌then◌else◌}
 use Rattle.rip_wire.specs.Batches.{Contents}
-use Rattle.rip_wire.specs.declared.ending.Ending.{Ending}
 use Rattle.rip_log.specs.Entries.{Recorded, opened, admitted, served, done, closed, ended}
+use Rattle.rip_course.specs.Parts.{Fact, passes, serves, finishes, Part, Given, Meaning, ReadsGivenInTurn, Lacking, MayLack, with_lack}
 use Rattle.rip_course.specs.Turns.{turn_at}
-
--- what a session does: it serves a call, by its number, name and args; or a batch is done, and may end the session
-pub data Fact : Type 0 where
-  serves : ℕ → List ℕ → List Tree → Fact
-  finishes : Option Ending → Fact
-
--- the same with its batch, and its cost: the units of that batch up to and with the item that does it
-pub record Part : Type 0 where
-  pub batch : ℕ
-  pub cost : ℕ
-  pub fact : Fact
-
--- what a served call was given: the moment and the reply
-pub record Given : Type 0 where
-  pub time : ℕ
-  pub reply : Tree
-
--- what a session does from its seed and time, its batches and what its served calls are given: past that, anything may
--- be given
-abbrev pub Meaning : Type 0
-Meaning = ℕ → ℕ → List Contents → List Given → List Part
-
--- a part serves a call
-abbrev pub serves_call : Fact → Bool
-serves_call (serves number name args) = true
-serves_call (finishes how) = false
-
--- how many calls these parts serve
-abbrev pub served_count : List Part → ℕ
-served_count [] = 0
-served_count (p ∷ ps) = if serves_call p.fact then suc (served_count ps) else served_count ps
-
--- the meaning reads what is given at served calls alone, each its own: parts in which no more calls are served than were
--- given are the same whatever is given behind
-abbrev pub ReadsGivenInTurn : Meaning → Type 0
-ReadsGivenInTurn m =
-    (seed time : ℕ) (batches : List Contents) (given more : List Given) (n : ℕ)
-    → served_count (take n (m seed time batches given)) ≤ length given
-    → take n (m seed time batches given) ≡ take n (m seed time batches (given ++ more))
 
 -- ---- read off a history, of the session of an ordinal
 
@@ -116,23 +76,38 @@ abbrev pub comes_by : ℕ → ℕ → Option ℕ → Bool
 comes_by last cost None = false
 comes_by last cost (Some t) = nat_le (turn_at t cost) last
 
--- the deed of a part, in the turn of its cost
+-- the parts that come by the last turn: neither the first that comes later, or whose batch was not admitted, nor any behind
+abbrev pub come_by : ℕ → List ℕ → List Part → List Part
+come_by last turns [] = []
+come_by last turns (p ∷ ps) = if comes_by last p.cost (admission turns p) then p ∷ come_by last turns ps else []
+
+-- the deed of a part, in the turn of its cost: an event or a reply that was handled is none
 abbrev pub deed_of : List ℕ → Part → Deed
 deed_of turns p = record { turn = turn_at (unwrap_or (admission turns p) 0) p.cost; batch = p.batch; fact = p.fact }
 
--- the deeds of parts by the last turn: neither the first that comes later, or whose batch was not admitted, nor any behind
+abbrev pub is_deed : Fact → Bool
+is_deed passes = false
+is_deed (serves number name args) = true
+is_deed (finishes how) = true
+
+-- the deeds of parts
+abbrev pub deeds_of : List ℕ → List Part → List Deed
+deeds_of turns [] = []
+deeds_of turns (p ∷ ps) = if is_deed p.fact then deed_of turns p ∷ deeds_of turns ps else deeds_of turns ps
+
+-- the deeds by the last turn
 abbrev pub deeds_by : ℕ → List ℕ → List Part → List Deed
-deeds_by last turns [] = []
-deeds_by last turns (p ∷ ps) =
-    if comes_by last p.cost (admission turns p) then deed_of turns p ∷ deeds_by last turns ps else []
+deeds_by last turns ps = deeds_of turns (come_by last turns ps)
 
 -- up to the last turn a session of the history did what the meaning says, from its opening, its own batches and what it
--- was given, each in the turn of its cost
+-- was given, each in the turn of its cost, and memory was wanting at one place at the most, where it may be
 pub record IsSessionOf (m : Meaning) (last : ℕ) (history : List Recorded) (n : ℕ) : Type 0 where
   pub seed : ℕ
   pub time : ℕ
+  pub lacking : Option Lacking
   pub opening : opening_in n history ≡ Some (seed, time)
-  pub deeds : deeds_in n history ≡ deeds_by last (turns_in n history) (m seed time (batches_in n history) (given_in n history))
+  pub may_lack : MayLack lacking (m seed time (batches_in n history) (given_in n history))
+  pub deeds : deeds_in n history ≡ deeds_by last (turns_in n history) (with_lack lacking (m seed time (batches_in n history) (given_in n history)))
 
 -- ---- isolation
 
@@ -157,14 +132,15 @@ IsFrontOf xs ys = (more : List _) × (ys ≡ xs ++ more)
 abbrev pub Agree : {A : Type 0} → List A → List A → Type 0
 Agree xs ys = IsFrontOf xs ys ⊎ IsFrontOf ys xs
 
--- isolation: two histories, each up to its last turn, that give a session the same opening, the same batches and, as far
--- as both go, the same moments and replies, have it do the same, as far as both go: the same served calls, the same
--- endings, each so many turns after the admission of its batch
+-- isolation: two histories, each up to its last turn, in neither of which a session wants memory, that give it the same
+-- opening, the same batches and, as far as both go, the same moments and replies, have it do the same, as far as both go:
+-- the same served calls, the same endings, each so many turns after the admission of its batch
 abbrev pub SessionsAreAlone : Type 0
 SessionsAreAlone =
     (m : Meaning) → ReadsGivenInTurn m
     → (last other_last : ℕ) (history other : List Recorded) (n k : ℕ)
-    → IsSessionOf m last history n → IsSessionOf m other_last other k
+    → (here : IsSessionOf m last history n) (there : IsSessionOf m other_last other k)
+    → here.lacking ≡ None → there.lacking ≡ None
     → opening_in n history ≡ opening_in k other → batches_in n history ≡ batches_in k other
     → Agree (given_in n history) (given_in k other)
     → Agree (story_in n history) (story_in k other)

@@ -2,8 +2,9 @@
 //! comes, how a session stands after a history, what is decided on a request, which entry may follow which, and that what
 //! a session does depends on nothing but what it is given.
 //!
-//! A history is a list of entries (`rip_log`). What a session does is an argument of the definitions, `Sessions.Meaning`: of
-//! a seed and a time, of batches and of what its served calls are given. So nothing here rests on an evaluator.
+//! A history is a list of entries (`rip_log`). What a session does is an argument of the definitions, `Parts.Meaning`: of
+//! a seed and a time, of batches and of what its served calls are given. So nothing here rests on an evaluator: what runs
+//! sessions is a [`Sessions`], and what replies to their calls a [`Service`].
 //!
 //! | what | its definition in `specs/` |
 //! |---|---|
@@ -13,6 +14,9 @@
 //! | a request | `Requests.Asks`, what a message asks; `Requests.decide`, what is decided on it by the history so far |
 //! | the turns of a connection's requests | `Handlings.AreHandled`, each in the first turn in which it may be; `Handlings.handled_turns`, the same one after another |
 //! | a history | `Sequences.IsOrderly`: each of its entries may come after those before it |
+//! | what a session does | `Parts.Meaning`, a part for each item; `Parts.IsLack`, where memory may be wanting |
+//! | [`Service`] | `Services.Service`, what is replied to a call after other calls; `Services.RepliesAs`, of the functions of an application |
+//! | [`Sessions`] | `Stages.Stage`, how far a session went; `Stages.GoesOn`, that it goes on by some units; `Stages.Resumed`, what comes of a slice |
 //! | a session of a history | `Sessions.IsSessionOf`: up to the last turn it did what the meaning says, each in the turn of its cost |
 //! | a course | `Course.IsCourse`: openings, admissions and closings are those that are decided on the requests of each turn, in order; behind them each session does what the meaning says; moments, words and replies are those of one clock, one source of words and one service |
 //!
@@ -28,12 +32,14 @@
 //! | [`courses_hold`] | `Course.CoursesAreInOrder`, `CoursesCount`, `CoursesIsolate` |
 //!
 //! A layer above may rest on these. Not said yet: that the requests handled are those of the connections, which answers are
-//! sent, what becomes of a session for which memory is wanting, and when a run stops. The functions take no memory and the
+//! sent, and when a run stops. The functions take no memory and the
 //! time of a few comparisons.
 #![tactic(auto)]
 
 mod decision;
 mod laws;
+mod service;
+mod sessions;
 mod standing;
 mod turn;
 
@@ -42,5 +48,7 @@ pub use laws::{
     courses_hold, decisions_are_exact, next_are_admitted, requests_are_handled_once,
     sequences_count, sessions_are_alone, standings_follow, turns_are_first,
 };
+pub use service::Service;
+pub use sessions::{Made, Progress, Sessions, Slice};
 pub use standing::Standing;
 pub use turn::{SLICE, turn_of_cost};
