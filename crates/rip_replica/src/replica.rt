@@ -4,8 +4,8 @@ ghost use Rattle.rip_runner.specs.Going.{IsWithin, going};
 ghost use Rattle.rip_runner.specs.Laws.{StandsAt};
 ghost use Rattle.rip_replica.specs.Standing.{Advances, planned, played_batch, progress_of, unspent};
 
-use rip_items::{Batch, Items, Stage};
 use rip_heap::{Heap, Host};
+use rip_items::{Batch, Items, Stage};
 use rip_runner::{Outside, Rested, Runner};
 use rip_runs::{Close, Evaluator, Phase};
 use std::alloc::Global;
