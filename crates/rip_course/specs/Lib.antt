@@ -1,8 +1,12 @@
+pub mod Answering
+pub mod Connections
 pub mod Course
 pub mod Decisions
 pub mod Handlings
 pub mod Parts
 pub mod Requests
+pub mod Run
+pub mod Runs
 pub mod Sequences
 pub mod Services
 pub mod Sessions

@@ -1,6 +1,6 @@
 -- How far a session went, and that it goes on.
 use Rattle.std.specs.Prelude.{◌≡◌, ◌⊎◌, ℕ, ◌+◌, ◌==◌, ◌&&◌, ◌||◌, Bool, true, false, nat_lt, nat_le, List, [], ◌∷◌, ◌++◌, length, map, Option, Some, None, if◌then◌else◌}
-use Rattle.std.specs.List.{list_any}
+use Rattle.std.specs.List.{AllByRecursion, list_any}
 use Rattle.rip_wire.specs.Answers.{served_of}
 use Rattle.rip_wire.specs.Batches.{Contents}
 use Rattle.rip_wire.specs.declared.ending.Ending.{Ending}
@@ -70,7 +70,8 @@ pub record MayAdmit (m : Meaning) (st : Stage) (b : Contents) : Type 0 where
 abbrev pub GoesLacking : List Part → Option Lacking → Option Lacking → Type 0
 GoesLacking ps old new = (new ≡ old) ⊎ ((l : Lacking) × (old ≡ None) × (new ≡ Some l) × IsLack l ps)
 
--- the session goes on by n units: these parts come, and the served calls among them are given these
+-- the session goes on by n units: these parts come, all of the last batch, and the served calls among them are given
+-- these
 pub record GoesOn (m : Meaning) (st : Stage) (n : ℕ) (new : List Given) (parts : List Part) (next : Stage) : Type 0 where
   pub seed : next.seed ≡ st.seed
   pub time : next.time ≡ st.time
@@ -79,6 +80,7 @@ pub record GoesOn (m : Meaning) (st : Stage) (n : ℕ) (new : List Given) (parts
   pub units : next.units ≡ st.units + n
   pub lacking : GoesLacking (m st.seed st.time st.batches (st.given ++ new)) st.lacking next.lacking
   pub come : parts_at m next ≡ parts_at m st ++ parts
+  pub own : AllByRecursion (λ (p : Part). p.batch ≡ length st.batches) parts
   pub each : served_count parts ≡ length new
 
 -- the last of these parts, and no other, ends its batch, and so
