@@ -1,6 +1,6 @@
 -- What a session does, item by item, and where memory is wanting.
-use Rattle.std.specs.Prelude.{◌≡◌, ℕ, suc, ◌<◌, ◌≤◌, ◌==◌, ◌&&◌, ◌||◌, Bool, true, false, nat_lt, List, [], ◌∷◌, ◌++◌, length, take, Option, Some, None, is_some, if◌then◌else◌}
-use Rattle.std.specs.List.{list_any}
+use Rattle.std.specs.Prelude.{◌≡◌, ℕ, suc, ◌+◌, ◌<◌, ◌≤◌, ◌==◌, ◌&&◌, ◌||◌, Bool, true, false, nat_lt, List, [], ◌∷◌, ◌++◌, length, take, Option, Some, None, is_some, if◌then◌else◌}
+use Rattle.std.specs.List.{AllByRecursion, list_any}
 use Rattle.rip_data.specs.Datum.{Tree}
 use Rattle.rip_wire.specs.Batches.{Contents}
 use Rattle.rip_wire.specs.declared.ending.Ending.{Ending}
@@ -71,6 +71,27 @@ ReadsGivenInTurn m =
     (seed time : ℕ) (batches : List Contents) (given more : List Given) (n : ℕ)
     → served_count (take n (m seed time batches given)) ≤ length given
     → take n (m seed time batches given) ≡ take n (m seed time batches (given ++ more))
+
+-- a batch more adds parts of its own, and changes none
+abbrev pub BatchesAdd : Meaning → Type 0
+BatchesAdd m =
+    (seed time : ℕ) (batches : List Contents) (b : Contents) (given : List Given)
+    → (more : List Part) × (m seed time (batches ++ b ∷ []) given ≡ m seed time batches given ++ more)
+    × AllByRecursion (λ (p : Part). p.batch ≡ length batches + 1) more
+
+-- nothing comes behind the part in which the last batch is done
+abbrev pub DoneIsLast : Meaning → Type 0
+DoneIsLast m =
+    (seed time : ℕ) (batches : List Contents) (given : List Given) (ps : List Part) (p : Part) (qs : List Part)
+    → m seed time batches given ≡ ps ++ p ∷ qs → p.batch ≡ length batches → ends_batch p.fact ≡ true → qs ≡ []
+
+-- what is known of the meaning of a session
+pub record IsLawful (m : Meaning) : Type 0 where
+  pub reads : ReadsGivenInTurn m
+  pub adds : BatchesAdd m
+  pub last : DoneIsLast m
+  pub costs : (seed time : ℕ) (batches : List Contents) (given : List Given)
+      → AllByRecursion (λ (p : Part). 1 ≤ p.cost) (m seed time batches given)
 
 -- ---- want of memory
 

@@ -1,5 +1,5 @@
 -- How far a session went, and that it goes on.
-use Rattle.std.specs.Prelude.{◌≡◌, ◌⊎◌, ℕ, ◌+◌, ◌==◌, ◌&&◌, ◌||◌, Bool, true, false, nat_lt, nat_le, List, [], ◌∷◌, ◌++◌, length, map, Option, Some, None, if◌then◌else◌}
+use Rattle.std.specs.Prelude.{◌≡◌, ◌⊎◌, ℕ, ◌+◌, ◌<◌, ◌==◌, ◌&&◌, ◌||◌, Bool, true, false, nat_lt, nat_le, List, [], ◌∷◌, ◌++◌, length, map, Option, Some, None, if◌then◌else◌}
 use Rattle.std.specs.List.{AllByRecursion, list_any}
 use Rattle.rip_wire.specs.Answers.{served_of}
 use Rattle.rip_wire.specs.Batches.{Contents}
@@ -66,21 +66,33 @@ pub record MayAdmit (m : Meaning) (st : Stage) (b : Contents) : Type 0 where
   pub lives : is_ended m st ≡ false
   pub next : b.number ≡ length st.batches + 1
 
--- memory was wanting where it was, or it is from now on, where it may be
-abbrev pub GoesLacking : List Part → Option Lacking → Option Lacking → Type 0
-GoesLacking ps old new = (new ≡ old) ⊎ ((l : Lacking) × (old ≡ None) × (new ≡ Some l) × IsLack l ps)
+-- memory is wanting where it may be, and the session ends so in these parts
+pub record IsNewLack (whole parts : List Part) (old new : Option Lacking) : Type 0 where
+  pub lack : Lacking
+  pub none : old ≡ None
+  pub some : new ≡ Some lack
+  pub may : IsLack lack whole
+  pub ends : has_ended parts ≡ true
 
--- the session goes on by n units: these parts come, all of the last batch, and the served calls among them are given
--- these
+-- memory was wanting where it was, or it is from now on
+abbrev pub GoesLacking : List Part → List Part → Option Lacking → Option Lacking → Type 0
+GoesLacking whole parts old new = (new ≡ old) ⊎ IsNewLack whole parts old new
+
+-- the part comes now: it is of the last batch, and costs more than was spent before
+pub record ComesNow (st : Stage) (p : Part) : Type 0 where
+  pub batch : p.batch ≡ length st.batches
+  pub above : st.units < p.cost
+
+-- the session goes on by n units: these parts come, and the served calls among them are given these
 pub record GoesOn (m : Meaning) (st : Stage) (n : ℕ) (new : List Given) (parts : List Part) (next : Stage) : Type 0 where
   pub seed : next.seed ≡ st.seed
   pub time : next.time ≡ st.time
   pub batches : next.batches ≡ st.batches
   pub given : next.given ≡ st.given ++ new
   pub units : next.units ≡ st.units + n
-  pub lacking : GoesLacking (m st.seed st.time st.batches (st.given ++ new)) st.lacking next.lacking
+  pub lacking : GoesLacking (m st.seed st.time st.batches (st.given ++ new)) parts st.lacking next.lacking
   pub come : parts_at m next ≡ parts_at m st ++ parts
-  pub own : AllByRecursion (λ (p : Part). p.batch ≡ length st.batches) parts
+  pub now : AllByRecursion (ComesNow st) parts
   pub each : served_count parts ≡ length new
 
 -- the last of these parts, and no other, ends its batch, and so

@@ -34,7 +34,7 @@ pub enum Progress {
 pub trait Sessions {
     ghost use Rattle.std.specs.Prelude.{◌≡◌, ◌<◌, ◌^◌, List, false, IfOk, IfErr, OnOk, OnErr};
     ghost use Rattle.rip_wire.specs.Batches.{contents_of, IsBatch};
-    ghost use Rattle.rip_course.specs.Parts.{Meaning};
+    ghost use Rattle.rip_course.specs.Parts.{IsLawful, Meaning};
     ghost use Rattle.rip_course.specs.Services.{Called, Service as Meant};
     ghost use Rattle.rip_course.specs.Stages.{Stage, begun, with_batch, is_done, MayAdmit, Resumed};
 
@@ -42,6 +42,9 @@ pub trait Sessions {
 
     // What a session does.
     ghost meaning: { Self → Meaning };
+
+    // Its batches and what it is given make what it does in their order.
+    ghost lawful: { (sessions : Self) → IsLawful (meaning sessions) };
 
     // A session stands at a stage.
     ghost stands: { Self → Self.Session → Stage → Type 0 };
