@@ -7,8 +7,8 @@ use Rattle.rip_cli.specs.Content.{content_bytes}
 use Rattle.rip_cli.specs.Lines.{count_line, app_line}
 use Rattle.rip_listed_log.specs.History.{history_text, IsHistory}
 use Rattle.rip_listed_log.specs.declared.entry.Entry.{Entry}
-use Rattle.rip_server.specs.Course.{Course}
-use Rattle.rip_server.specs.Laws.{CoursesAreInRange}
+use Rattle.rip_listed_server.specs.Course.{Course}
+use Rattle.rip_listed_server.specs.Laws.{CoursesAreInRange}
 use Rattle.std.specs.List.{AllByRecursion}
 use Rattle.rip_listed_trace.specs.Trace.{IsSaid}
 use Rattle.rip_listed.specs.Batch.{IsBatch}

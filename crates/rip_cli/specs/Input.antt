@@ -10,7 +10,7 @@ use Rattle.rip_app.specs.declared.refusal.AppRefusal.{AppRefusal}
 use Rattle.rip_listed_trace.specs.Trace.{IsTrace}
 use Rattle.rip_listed_log.specs.History.{history_text, IsHistory}
 use Rattle.rip_listed_log.specs.declared.entry.Entry.{Entry}
-use Rattle.rip_server.specs.Course.{Course}
+use Rattle.rip_listed_server.specs.Course.{Course}
 use Rattle.rip_cli.specs.Lines.{count_line, too_long_line, app_line}
 use Rattle.rip_cli.specs.Words.{Task, Checks, Replays}
 use Rattle.rip_cli.specs.declared.input.Content.{Content}
