@@ -10,8 +10,8 @@ use crate::refusal::Refusal;
 use crate::status::Status;
 use crate::words::command_of;
 use rip_app::App;
-use rip_outer::{Clock, Door, Files, Sink, SinkError, Words};
 use rip_listed_server::{Stop, courses_are_in_range, serve_trace};
+use rip_outer::{Clock, Door, Files, Sink, SinkError, Words};
 use std::alloc::Global;
 
 /// What other words are answered.
