@@ -7,6 +7,7 @@ pub mod Host
 pub mod Keys
 pub mod Laws
 pub mod Lending
+pub mod Marks
 pub mod Names
 pub mod Objects
 pub mod Outcome

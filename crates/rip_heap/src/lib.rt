@@ -18,6 +18,7 @@
 //! | [`Abrupt`], why an operation has no value | `Outcome.Answers`, `Outcome.AnswersOrLacks` |
 //! | what a call answers of its step | `Step.Makes`, `Step.Changes`, `Step.Charges` |
 //! | what every later world keeps of a world | `Growth.Grows` |
+//! | [`Mark`], [`Heap::mark`], [`Heap::cut_back`], for want of memory | `Marks.mark_of`, `Marks.cut_world` |
 //! | [`to_boolean`], [`to_number`], [`to_integer`], [`to_uint32`], [`to_int32`], [`to_text`], [`strictly_equal`] | `Conversions`, one table each |
 //! | [`room_for_text`], [`room_for_numeral`] | `Conversions.room_for_text`: the limit `text`, and then the units |
 //! | [`holder_of`], [`not_in_profile`] | `Holders`, for `in` and `hasOwnProperty` |
@@ -41,6 +42,7 @@ mod host;
 mod keys;
 mod laws;
 mod limits;
+mod mark;
 mod names;
 mod objects;
 mod outcome;
@@ -69,6 +71,7 @@ pub use laws::{
     fixed_texts_stand, names_are_looked_up_along_prototypes, puts_are_read, puts_leave_others,
 };
 pub use limits::{HeapLimits, Used};
+pub use mark::Mark;
 pub use names::same_text;
 pub use outcome::{Abrupt, Halt, number_done, truth_done};
 pub use property::Property;

@@ -1,7 +1,7 @@
 -- What a pool keeps when a text is added, and where the fixed texts stand in it.
 use Rattle.std.proofs.Common.{◌≡◌, ℕ, ◌+◌, ◌-◌, ◌^◌, ◌<◌, ◌≤◌, Some, List, ◌++◌, length, sym, ap, ◌∙◌, subst, arith, length-append, append_assoc, min, take, drop}
 use Rattle.std.specs.Prelude.{slice_range}
-use Rattle.std.proofs.lemmas.List.{length-take, length-drop, take-append-le}
+use Rattle.std.proofs.lemmas.List.{length-take, length-take-le, length-drop, take-append-drop, take-append-le}
 use Rattle.std.proofs.Math.Seq.{take-length, take-append_seam, drop-append_seam}
 use Rattle.std.proofs.lemmas.Grind.{common_steps}
 use Rattle.rip_values.specs.declared.value.Span.{Span}
@@ -12,7 +12,7 @@ use Rattle.rip_values.specs.Pool.{Texts, text_at, IsSpan, IsPool}
 use Rattle.rip_values.proofs.FixedLemmas.{fixed_span-text_of, fixed_stands, fixed_within, length-fixed_units, range_within}
 
 -- the fixed texts are there
-fixed_length : (units : List ℕ) → take 773 units ≡ fixed_units → 773 ≤ length units
+pub fixed_length : (units : List ℕ) → take 773 units ≡ fixed_units → 773 ≤ length units
 fixed_length units h = omega (arith, length-take 773 units, ap length h, length-fixed_units)
 
 -- a text more at the end leaves what a pool keeps, where there is room
@@ -25,6 +25,20 @@ IsPool-more units text more used limit capacity is begins within room spans =
       within = within;
       room = omega (arith, longer);
       spans = omega (arith, longer);
+    }
+
+-- the first units alone leave what a pool keeps, where the fixed texts are among them, and no charge is taken back without
+-- its text
+pub IsPool-cut : (units more : List ℕ) (end used before limit capacity : ℕ) → more ≡ take end units → IsPool units before limit capacity → length fixed_units ≤ end → end ≤ length units → used ≤ before
+    → before + end ≤ used + length units → IsPool more used limit capacity
+IsPool-cut units more end used before limit capacity is h fixed within less charged =
+    let shorter : length more ≡ end = ap length is ∙ length-take-le end units within in
+    let all : 773 ≤ length (take end units) = omega (arith, fixed, length-fixed_units, length-take-le end units within) in
+    record {
+      begins = ap (take 773) is ∙ sym (take-append-le 773 (take end units) (drop end units) all) ∙ ap (take 773) (take-append-drop end units) ∙ h.begins;
+      within = omega (arith, less, h.within);
+      room = omega (arith, shorter, h.room, h.within, charged, less);
+      spans = omega (arith, shorter, h.spans, h.within, charged, less);
     }
 
 -- a pool of the fixed texts alone

@@ -30,6 +30,10 @@ span_behind pool text = record { start = length pool.units; count = length text 
 abbrev pub with_text : Texts → List ℕ → ℕ → Texts
 with_text pool text charge = record pool { units = pool.units ++ text; used = pool.used + charge }
 
+-- the pool with the first units alone, of which so many are charged
+abbrev pub cut_pool : Texts → ℕ → ℕ → Texts
+cut_pool pool end used = record pool { units = take end pool.units; used = used }
+
 -- the texts of two spans, one behind the other
 abbrev pub joined : Texts → Span → Span → List ℕ
 joined pool first second = text_at pool first ++ text_at pool second

@@ -1,6 +1,6 @@
 ghost use Rattle.std.specs.Prelude.{◌≡◌, ◌↔◌, ℕ, ◌+◌, ◌-◌, ◌^◌, ◌<◌, ◌≤◌, ◌++◌, [], length, OnOk, OnErr, IfOk, IfErr, IsErr, IfSome, IsNone, vec_len, vec_capacity, min};
 ghost use Rattle.std.specs.List.{flat_map};
-ghost use Rattle.rip_values.specs.Pool.{Texts, text_at, IsSpan, held, span_behind, with_text, joined, KeepsTexts};
+ghost use Rattle.rip_values.specs.Pool.{Texts, cut_pool, text_at, IsSpan, held, span_behind, with_text, joined, KeepsTexts};
 ghost use Rattle.rip_values.specs.FixedTexts.{text_of, fixed_span, fixed_units};
 ghost use Rattle.rip_values.specs.declared.fixed.FixedText.{FixedText};
 
@@ -88,6 +88,7 @@ impl Pool {
     /// span.
     pub fn end(&self) -> u32
         ensures end { result ≡ length self.now.units }
+        ensures fixed { length fixed_units ≤ result }
         ensures room { result + (self.now.limit - self.now.used) < 2 ^ 32 }
         ensures within { self.now.used ≤ self.now.limit }
     {
@@ -204,6 +205,19 @@ impl Pool {
             .unwrap();
         self.used += span.count;
         Ok(span)
+    }
+
+    /// Takes back the texts that were added since the pool had so many units, of which so many were charged. Their spans
+    /// stand for nothing from then on, so that this is for who made them all, and hands none out.
+    pub fn cut_back(&mut self, end: u32, used: u32)
+        requires fixed { length fixed_units ≤ end }
+        requires end { end ≤ length self.old.units }
+        requires used { used ≤ self.old.used }
+        requires charged { self.old.used + end ≤ used + length self.old.units }
+        ensures { self.new ≡ cut_pool self.old end used }
+    {
+        self.units.truncate(end as usize);
+        self.used = used;
     }
 }
 
