@@ -10,6 +10,6 @@ invariant_of-self c =
     let used : c.self.inside.used ≡ c.args.self.now.used = ap (λ (p : Texts). p.used) c.self.view_is in
     let longer : length c.self.inside.units.items ≡ length c.args.self.now.units = ap length units in
     let h = IsPool-cut c.self.inside.units.items c.truncate.new.self.items c.args.end c.args.used c.self.inside.used c.self.inside.limit (vec_capacity c.self.inside.units)
-        c.truncate.ensures.items c.self.invariant c.requires.fixed (omega (arith, longer, c.requires.end)) (omega (arith, used, c.requires.used)) (omega (arith, longer, used, c.requires.charged)) in
+    c.truncate.ensures.items c.self.invariant c.requires.fixed (omega (arith, longer, c.requires.end)) (omega (arith, used, c.requires.used)) (omega (arith, longer, used, c.requires.charged)) in
     let P : ℕ → Type 0 = λ capacity. IsPool c.truncate.new.self.items c.args.used c.self.inside.limit capacity in
     subst P (sym c.truncate.ensures.capacity) h
