@@ -1,3 +1,5 @@
+pub mod GestureLemmas
+pub mod GestureTexts
 pub mod KnockLemmas
 pub mod LineLemmas
 pub mod RequestLemmas

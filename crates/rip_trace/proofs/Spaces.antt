@@ -9,11 +9,11 @@ use Rattle.rip_trace.specs.Spaces.{HasNoSpace}
 abbrev pub NoSpace : List ℕ → Type 0
 NoSpace bs = AllByRecursion (λ b. b ≢ 32) bs
 
-no_space : (bs : List ℕ) → HasNoSpace bs → NoSpace bs
+pub no_space : (bs : List ℕ) → HasNoSpace bs → NoSpace bs
 no_space [] h = tt
 no_space (b ∷ bs) h = (h 0 (omega arith), no_space bs (λ k low. h (suc k) (omega arith)))
 
-both_true : (a b : Bool) → a && b ≡ true → (a ≡ true) × (b ≡ true)
+pub both_true : (a b : Bool) → a && b ≡ true → (a ≡ true) × (b ≡ true)
 both_true true b h = (refl, h)
 both_true false b h = cc
 
@@ -26,7 +26,7 @@ digits_no_space (d ∷ ds) h =
     let parts = both_true (is_ascii_digit d) (list_all is_ascii_digit ds) h in
     (digit_no_space d parts.0, digits_no_space ds parts.1)
 
-decimal_no_space : (n : ℕ) → n < 2 ^ 64 → NoSpace (decimal n)
+pub decimal_no_space : (n : ℕ) → n < 2 ^ 64 → NoSpace (decimal n)
 decimal_no_space n h = digits_no_space (decimal n) (decimal_passes n h)
 
 first_byte : (x y : ℕ) (a b : List ℕ) → x ∷ a ≡ y ∷ b → x ≡ y
@@ -39,7 +39,7 @@ more_bytes : (x y : ℕ) (a b : List ℕ) → x ≡ y → a ≡ b → x ∷ a �
 more_bytes x y a b e f = cc
 
 -- two texts, each cut at its first space
-space_cut : (a b r s : List ℕ) → NoSpace a → NoSpace b → a ++ 32 ∷ r ≡ b ++ 32 ∷ s → (a ≡ b) × (r ≡ s)
+pub space_cut : (a b r s : List ℕ) → NoSpace a → NoSpace b → a ++ 32 ∷ r ≡ b ++ 32 ∷ s → (a ≡ b) × (r ≡ s)
 space_cut [] [] r s h g e = (refl, rest_bytes 32 32 r s e)
 space_cut [] (y ∷ b) r s h g e = absurd (g.0 (sym (first_byte 32 y r (b ++ 32 ∷ s) e)))
 space_cut (x ∷ a) [] r s h g e = absurd (h.0 (first_byte x 32 (a ++ 32 ∷ r) s e))
@@ -47,7 +47,7 @@ space_cut (x ∷ a) (y ∷ b) r s h g e =
     let same = space_cut a b r s h.1 g.1 (rest_bytes x y (a ++ 32 ∷ r) (b ++ 32 ∷ s) e) in
     (more_bytes x y a b (first_byte x y (a ++ 32 ∷ r) (b ++ 32 ∷ s) e) same.0, same.1)
 
-space_within : (a r : List ℕ) → NoSpace (a ++ 32 ∷ r) → ⊥
+pub space_within : (a r : List ℕ) → NoSpace (a ++ 32 ∷ r) → ⊥
 space_within [] r h = h.0 refl
 space_within (x ∷ a) r h = space_within a r h.1
 

@@ -1,3 +1,4 @@
+pub mod Gestures
 pub mod Lines
 pub mod Requests
 pub mod Shown

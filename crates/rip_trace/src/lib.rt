@@ -17,6 +17,8 @@
 #![tactic(auto)]
 
 mod error;
+mod gesture_line;
+mod gestures;
 mod laws;
 mod line;
 mod read;
@@ -27,7 +29,8 @@ mod tests;
 mod text;
 mod trace;
 
-pub use laws::{refusals_are_one, traces_are_one};
+pub use gestures::{Gestures, LinedGesture, read_gestures};
+pub use laws::{gestures_are_one, refusals_are_one, traces_are_one};
 pub use read::read_trace;
 pub use request::identifier;
 pub use trace::{Trace, TraceRefusal};

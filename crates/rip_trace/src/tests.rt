@@ -1,5 +1,6 @@
 use super::*;
 use rip_outer::TraceKnock;
+use rip_wire::Gesture;
 use std::alloc::{AllocError, Global};
 use std::test::Fail;
 
@@ -154,5 +155,86 @@ fn moments_and_words_stand_in_order(rt: HostRuntime) -> Result<(), Fail> {
     assert!(rt; trace.moments().as_slice() == [5, 5, 9, 9, 12].as_slice());
     assert!(rt; trace.words().as_slice() == [7, 8].as_slice());
     assert_eq!(rt; trace.knocks().as_slice().len(), 4);
+    Ok(())
+}
+
+/// The first line that is no gesture's of the text, or 0 where it is a file of gestures.
+fn first_other(alloc: Global, text: &str) -> Result<u64, Fail> {
+    match read_gestures(alloc, text.as_bytes()) {
+        Ok(_) => Ok(0),
+        Err(TraceRefusal::Line(line)) => Ok(line),
+        Err(e) => Err(Fail::from(e)),
+    }
+}
+
+#[test]
+fn gestures_are_read(rt: HostRuntime) -> Result<(), Fail> {
+    let alloc = rt.alloc();
+    let text = "# an order\ninput 7 A\u{e9} n\nchange 9 1\n#\nclick 14\nflush\nchange 4294967295";
+    let gestures = read_gestures(alloc, text.as_bytes())?;
+    let mut told = String::new(alloc);
+    for LinedGesture { line, gesture } in gestures.as_slice() {
+        let text = match gesture {
+            Gesture::Flush => format!(in alloc; "{line} flush;")?,
+            Gesture::Event(r) => {
+                let units = r.text.as_ref().map_or(0, |text| text.len());
+                let place = r.place.unwrap_or(0);
+                format!(in alloc; "{line} {:?} {} {units} {place};", r.kind, r.node)?
+            }
+        };
+        told.push_str(text.as_str())?;
+    }
+    assert_eq!(rt;
+        told.as_str(),
+        "2 Input 7 4 0;3 Change 9 0 1;5 Click 14 0 0;6 flush;7 Change 4294967295 0 0;"
+    );
+    gestures_are_one();
+    Ok(())
+}
+
+#[test]
+fn other_gestures_are_refused(rt: HostRuntime) -> Result<(), Fail> {
+    let alloc = rt.alloc();
+    for line in [
+        "click 4",
+        "focus 0",
+        "blur 1",
+        "submit 2",
+        "change 3",
+        "change 3 4",
+        "input 7 ",
+        "input 7  a\r",
+        "flush",
+        "#\r",
+    ] {
+        let text = format!(in alloc; "{line}\n")?;
+        assert_eq!(rt; first_other(alloc, text.as_str())?, 0, "{line}");
+    }
+    for line in [
+        "",
+        "click",
+        "click ",
+        "click x",
+        "click 04",
+        "click 4294967296",
+        "click 4 ",
+        "click 4\r",
+        " click 4",
+        "Click 4",
+        "focus 1 2",
+        "change 1 x",
+        "change 1 ",
+        "change 1 2 3",
+        "change 1 4294967296",
+        "input 7",
+        "input x a",
+        "flush ",
+        "load 1",
+    ] {
+        let text = format!(in alloc; "flush\n#{line}\n{line}\nwell\n")?;
+        assert_eq!(rt; first_other(alloc, text.as_str())?, 3, "{line}");
+    }
+    let bytes = read_gestures(alloc, b"flush\ninput 7 \xff\n");
+    assert!(rt; matches!(bytes, Err(TraceRefusal::Line(2))));
     Ok(())
 }
