@@ -1,8 +1,8 @@
 -- What is drawn, and that it is in range.
-use Rattle.std.proofs.Common.{◌≡◌, ℕ, zero, suc, ◌+◌, ◌*◌, ◌/◌, ◌%◌, ◌<◌, ◌≤◌, ◌^◌, ◌==◌, ◌⊎◌, inl, inr, ◌&&◌, if◌then◌else◌, Bool, true, false, List, [], ◌∷◌, ◌++◌, length, codes, decimal, refl, sym, ap, subst, ◌∙◌, arith}
+use Rattle.std.proofs.Common.{◌≡◌, ℕ, zero, suc, ◌+◌, ◌-◌, ◌*◌, ◌/◌, ◌%◌, ◌<◌, ◌≤◌, ◌^◌, ◌==◌, ◌⊎◌, inl, inr, ◌&&◌, if◌then◌else◌, Bool, true, false, List, [], ◌∷◌, ◌++◌, length, codes, decimal, get_or, slice_get, Some, append_assoc, append-nil, refl, sym, ap, subst, ◌∙◌, arith}
 use Rattle.std.specs.Char.{is_ascii_digit}
 use Rattle.std.specs.List.{list_all, AllByRecursion}
-use Rattle.std.proofs.Math.Nat.{div-lt_iff_lt-mul}
+use Rattle.std.proofs.Math.Nat.{div-lt_iff_lt-mul, mul_comm, mul-le-mul_right, mul-lt-mul_of_pos_left}
 use Rattle.rip_numerals.proofs.Numerals.{decimal_passes}
 use Rattle.rip_values.specs.Text.{IsUtf16}
 use Rattle.rip_wire.specs.declared.gesture.Gesture.{Gesture}
@@ -18,7 +18,7 @@ pub drawn_below : (x n : ℕ) → 1 ≤ n → drawn x n < n
 drawn_below x n some = (div-lt_iff_lt-mul (omega arith)).1 (wide (next_random x) n (word_small x) some)
   where
     wide : (w n : ℕ) → w < 2 ^ 32 → 1 ≤ n → w * n < n * 2 ^ 32
-    wide w n h some = grind (arith, mul-lt-mul, h, some)
+    wide w n h some = rw (mul_comm w n) (mul-lt-mul_of_pos_left h some)
 
 -- ---- texts
 
@@ -69,7 +69,7 @@ gestures_in_range : (count x : ℕ) → AllByRecursion IsInRange (gestures_drawn
 gestures_in_range zero x = tt
 gestures_in_range (suc count) x = (gesture_in_range (drawn x 5) (next_random x), gestures_in_range count (gesture_drawn x).1)
 
-gestures_many : (count x : ℕ) → length (gestures_drawn count x) ≡ count
+pub gestures_many : (count x : ℕ) → length (gestures_drawn count x) ≡ count
 gestures_many zero x = refl
 gestures_many (suc count) x = ap suc (gestures_many count (gesture_drawn x).1)
 
@@ -89,6 +89,45 @@ plans n =
 
 -- ---- a list that is drawn
 
--- so many are left to be drawn behind this word
-pub record Drawing (count word : ℕ) (made : List Gesture) (now left : ℕ) : Type 0 where
+-- of so many gestures these were drawn, and the others are drawn behind this word
+pub record Drawing (count word counter : ℕ) (made : List Gesture) (now : ℕ) : Type 0 where
+  pub left : ℕ
+  pub all : counter + left ≡ count
   pub is : gestures_drawn count word ≡ made ++ gestures_drawn left now
+
+pub drawing_none : (count word : ℕ) (made : List Gesture) → made ≡ [] → Drawing count word 0 made word
+drawing_none count word made e = record { left = count; all = omega arith; is = ap (λ (gs : List Gesture). gs ++ gestures_drawn count word) (sym e) }
+
+next_left : (left : ℕ) (made : List Gesture) (now next : ℕ) (g : Gesture) → (g, next) ≡ gesture_drawn now → made ++ gestures_drawn (suc left) now ≡ (made ++ g ∷ []) ++ gestures_drawn left next
+next_left left made now next g e =
+    ap (λ (p : Gesture × ℕ). made ++ p.0 ∷ gestures_drawn left p.1) (sym e) ∙ sym (append_assoc made (g ∷ []) (gestures_drawn left next))
+
+pub drawing_more : (count word counter : ℕ) (made : List Gesture) (now next : ℕ) (g : Gesture) (new : List Gesture) → Drawing count word counter made now → counter < count → (g, next) ≡ gesture_drawn now → new ≡ made ++ g ∷ [] → Drawing count word (counter + 1) new next
+drawing_more count word counter made now next g new d low e is = more d.left d.all d.is
+  where
+    more : (left : ℕ) → counter + left ≡ count → gestures_drawn count word ≡ made ++ gestures_drawn left now → Drawing count word (counter + 1) new next
+    more zero all whole = absurd (omega (arith, all, low))
+    more (suc left) all whole = record {
+      left = left;
+      all = omega (arith, all);
+      is = whole ∙ next_left left made now next g e ∙ ap (λ (gs : List Gesture). gs ++ gestures_drawn left next) (sym is);
+    }
+
+pub drawing_all : (count word counter : ℕ) (made : List Gesture) (now : ℕ) → Drawing count word counter made now → count ≤ counter → made ≡ gestures_drawn count word
+drawing_all count word counter made now d late = all d.left d.all d.is
+  where
+    all : (left : ℕ) → counter + left ≡ count → gestures_drawn count word ≡ made ++ gestures_drawn left now → made ≡ gestures_drawn count word
+    all zero sum whole = sym (whole ∙ append-nil made)
+    all (suc left) sum whole = absurd (omega (arith, sum, late))
+
+-- an element is at its place
+pub at_place : (gs : List Gesture) (i : ℕ) (g : Gesture) → i < length gs → g ≡ get_or gs i g → slice_get gs i ≡ Some g
+at_place [] i g low e = absurd (omega (arith, low))
+at_place (x ∷ gs) zero g low e = ap Some (sym e)
+at_place (x ∷ gs) (suc i) g low e = at_place gs i g (omega (arith, low)) e
+
+-- the gesture of each round and session is there
+pub place_low : (round session sessions many : ℕ) → 1 ≤ round → round ≤ 40 → 1 ≤ session → session ≤ sessions → many ≡ 40 * sessions → (round - 1) * sessions + (session - 1) < many
+place_low round session sessions many first last from_one there e =
+    let earlier : (round - 1) * sessions ≤ 39 * sessions = mul-le-mul_right sessions (omega (arith, last)) in
+    omega (arith, earlier, from_one, there, e)

@@ -7,6 +7,7 @@ use rip_wire::Gesture;
 use std::alloc::Global;
 
 /// So many gestures, drawn one after the other.
+#[tactic(auto, using(crate::proofs::PlanLemmas::drawing_none, crate::proofs::PlanLemmas::drawing_more, crate::proofs::PlanLemmas::drawing_all))]
 pub(crate) fn next_gestures(
     alloc: Global,
     draws: Draws,

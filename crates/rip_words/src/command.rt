@@ -140,8 +140,16 @@ fn generate_of(words: &[String]) -> Option<Command<'_>>
     let [number] = words else {
         return None;
     };
-    let number = read_number(number.as_bytes())?;
-    Some(Command::Generate(u32::try_from(number).ok()?))
+    Some(Command::Generate(number_of(number.as_bytes())?))
+}
+
+/// The number below 2^32 whose numeral the word is.
+#[tactic(auto, using(crate::proofs::WordLemmas::long_number, crate::proofs::WordLemmas::late_number))]
+fn number_of(word: &[u8]) -> Option<u32>
+    ensures is { IfSome result (λ n. word.now ≡ decimal n) }
+    ensures other { IsNone result → (n : ℕ) → n < 2 ^ 32 → word.now ≢ decimal n }
+{
+    u32::try_from(read_number(word)?).ok()
 }
 
 /// How many turns the words behind the names ask for, where so many are usual.
