@@ -1,5 +1,6 @@
 -- The words of the command line.
-use Rattle.std.proofs.Common.{◌≡◌, ◌≢◌, ℕ, zero, suc, ◌<◌, ◌≤◌, ◌^◌, ◌⊎◌, inl, inr, List, [], ◌∷◌, ◌++◌, ◌-◌, map, length, take, drop, take-length, get_or, codes, decimal, refl, sym, ap, subst, ◌∙◌, arith}
+use Rattle.std.proofs.Common.{◌≡◌, ◌≢◌, ℕ, zero, suc, ◌<◌, ◌≤◌, ◌^◌, ◌⊎◌, inl, inr, List, [], ◌∷◌, ◌++◌, ◌-◌, map, length, take, drop, get_or, codes, decimal, refl, sym, ap, subst, ◌∙◌, arith}
+use Rattle.std.proofs.Math.Seq.{take-length}
 use Rattle.std.proofs.lemmas.Fmt.{decimal_injective}
 use Rattle.std.proofs.lemmas.List.{append_cancel_left}
 use Rattle.rip_words.specs.Commands.{Task, checks, replays, serves, drives, generates, IsTurns, IsOption, IsTask, TaskIsOne}
