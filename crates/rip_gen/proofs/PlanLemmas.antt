@@ -1,5 +1,5 @@
 -- What is drawn, and that it is in range.
-use Rattle.std.proofs.Common.{◌≡◌, ℕ, zero, suc, ◌+◌, ◌-◌, ◌*◌, ◌/◌, ◌%◌, ◌<◌, ◌≤◌, ◌^◌, ◌==◌, ◌⊎◌, inl, inr, ◌&&◌, if◌then◌else◌, Bool, true, false, List, [], ◌∷◌, ◌++◌, length, codes, decimal, get_or, slice_get, Some, append_assoc, append-nil, refl, sym, ap, subst, ◌∙◌, arith}
+use Rattle.std.proofs.Common.{◌≡◌, ℕ, zero, suc, ◌+◌, ◌-◌, ◌*◌, ◌<◌, ◌≤◌, ◌^◌, ◌==◌, ◌&&◌, if◌then◌else◌, Bool, true, false, List, [], ◌∷◌, ◌++◌, length, codes, decimal, get_or, slice_get, Some, append_assoc, append-nil, refl, sym, ap, ◌∙◌, arith}
 use Rattle.std.specs.Char.{is_ascii_digit}
 use Rattle.std.specs.List.{list_all, AllByRecursion}
 use Rattle.std.proofs.Math.Nat.{div-lt_iff_lt-mul, mul_comm, mul-le-mul_right, mul-lt-mul_of_pos_left}
@@ -7,7 +7,7 @@ use Rattle.rip_numerals.proofs.Numerals.{decimal_passes}
 use Rattle.rip_values.specs.Text.{IsUtf16}
 use Rattle.rip_wire.specs.declared.gesture.Gesture.{Gesture}
 use Rattle.rip_wire.proofs.TextLemmas.{AreAscii, IsUtf16-ascii}
-use Rattle.rip_gen.specs.Plans.{next_random, random_below, drawn, input, change, click, gesture_of, gesture_drawn, gestures_drawn, plan_of, IsInRange, IsPlan, PlansAreInRange}
+use Rattle.rip_gen.specs.Plans.{next_random, drawn, input, change, gesture_of, gesture_drawn, gestures_drawn, IsInRange, PlansAreInRange}
 
 -- ---- draws
 
