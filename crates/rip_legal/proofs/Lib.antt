@@ -1,0 +1,8 @@
+pub mod AdvanceLemmas
+pub mod ComeLemmas
+pub mod EntryLemmas
+pub mod FitLemmas
+pub mod MadeLemmas
+pub mod RunLemmas
+pub mod StandLemmas
+pub mod ViewLemmas
