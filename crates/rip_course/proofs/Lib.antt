@@ -1,7 +1,9 @@
+pub mod ComeLemmas
 pub mod CourseLemmas
 pub mod DecisionLemmas
 pub mod Examples
 pub mod HandlingLemmas
+pub mod KeepLemmas
 pub mod RequestLemmas
 pub mod SequenceLemmas
 pub mod ServiceLemmas

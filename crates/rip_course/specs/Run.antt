@@ -14,7 +14,7 @@ use Rattle.rip_course.specs.Answering.{refusal_answer, decided_answer, decided_o
 use Rattle.rip_course.specs.Connections.{Act, all_put, Connection, Connections, no_connections, changed, owing, after_knock, knock_acts, answer_acts, after_answer}
 use Rattle.rip_course.specs.Course.{Handled, decided_entries, HandledDraw}
 use Rattle.rip_course.specs.Parts.{Part, Given, Meaning}
-use Rattle.rip_course.specs.Requests.{Asks, Decision, answers, opens, admits, closes, decide, identifiers_in}
+use Rattle.rip_course.specs.Requests.{Asks, early, Decision, answers, opens, admits, closes, decide, identifiers_in}
 use Rattle.rip_course.specs.Services.{Called, Service, given_by, served_entries}
 use Rattle.rip_course.specs.Stages.{Stage, begun, with_batch, GoesOn, IsProgress}
 use Rattle.rip_course.specs.Standings.{is_busy, standing_of}
@@ -96,10 +96,10 @@ abbrev pub front_of : ℕ → Arrived → Next
 front_of n (refused r) = refuses n r
 front_of n (message m x) = takes n m
 
--- what is handled is what the message asks
+-- what is handled is what the message asks; where memory is wanting from the first, it is answered alike whatever it asks
 abbrev pub IsAsked : Arrived → Type 0
 IsAsked (refused r) = Unit {0}
-IsAsked (message m x) = Asks m x.asked
+IsAsked (message m x) = (x.lack ≡ early) ⊎ Asks m x.asked
 
 -- this stands at the front of a connection on which no answer is owed
 pub record IsAtFront (c : Connection) (h : Handling) : Type 0 where

@@ -5,7 +5,7 @@ use Rattle.rip_wire.specs.Answers.{served_of}
 use Rattle.rip_wire.specs.Batches.{Contents}
 use Rattle.rip_wire.specs.declared.ending.Ending.{Ending}
 use Rattle.rip_log.specs.Entries.{recorded_of}
-use Rattle.rip_course.specs.Parts.{finishes, Part, Given, Meaning, ends_batch, served_count, has_finished, has_ended, Lacking, IsLack, with_lack}
+use Rattle.rip_course.specs.Parts.{finishes, Part, Given, Meaning, IsLawful, ends_batch, served_count, has_finished, has_ended, Lacking, IsLack, with_lack}
 use Rattle.rip_course.specs.Services.{Called, Service, called_in, given_by, served_entries, answered_calls}
 use Rattle.rip_course.specs.declared.sessions.Made.{Made}
 use Rattle.rip_course.specs.declared.sessions.Progress.{Progress}
@@ -60,11 +60,22 @@ begun seed time = record { seed = seed; time = time; batches = []; given = []; u
 abbrev pub with_batch : Contents → Stage → Stage
 with_batch b st = record st { batches = st.batches ++ b ∷ []; units = 0 }
 
--- a batch may be admitted: the last one is done and has not ended the session, and this has the next number
+-- a batch may be admitted: memory was not wanting, the last one is done and has not ended the session, and this has the
+-- next number
 pub record MayAdmit (m : Meaning) (st : Stage) (b : Contents) : Type 0 where
+  pub sound : st.lacking ≡ None
   pub done : is_done m st ≡ true
   pub lives : is_ended m st ≡ false
   pub next : b.number ≡ length st.batches + 1
+
+-- what has come stays: nothing comes without a unit, and a batch that is admitted changes nothing that came
+pub record KeepsParts (m : Meaning) : Type 0 where
+  pub opens : (seed time : ℕ) → parts_at m (begun seed time) ≡ []
+  pub admits : (st : Stage) (b : Contents) → MayAdmit m st b → parts_at m (with_batch b st) ≡ parts_at m st
+
+-- so it is of each lawful meaning
+abbrev pub MeaningsKeep : Type 0
+MeaningsKeep = (m : Meaning) → IsLawful m → KeepsParts m
 
 -- memory is wanting where it may be, and the session ends so in these parts
 pub record IsNewLack (whole parts : List Part) (old new : Option Lacking) : Type 0 where

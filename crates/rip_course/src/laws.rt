@@ -4,6 +4,7 @@ ghost use Rattle.rip_course.specs.Handlings.{HandledOnce, TurnsAreHandled};
 ghost use Rattle.rip_course.specs.Requests.{AdmissionsAre, AskedIsOne, OpeningsAre};
 ghost use Rattle.rip_course.specs.Sequences.{BatchesCount, EndsLast, IdentifiersDiffer, OrdinalsCount};
 ghost use Rattle.rip_course.specs.Sessions.{SessionsAreAlone};
+ghost use Rattle.rip_course.specs.Stages.{MeaningsKeep};
 ghost use Rattle.rip_course.specs.Standings.{StandingsAreOwn, StandingsFollow};
 ghost use Rattle.rip_course.specs.Turns.{DistanceIsOfCost, TurnsAreFirst, TurnsKeepOrder};
 
@@ -31,6 +32,11 @@ pub fn next_are_admitted()
 /// so other sessions reach it through the moments and replies alone.
 pub fn sessions_are_alone()
     ensures { SessionsAreAlone }
+{}
+
+/// What has come of a session stays: nothing comes without a unit, and a batch that is admitted changes nothing that came.
+pub fn meanings_keep()
+    ensures { MeaningsKeep }
 {}
 
 /// A message asks one thing. What is admitted is the batch that was asked for, and the next of a live session that is not

@@ -18,6 +18,8 @@
 //! | [`Service`] | `Services.Service`, what is replied to a call after other calls; `Services.RepliesAs`, of the functions of an application |
 //! | [`Sessions`] | `Stages.Stage`, how far a session went; `Stages.GoesOn`, that it goes on by some units; `Stages.Resumed`, what comes of a slice |
 //! | a session of a history | `Sessions.IsSessionOf`: up to the last turn it did what the meaning says, each in the turn of its cost |
+//! | what a server does | `Run.IsTurn`, one turn of the machine that a server follows: a knock (`Connections.after_knock`), the requests (`Run.AreHandledSo`), the busy sessions (`Run.AreAdvancedSo`), and what is put, sent and shut (`Connections.Act`); `Runs.IsRun`, its runs; `Runs.IsBroken`, a run that breaks off |
+//! | the answers | `Answering.refusal_answer`, `decided_answer`, `batch_answer` |
 //! | a course | `Course.IsCourse`: openings, admissions and closings are those that are decided on the requests of each turn, in order; behind them each session does what the meaning says; moments, words and replies are those of one clock, one source of words and one service |
 //!
 //! | law | its definition |
@@ -28,11 +30,13 @@
 //! | [`decisions_are_exact`] | `Requests.AskedIsOne`, `AdmissionsAre`, `OpeningsAre` |
 //! | [`requests_are_handled_once`] | `Handlings.TurnsAreHandled`, `HandledOnce` |
 //! | [`sequences_count`] | `Sequences.OrdinalsCount`, `BatchesCount`, `IdentifiersDiffer`, `EndsLast` |
+//! | [`meanings_keep`] | `Stages.MeaningsKeep`, of a lawful meaning (`Parts.IsLawful`) |
 //! | [`sessions_are_alone`] | `Sessions.SessionsAreAlone`, of a meaning that reads what is given at its served calls (`ReadsGivenInTurn`) |
 //! | [`courses_hold`] | `Course.CoursesAreInOrder`, `CoursesCount`, `CoursesIsolate` |
 //!
-//! A layer above may rest on these. Not said yet: that the requests handled are those of the connections, which answers are
-//! sent, and when a run stops. The functions take no memory and the
+//! A layer above may rest on these. That each run of the machine is a course is a law of the crate above (`rip_legal`). Not
+//! said of courses: that the requests handled are those of the connections, which answers are sent, and when a run stops;
+//! the machine says it. The functions take no memory and the
 //! time of a few comparisons.
 #![tactic(auto)]
 
@@ -45,7 +49,7 @@ mod turn;
 
 pub use decision::{BatchDecision, CloseDecision};
 pub use laws::{
-    courses_hold, decisions_are_exact, next_are_admitted, requests_are_handled_once,
+    courses_hold, decisions_are_exact, meanings_keep, next_are_admitted, requests_are_handled_once,
     sequences_count, sessions_are_alone, standings_follow, turns_are_first,
 };
 pub use service::Service;

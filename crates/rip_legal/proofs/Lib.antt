@@ -1,5 +1,4 @@
 pub mod AdvanceLemmas
-pub mod ComeLemmas
 pub mod EntryLemmas
 pub mod FitLemmas
 pub mod MadeLemmas

@@ -2,7 +2,7 @@
 use Rattle.std.proofs.Common.{◌≡◌, inl, inr, ℕ, zero, suc, ◌+◌, ◌-◌, ◌*◌, ◌≤◌, ◌<◌, Bool, true, false, cond, not, ◌&&◌, ◌||◌, eqb, ltb, leb, List, [], ◌∷◌, ◌++◌, length, Option, Some, None, refl, sym, ap, ◌∙◌, subst, arith, append-nil, length-append}
 use Rattle.std.specs.Prelude.{slice_get, unwrap_or, option_map, is_some}
 use Rattle.std.specs.List.{AllByRecursion}
-use Rattle.std.proofs.lemmas.Bool.{true≢false, false≢true, eqb-true, ltb-true, leb-true, lt-ltb, le-leb, eq-eqb, ne_eqb, and_from, and_left, and_right, or_parts, or_from, or_left, or_right}
+use Rattle.std.proofs.lemmas.Bool.{true≢false, false≢true, ltb-true, leb-true, le-leb, eq-eqb, ne_eqb, and_from, and_left, and_right, or_parts, or_from, or_left, or_right}
 use Rattle.std.proofs.lemmas.List.Folds.{list_any-append}
 use Rattle.rip_wire.specs.Reasons.{reason_of}
 use Rattle.rip_wire.specs.declared.ending.Ending.{Ending}
@@ -15,7 +15,7 @@ use Rattle.rip_course.specs.Turns.{turn_at}
 use Rattle.rip_course.specs.declared.sessions.Progress.{Progress}
 use Rattle.rip_course.specs.declared.sessions.Progress.TheVariants.{Busy, Finished}
 use Rattle.rip_course.specs.declared.standing.Standing.{Standing}
-use Rattle.rip_legal.proofs.ComeLemmas.{come_splits, HasCome, come_all, come_whole, ComesBy, come_later, Spends, come_by_busy, come_by_idle, EndIsLast, end_is_last, done_leaves_none}
+use Rattle.rip_course.proofs.ComeLemmas.{none_come, all_right, come_bounds, come_earlier, come_splits, HasCome, come_all, come_whole, ComesBy, come_later, Spends, come_by_busy, come_by_idle, EndIsLast, end_is_last, done_leaves_none}
 use Rattle.rip_legal.proofs.MadeLemmas.{all-join, all-maps}
 
 -- the parts that have come
@@ -71,28 +71,9 @@ stays_idle u whole lacking units last turns did s st idle = record {
 
 -- ---- an opening
 
-none-come : (last : ℕ) (ps : List Part) → AllByRecursion (λ p. 1 ≤ p.cost) ps → AllByRecursion (λ p. last ≤ p.batch) ps → come last 0 ps ≡ []
-none-come last [] costs later = refl
-none-come last (p ∷ ps) costs later = ap (λ (b : Bool). cond b (p ∷ come last 0 ps) []) (or_from (ltb p.batch last) (eqb p.batch last && leb p.cost 0) early dear)
-  where
-    early : ltb p.batch last ≡ false
-    early = by (ltb p.batch last) refl
-      where
-        by : (b : Bool) → ltb p.batch last ≡ b → ltb p.batch last ≡ false
-        by true e = absurd (omega (arith, ltb-true p.batch last e, later.0))
-        by false e = e
-
-    dear : (eqb p.batch last && leb p.cost 0) ≡ false
-    dear = by (eqb p.batch last) (leb p.cost 0) refl
-      where
-        by : (b c : Bool) → leb p.cost 0 ≡ c → (b && c) ≡ false
-        by true true e = absurd (omega (arith, leb-true p.cost 0 e, costs.0))
-        by true false e = refl
-        by false c e = refl
-
 pub opened_stands : (u : ℕ) (whole : List Part) → AllByRecursion (λ p. 1 ≤ p.cost) whole → Stands u whole None 0 0 ((u + 1) ∷ []) [] when_opened
 opened_stands u whole costs =
-    let none : come 0 0 whole ≡ [] = none-come 0 whole costs (zeros whole) in
+    let none : come 0 0 whole ≡ [] = none_come 0 whole costs (zeros whole) in
     record {
       long = refl;
       number = refl;
@@ -131,22 +112,6 @@ closed_stands u whole lacking units last turns did s st = record {
 }
 
 -- ---- one more batch
-
-all-right : {A : Type 0} (P : A → Type 0) (xs ys : List A) → AllByRecursion P (xs ++ ys) → AllByRecursion P ys
-all-right P [] ys h = h
-all-right P (x ∷ xs) ys h = all-right P xs ys h.1
-
-come-bounds : (last units : ℕ) (p : Part) → has_come last units p ≡ true → p.batch ≤ last
-come-bounds last units p h = by (ltb p.batch last) (eqb p.batch last) refl refl h
-  where
-    by : (b c : Bool) → ltb p.batch last ≡ b → eqb p.batch last ≡ c → (b || (c && leb p.cost units)) ≡ true → p.batch ≤ last
-    by true c e f h = omega (arith, ltb-true p.batch last e)
-    by false true e f h = omega (arith, eqb-true p.batch last f)
-    by false false e f h = absurd (false≢true h)
-
-come-earlier : (last units more : ℕ) (p : Part) → p.batch ≤ last → has_come (last + 1) more p ≡ true
-come-earlier last units more p le =
-    or_left (ltb p.batch (last + 1)) (eqb p.batch (last + 1) && leb p.cost more) (lt-ltb p.batch (last + 1) (omega (arith, le)))
 
 get-front : (xs ys : List ℕ) (i : ℕ) → i < length xs → slice_get (xs ++ ys) i ≡ slice_get xs i
 get-front [] ys i lt = absurd (omega (arith, lt))
@@ -216,7 +181,7 @@ admitted_stands u whole more next None units last number turns did s st ends is 
         ∙ append-nil before
 
     within : AllByRecursion (λ (p : Part). p.batch ≤ last) before
-    within = all-maps (HasCome last units) (λ (p : Part). p.batch ≤ last) (come-bounds last units) before (come_all last units whole)
+    within = all-maps (HasCome last units) (λ (p : Part). p.batch ≤ last) (come_bounds last units) before (come_all last units whole)
 
     below : AreBelow (length turns) before
     below = all-maps (λ (p : Part). p.batch ≤ last) (λ (p : Part). p.batch < length turns) (λ p le. omega (arith, le, st.long)) before within
@@ -224,17 +189,17 @@ admitted_stands u whole more next None units last number turns did s st ends is 
     came : AllByRecursion (HasCome (last + 1) 0) whole
     came =
         subst (λ (ps : List Part). AllByRecursion (HasCome (last + 1) 0) ps) (sym all)
-        (all-maps (λ (p : Part). p.batch ≤ last) (HasCome (last + 1) 0) (λ p le. come-earlier last units 0 p le) before within)
+        (all-maps (λ (p : Part). p.batch ≤ last) (HasCome (last + 1) 0) (λ p le. come_earlier last units 0 p le) before within)
 
     dear : AllByRecursion (λ (p : Part). 1 ≤ p.cost) more
     dear =
-        all-right (λ (p : Part). 1 ≤ p.cost) whole more (subst (λ (ps : List Part). AllByRecursion (λ (p : Part). 1 ≤ p.cost) ps) is costs)
+        all_right (λ (p : Part). 1 ≤ p.cost) whole more (subst (λ (ps : List Part). AllByRecursion (λ (p : Part). 1 ≤ p.cost) ps) is costs)
 
     same : at next None 0 (last + 1) ≡ before
     same =
         ap (come (last + 1) 0) is ∙ come_whole (last + 1) 0 whole more came
         ∙ ap (λ (t : List Part). whole ++ t)
-        (none-come (last + 1) more dear (all-maps (λ (p : Part). p.batch ≡ last + 1) (λ (p : Part). last + 1 ≤ p.batch) (λ p e. omega (arith, e)) more own))
+        (none_come (last + 1) more dear (all-maps (λ (p : Part). p.batch ≡ last + 1) (λ (p : Part). last + 1 ≤ p.batch) (λ p e. omega (arith, e)) more own))
         ∙ append-nil whole ∙ all
 
     is-busy : is_busy (when_admitted number s) ≡ true
@@ -295,7 +260,7 @@ pub parts_in_turn : (u : ℕ) (whole next : List Part) (lacking new : Option Lac
     → AllByRecursion (IsNow last units) parts → AllByRecursion (InTurn u turns last) parts
 parts_in_turn u whole next lacking new units last turns parts s is now =
     all-in-turn u turns last units parts s now
-    (all-right (HasCome last (units + 1000)) (at whole lacking units last) parts
+    (all_right (HasCome last (units + 1000)) (at whole lacking units last) parts
     (subst (λ (ps : List Part). AllByRecursion (HasCome last (units + 1000)) ps) is (come_all last (units + 1000) (with_lack new next))))
 
 deeds-push : (turns : List ℕ) (p : Part) (xs ys zs : List Deed) (b : Bool) → xs ≡ ys ++ zs
@@ -427,7 +392,7 @@ advanced_stands u whole next lacking new units last turns did s parts progress s
         idle = ap not (eq-eqb last s.last (sym st.number))
 
         own : (let p = f.last in p.batch) ≡ last
-        own = (all-right (IsNow last units) f.others (f.last ∷ []) (subst (λ (ps : List Part). AllByRecursion (IsNow last units) ps) f.are now)).0.0
+        own = (all_right (IsNow last units) f.others (f.last ∷ []) (subst (λ (ps : List Part). AllByRecursion (IsNow last units) ps) f.are now)).0.0
 
         is-finished : finishes_batch last parts ≡ true
         is-finished =

@@ -2,7 +2,7 @@
 use Rattle.std.proofs.Common.{◌≡◌, ◌⊎◌, inl, inr, ℕ, ◌+◌, ◌-◌, ◌*◌, ◌≤◌, ◌<◌, Bool, true, false, cond, ◌&&◌, ◌||◌, eqb, ltb, leb, List, [], ◌∷◌, ◌++◌, length, drop, Option, Some, None, refl, sym, ap, ◌∙◌, subst, arith, append-nil, append_assoc}
 use Rattle.std.specs.Prelude.{slice_get}
 use Rattle.std.specs.List.{AllByRecursion, list_any}
-use Rattle.std.proofs.lemmas.Bool.{false≢true, eqb-true, eqb-false, ltb-false, leb-true, leb-false, le-leb, and_parts, or_parts}
+use Rattle.std.proofs.lemmas.Bool.{false≢true, eqb-true, eqb-false, ltb-true, ltb-false, leb-true, leb-false, lt-ltb, le-leb, and_parts, or_parts, or_from, or_left}
 use Rattle.std.proofs.lemmas.Option.{slice_get_past}
 use Rattle.rip_course.specs.Parts.{Part, ends_batch, Lacking, is_before, before, behind, lacking_part, with_lack, MayLack}
 use Rattle.rip_course.specs.Sessions.{admission, comes_by, come_by}
@@ -239,3 +239,40 @@ done_leaves_none last units ps h done =
     nil-right : (ys ls : List Part) → ys ++ ls ≡ [] → ls ≡ []
     nil-right [] ls e = e
     nil-right (y ∷ ys) ls e = absurd (no-cons y (ys ++ ls) e)
+
+-- ---- nothing comes without a unit
+
+pub none_come : (last : ℕ) (ps : List Part) → AllByRecursion (λ p. 1 ≤ p.cost) ps → AllByRecursion (λ p. last ≤ p.batch) ps → come last 0 ps ≡ []
+none_come last [] costs behind = refl
+none_come last (p ∷ ps) costs behind = ap (λ (b : Bool). cond b (p ∷ come last 0 ps) []) (or_from (ltb p.batch last) (eqb p.batch last && leb p.cost 0) early dear)
+  where
+    early : ltb p.batch last ≡ false
+    early = by (ltb p.batch last) refl
+      where
+        by : (b : Bool) → ltb p.batch last ≡ b → ltb p.batch last ≡ false
+        by true e = absurd (omega (arith, ltb-true p.batch last e, behind.0))
+        by false e = e
+
+    dear : (eqb p.batch last && leb p.cost 0) ≡ false
+    dear = by (eqb p.batch last) (leb p.cost 0) refl
+      where
+        by : (b c : Bool) → leb p.cost 0 ≡ c → (b && c) ≡ false
+        by true true e = absurd (omega (arith, leb-true p.cost 0 e, costs.0))
+        by true false e = refl
+        by false c e = refl
+
+pub all_right : {A : Type 0} (P : A → Type 0) (xs ys : List A) → AllByRecursion P (xs ++ ys) → AllByRecursion P ys
+all_right P [] ys h = h
+all_right P (x ∷ xs) ys h = all_right P xs ys h.1
+
+pub come_bounds : (last units : ℕ) (p : Part) → has_come last units p ≡ true → p.batch ≤ last
+come_bounds last units p h = by (ltb p.batch last) (eqb p.batch last) refl refl h
+  where
+    by : (b c : Bool) → ltb p.batch last ≡ b → eqb p.batch last ≡ c → (b || (c && leb p.cost units)) ≡ true → p.batch ≤ last
+    by true c e f h = omega (arith, ltb-true p.batch last e)
+    by false true e f h = omega (arith, eqb-true p.batch last f)
+    by false false e f h = absurd (false≢true h)
+
+pub come_earlier : (last units more : ℕ) (p : Part) → p.batch ≤ last → has_come (last + 1) more p ≡ true
+come_earlier last units more p le =
+    or_left (ltb p.batch (last + 1)) (eqb p.batch (last + 1) && leb p.cost more) (lt-ltb p.batch (last + 1) (omega (arith, le)))
