@@ -1,1 +1,7 @@
-pub mod StandingLemmas
+pub mod ItemLemmas
+pub mod PlayLemmas
+pub mod ServedParts
+pub mod ResumeLemmas
+pub mod SliceLemmas
+pub mod TurnLemmas
+pub mod WithinLemmas

@@ -1,1 +1,6 @@
+pub mod Kept
+pub mod Parts
+pub mod Plays
+pub mod Serving
+pub mod Slices
 pub mod Standing

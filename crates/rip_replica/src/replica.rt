@@ -1,104 +1,160 @@
-ghost use Rattle.std.specs.Prelude.{◌≡◌, ◌+◌, ◌<◌, ◌≤◌, ◌^◌, [], length};
+ghost use Rattle.std.specs.Prelude.{◌≡◌, ◌<◌, ◌≤◌, ℕ, ◌-◌, ◌*◌, ◌+◌, length};
 ghost use Rattle.rip_heap.specs.Growth.{Grows};
-ghost use Rattle.rip_runner.specs.Going.{IsWithin, going};
-ghost use Rattle.rip_runner.specs.Laws.{StandsAt};
-ghost use Rattle.rip_replica.specs.Standing.{Advances, planned, played_batch, progress_of, unspent};
+ghost use Rattle.rip_replica.specs.Standing.{IsOnward, TurnsSo, place_behind, spot, turn_behind};
 
+use crate::item::AtItem;
 use rip_heap::{Heap, Host};
-use rip_items::{Batch, Items, Stage};
-use rip_runner::{Outside, Rested, Runner};
+use rip_items::Items;
+use rip_runner::{Rested, Runner};
 use rip_runs::{Close, Evaluator, Phase};
 use std::alloc::Global;
 
-/// What some units of a batch come to.
+/// Where a session stands in its batch.
 #[derive(Clone, Copy, Debug, PartialEq, Eq)]
-pub enum Progress {
-    /// The batch is not at its end, and wants a unit.
-    Busy,
-    Finished(Close),
-    /// Memory was wanting at this item, and all stands as before the step that wanted it.
-    Lacks { item: u32 },
-    /// Memory was wanting in a run of this item.
-    LacksInRun { item: u32 },
+pub enum Place {
+    /// Before its first unit, which is that of no item.
+    First,
+    /// Before the unit of its next item, or at its end.
+    Between,
+    /// In the item that was begun last.
+    Within,
+    /// At no batch that goes on.
+    Idle,
 }
 
-/// A session: its evaluator, what its batch does, its heap, and what stands behind its page.
+/// What a turn comes to. So many units are not spent.
+pub(crate) enum Turn {
+    On(u64),
+    /// No unit is left, and one is wanted.
+    Busy,
+    /// The item under way is a call, which is to be served.
+    Calls(u64),
+    /// The batch is done.
+    Done,
+    /// The item under way ends the session.
+    Ends(Close),
+    /// Memory is wanting in the item under way.
+    Lacks,
+}
+
+/// A session: its evaluator and the batch under way, where it stands in it, its heap, and what stands behind its page.
 #[derive(Drop)]
 pub struct Replica<E, I, T, H> {
-    pub runner: Runner<E, Batch<I, T>>,
+    pub runner: Runner<E, AtItem<I, T>>,
+    pub place: Place,
+    /// The number of the batch. The opening is batch 0.
+    pub number: u64,
     pub heap: Heap,
     pub host: H,
-    /// The units that were spent in the batch.
-    pub spent: u64,
 }
 
 impl<E, I, T, H> Replica<E, I, T, H> {
-    /// Stands before the first unit of a batch of these items.
-    pub fn admit(&mut self, batch: Vec<T>)
+    /// One turn: up to the next unit, or what is waited for.
+    pub(crate) fn turn(&mut self, alloc: Global, program: &E::Program, n: u64) -> Turn
     where
         H: Host,
         E: Evaluator<H>,
         I: Items<H, T>,
-        T: Drop,
-        requires { length batch.items < 2 ^ 32 }
-        ensures stands { (program : E.Program) → StandsAt (E.evaluation program) (played_batch ((E.evaluation program).run self.old.runner.evaluator) self.old.runner.full (I.item_plan self.old.runner.planner.items) batch.items self.old.heap self.old.host) [] 0 (going (planned I.item_plan I.under_way) self.new.runner) self.new.heap self.new.host }
-        ensures world { (self.new.heap ≡ self.old.heap) × (self.new.host ≡ self.old.host) × (self.new.spent ≡ 0) }
+        requires { H.fits self.old.host self.old.heap }
+        ensures fits { H.fits self.new.host self.new.heap }
+        ensures grows { Grows self.old.heap self.new.heap }
+        ensures turns { TurnsSo (E.evaluation program.now)
+            (spot I.item_plan I.under_way self.old) (spot I.item_plan I.under_way self.new) n result }
+        ensures onward { IsOnward (length self.old.runner.planner.batch.items) self.old.place self.old.runner.planner.begun
+            (length self.new.runner.planner.batch.items) self.new.place self.new.runner.planner.begun result }
+        ensures number { self.new.number ≡ self.old.number }
     {
-        self.runner.planner.batch = batch;
-        self.runner.planner.begun = 0;
-        self.runner.planner.stage = Stage::First;
-        self.runner.phase = Phase::Asking;
-        self.runner.fuel = self.runner.full;
-        self.spent = 0;
+        match self.place {
+            Place::First if n == 0 => Turn::Busy,
+            Place::First => {
+                self.place = Place::Between;
+                Turn::On(n - 1)
+            },
+            Place::Between => self.next_item(n),
+            Place::Within => self.within(alloc, program, n),
+            Place::Idle => Turn::Busy,
+        }
     }
 
-    /// Goes on with the batch for at most `n` units. What it waits for is done by the outside within the call.
-    pub fn resume<O: Outside<H, Batch<I, T>>>(
-        &mut self,
-        alloc: Global,
-        program: &E::Program,
-        outside: &mut O,
-        n: u64,
-    ) -> Progress
+    /// Takes the unit of the next item and stands in it; where there is none, the batch is done.
+    fn next_item(&mut self, n: u64) -> Turn
+    where
+        H: Host,
+        E: Evaluator<H>,
+        I: Items<H, T>,
+        requires { self.old.place ≡ Place.Between }
+        ensures turns { (program : E.Program) → TurnsSo (E.evaluation program)
+            (spot I.item_plan I.under_way self.old) (spot I.item_plan I.under_way self.new) n result }
+        ensures onward { IsOnward (length self.old.runner.planner.batch.items) self.old.place self.old.runner.planner.begun
+            (length self.new.runner.planner.batch.items) self.new.place self.new.runner.planner.begun result }
+        ensures number { self.new.number ≡ self.old.number }
+        ensures world { (self.new.heap ≡ self.old.heap) × (self.new.host ≡ self.old.host) }
+    {
+        if self.runner.planner.begun as usize >= self.runner.planner.batch.len() {
+            self.place = Place::Idle;
+            return Turn::Done;
+        }
+        if n == 0 {
+            return Turn::Busy;
+        }
+        self.runner.planner.begun += 1;
+        self.runner.planner.items.begin();
+        self.runner.phase = Phase::Asking;
+        self.runner.fuel = self.runner.full;
+        self.place = Place::Within;
+        Turn::On(n - 1)
+    }
+
+    /// Goes on with the item under way.
+    fn within(&mut self, alloc: Global, program: &E::Program, n: u64) -> Turn
     where
         H: Host,
         E: Evaluator<H>,
         I: Items<H, T>,
         requires fits { H.fits self.old.host self.old.heap }
-        requires counted { self.old.spent + n < 2 ^ 64 }
+        requires within { self.old.place ≡ Place.Within }
         ensures fits { H.fits self.new.host self.new.heap }
         ensures grows { Grows self.old.heap self.new.heap }
-        ensures law { Advances (E.evaluation program.now) (going (planned I.item_plan I.under_way) self.old.runner) self.old.heap self.old.host self.old.spent n (O.changes outside.old) (O.changes outside.new) (going (planned I.item_plan I.under_way) self.new.runner) self.new.heap self.new.host self.new.spent result }
+        ensures turns { TurnsSo (E.evaluation program.now)
+            (spot I.item_plan I.under_way self.old) (spot I.item_plan I.under_way self.new) n result }
+        ensures onward { IsOnward (length self.old.runner.planner.batch.items) self.old.place self.old.runner.planner.begun
+            (length self.new.runner.planner.batch.items) self.new.place self.new.runner.planner.begun result }
+        ensures number { self.new.number ≡ self.old.number }
     {
         let rested = self
             .runner
-            .go_on(alloc, program, &mut self.heap, &mut self.host, outside, n);
-        self.spent += n - unspent(n, &rested);
-        progress_of(self.runner.planner.begun, rested)
+            .resume(alloc, program, &mut self.heap, &mut self.host, n);
+        match rested {
+            Rested::Busy => Turn::Busy,
+            Rested::Awaits(left) => Turn::Calls(left),
+            Rested::Finished(close, left) => {
+                self.place = place_behind(close);
+                turn_behind(close, left)
+            },
+            Rested::Unplanned(_) | Rested::Unrun { .. } => {
+                self.place = Place::Idle;
+                Turn::Lacks
+            },
+        }
     }
 }
 
-/// The units that are not spent where a runner rests.
-fn unspent(n: u64, rested: &Rested) -> u64
-    requires { IsWithin n rested.now }
-    ensures unspent { result ≡ unspent n rested.now }
-    ensures within { result ≤ n }
+/// Where a session stands behind an item that closed so.
+fn place_behind(close: Close) -> Place
+    ensures { result ≡ place_behind close }
 {
-    match rested {
-        Rested::Busy => 0,
-        Rested::Awaits(left) | Rested::Finished(_, left) | Rested::Unplanned(left) => *left,
-        Rested::Unrun { .. } => n,
+    match close {
+        Close::Fine => Place::Between,
+        _ => Place::Idle,
     }
 }
 
-/// What is told of a runner that rests, where this item was begun last.
-fn progress_of(item: u32, rested: Rested) -> Progress
-    ensures { result ≡ progress_of item rested }
+/// What a turn comes to that an item ends.
+fn turn_behind(close: Close, left: u64) -> Turn
+    ensures { result ≡ turn_behind close left }
 {
-    match rested {
-        Rested::Busy => Progress::Busy,
-        Rested::Finished(close, _) => Progress::Finished(close),
-        Rested::Awaits(_) | Rested::Unplanned(_) => Progress::Lacks { item },
-        Rested::Unrun { item } => Progress::LacksInRun { item },
+    match close {
+        Close::Fine => Turn::On(left),
+        _ => Turn::Ends(close),
     }
 }

@@ -3,9 +3,10 @@ ghost use Rattle.rip_heap.specs.Growth.{Grows};
 ghost use Rattle.rip_runner.specs.Going.{Drives, IsWithin, Keeps, going};
 
 use crate::outside::Outside;
+use crate::planner::Planner;
 use crate::runner::{Rested, Runner};
 use rip_heap::{Heap, Host};
-use rip_runs::{Evaluator, Phase, Planner};
+use rip_runs::{Evaluator, Phase};
 use rip_values::NoMemory;
 use std::alloc::Global;
 
@@ -28,6 +29,7 @@ impl<E, P> Runner<E, P> {
         ensures fits { H.fits host.new heap.new }
         ensures grows { Grows heap.old heap.new }
         ensures keeps { Keeps (E.evaluation program.now) (going P.plan self.old) (going P.plan self.new) }
+        ensures kept { P.kept self.old.planner self.new.planner }
         ensures law { Drives (E.evaluation program.now) (going P.plan self.old) heap.old host.old n (O.changes outside.old) (O.changes outside.new) (going P.plan self.new) heap.new host.new result }
         ensures within { IsWithin n result }
     {

@@ -1,9 +1,10 @@
 ghost use Rattle.rip_runner.specs.Going.{going};
 ghost use Rattle.rip_runner.specs.Laws.{CutsAdd, PlainCloses, PlansFold, PlaysOnce};
 
+use crate::planner::Planner;
 use crate::runner::Runner;
 use rip_heap::{Heap, Host};
-use rip_runs::{Evaluator, Planner};
+use rip_runs::Evaluator;
 
 /// A law, and no work: where a runner stands at a batch after j units, it stands there after j + n when n more are spent,
 /// with what the outside changed in between. So two calls are one, however the units are cut.

@@ -31,8 +31,10 @@
 mod drive;
 mod laws;
 mod outside;
+mod planner;
 mod runner;
 
 pub use laws::{cuts_add, plain_closes, plans_fold, plays_once};
 pub use outside::Outside;
+pub use planner::Planner;
 pub use runner::{Rested, Runner};

@@ -3,8 +3,9 @@ ghost use Rattle.rip_heap.specs.Growth.{Grows};
 ghost use Rattle.rip_runner.specs.Going.{BeginsRun, IsOnward, IsWithin, IsWithinTurn, Keeps, Moves, Rests, going, turns, weight};
 ghost use Rattle.rip_runs.specs.Plan.{opened};
 
+use crate::planner::Planner;
 use rip_heap::{Heap, Host};
-use rip_runs::{Advance, Close, Evaluator, Opening, Phase, Planner, Step, Stop};
+use rip_runs::{Advance, Close, Evaluator, Opening, Phase, Step, Stop};
 use rip_values::{NoMemory, Refused};
 use std::alloc::Global;
 
@@ -72,6 +73,7 @@ impl<E, P> Runner<E, P> {
         ensures fits { H.fits host.new heap.new }
         ensures grows { Grows heap.old heap.new }
         ensures keeps { Keeps (E.evaluation program.now) (going P.plan self.old) (going P.plan self.new) }
+        ensures kept { P.kept self.old.planner self.new.planner }
         ensures law { Rests (E.evaluation program.now) [] (going P.plan self.old) heap.old host.old n (going P.plan self.new) heap.new host.new result }
         ensures within { IsWithin n result }
         ensures later { turns (P.steps self.new.planner) self.new.phase ≤ turns (P.steps self.old.planner) self.old.phase }
@@ -101,6 +103,7 @@ impl<E, P> Runner<E, P> {
         ensures fits { H.fits host.new heap.new }
         ensures grows { Grows heap.old heap.new }
         ensures keeps { Keeps (E.evaluation program.now) (going P.plan self.old) (going P.plan self.new) }
+        ensures kept { P.kept self.old.planner self.new.planner }
         ensures moves { Moves (E.evaluation program.now) (going P.plan self.old) heap.old host.old n (going P.plan self.new) heap.new host.new result }
         ensures within { IsWithinTurn n result }
         ensures onward { IsOnward result (turns (P.steps self.new.planner) self.new.phase) (turns (P.steps self.old.planner) self.old.phase) }
@@ -136,6 +139,7 @@ impl<E, P> Runner<E, P> {
         ensures fits { H.fits host.new heap.new }
         ensures grows { Grows heap.old heap.new }
         ensures keeps { Keeps (E.evaluation program.now) (going P.plan self.old) (going P.plan self.new) }
+        ensures kept { P.kept self.old.planner self.new.planner }
         ensures moves { Moves (E.evaluation program.now) (going P.plan self.old) heap.old host.old n (going P.plan self.new) heap.new host.new result }
         ensures within { IsWithinTurn n result }
         ensures onward { IsOnward result (turns (P.steps self.new.planner) self.new.phase) (turns (P.steps self.old.planner) Phase.Asking) }
@@ -212,6 +216,7 @@ impl<E, P> Runner<E, P> {
         ensures fits { H.fits host.new heap.new }
         ensures grows { Grows heap.old heap.new }
         ensures keeps { Keeps (E.evaluation program.now) (going P.plan self.old) (going P.plan self.new) }
+        ensures kept { P.kept self.old.planner self.new.planner }
         ensures moves { Moves (E.evaluation program.now) (going P.plan self.old) heap.old host.old n (going P.plan self.new) heap.new host.new result }
         ensures within { IsWithinTurn n result }
         ensures onward { IsOnward result (turns (P.steps self.new.planner) self.new.phase) (turns (P.steps self.old.planner) (Phase.Running item)) }

@@ -9,6 +9,7 @@ invariant-loop-units g l = record {
   fits : g.H.Host.fits l.host l.heap;
   grows : Grows l.fn.heap l.heap;
   keeps : Keeps (g.E.Evaluator.evaluation l.program) (going g.P.Planner.plan l.fn.self) (going g.P.Planner.plan l.self);
+  kept : g.P.Planner.kept l.fn.self.planner l.self.planner;
   leads : LeadsBy (g.E.Evaluator.evaluation l.program) (going g.P.Planner.plan l.fn.self) l.fn.heap l.fn.host l.fn.n (g.O.Outside.changes l.fn.outside) (g.O.Outside.changes l.outside) (going g.P.Planner.plan l.self) l.heap l.host l.left;
   within : l.left ≤ l.fn.n;
 }

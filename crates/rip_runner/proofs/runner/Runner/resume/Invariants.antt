@@ -8,6 +8,7 @@ invariant-loop-units g l = record {
   fits : g.H.Host.fits l.host l.heap;
   grows : Grows l.fn.heap l.heap;
   keeps : Keeps (g.E.Evaluator.evaluation l.program) (going g.P.Planner.plan l.fn.self) (going g.P.Planner.plan l.self);
+  kept : g.P.Planner.kept l.fn.self.planner l.self.planner;
   leads : LeadsWith (g.E.Evaluator.evaluation l.program) [] (going g.P.Planner.plan l.fn.self) l.fn.heap l.fn.host l.fn.n (going g.P.Planner.plan l.self) l.heap l.host l.left;
   within : l.left ≤ l.fn.n;
   later : turns (g.P.Planner.steps l.self.planner) l.self.phase ≤ turns (g.P.Planner.steps l.fn.self.planner) l.fn.self.phase;

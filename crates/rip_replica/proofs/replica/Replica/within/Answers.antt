@@ -1,0 +1,60 @@
+use Rattle.std.proofs.Common.{ap, subst, sym}
+use Rattle.rip_runner.specs.Going.{going}
+use Rattle.rip_replica.specs.declared.replica.Place.{Place}
+use Rattle.rip_replica.specs.declared.replica.Place.TheVariants.{Idle}
+use Rattle.rip_replica.specs.declared.replica.Turn.{Turn}
+use Rattle.rip_replica.specs.declared.replica.Turn.TheVariants.{Busy, Calls, Lacks}
+use Rattle.rip_replica.specs.Standing.{Spot, Turns, place_behind, planned, spot, turn_behind}
+use Rattle.rip_replica.proofs.WithinLemmas.{kept_spot, within_awaits, within_busy, within_closed, within_lacks}
+use Rattle.rip_replica.proofs.replica.Replica.within.Goals as goal
+
+pub returns-in-Busy-clause-turns : goal.returns-in-Busy-clause-turns
+returns-in-Busy-clause-turns g c = λ d may batch next from base spent ahead stands.
+    let e = g.E.Evaluator.evaluation c.args.program.now in
+    let at = spot g.I.Items.item_plan g.I.Items.under_way c.args.self.now in
+    let run = c.resume-rested in
+    let r = going (planned g.I.Items.under_way) run.new.self in
+    let T : Spot _ _ _ → Type 0 = λ to. Turns e d may batch next to from base spent c.args.n ahead Busy in
+    kept_spot T at r c.args.self.now.place run.new.heap run.new.host (g.I.Items.item_plan run.new.self.planner.items) run.new.self.planner.batch.items run.new.self.planner.begun
+    run.ensures.kept.2 (ap (λ b. b.items) run.ensures.kept.0) run.ensures.kept.1
+    (within_busy e d may batch next at c.args.n from base spent ahead r run.new.heap run.new.host c.requires.within run.ensures.keeps c.in-Busy.ensures.law stands)
+
+pub returns-in-Awaits-clause-turns : goal.returns-in-Awaits-clause-turns
+returns-in-Awaits-clause-turns g c = λ d may batch next from base spent ahead stands.
+    let e = g.E.Evaluator.evaluation c.args.program.now in
+    let at = spot g.I.Items.item_plan g.I.Items.under_way c.args.self.now in
+    let run = c.resume-rested in
+    let r = going (planned g.I.Items.under_way) run.new.self in
+    let T : Spot _ _ _ → Type 0 = λ to. Turns e d may batch next to from base spent c.args.n ahead (Calls c.in-Awaits.left) in
+    kept_spot T at r c.args.self.now.place run.new.heap run.new.host (g.I.Items.item_plan run.new.self.planner.items) run.new.self.planner.batch.items run.new.self.planner.begun
+    run.ensures.kept.2 (ap (λ b. b.items) run.ensures.kept.0) run.ensures.kept.1
+    (within_awaits e d may batch next at c.args.n c.in-Awaits.left from base spent ahead r run.new.heap run.new.host c.requires.within run.ensures.keeps c.in-Awaits.ensures.law c.in-Awaits.ensures.within stands)
+
+pub returns-in-Finished-clause-turns : goal.returns-in-Finished-clause-turns
+returns-in-Finished-clause-turns g c = λ d may batch next from base spent ahead stands.
+    let e = g.E.Evaluator.evaluation c.args.program.now in
+    let at = spot g.I.Items.item_plan g.I.Items.under_way c.args.self.now in
+    let run = c.resume-rested in
+    let r = going (planned g.I.Items.under_way) run.new.self in
+    let close = c.in-Finished.close in
+    let ip = g.I.Items.item_plan run.new.self.planner.items in
+    let all = run.new.self.planner.batch.items in
+    let begun = run.new.self.planner.begun in
+    let T : Spot _ _ _ → Type 0 = λ to. Turns e d may batch next to from base spent c.args.n ahead (turn_behind close c.in-Finished.left) in
+    let P : Place → Type 0 = λ p. T (record { going = r; item_plan = ip; all = all; begun = begun; place = p; world = run.new.heap; page = run.new.host }) in
+    let W : Turn → Type 0 = λ turn. Turns e d may batch next (record { going = r; item_plan = ip; all = all; begun = begun; place = c.place_behind-self.result; world = run.new.heap; page = run.new.host }) from base spent c.args.n ahead turn in
+    subst W (sym c.turn_behind.ensures) (subst P (sym c.place_behind-self.ensures)
+    (kept_spot T at r (place_behind close) run.new.heap run.new.host ip all begun
+    run.ensures.kept.2 (ap (λ b. b.items) run.ensures.kept.0) run.ensures.kept.1
+    (within_closed e d may batch next at c.args.n c.in-Finished.left from base spent ahead r run.new.heap run.new.host close c.requires.within run.ensures.keeps c.in-Finished.ensures.law c.in-Finished.ensures.within stands)))
+
+pub returns-in-Unplanned-clause-turns : goal.returns-in-Unplanned-clause-turns
+returns-in-Unplanned-clause-turns g c = λ d may batch next from base spent ahead stands.
+    let e = g.E.Evaluator.evaluation c.args.program.now in
+    let at = spot g.I.Items.item_plan g.I.Items.under_way c.args.self.now in
+    let run = c.resume-rested in
+    let r = going (planned g.I.Items.under_way) run.new.self in
+    let T : Spot _ _ _ → Type 0 = λ to. Turns e d may batch next to from base spent c.args.n ahead Lacks in
+    kept_spot T at r Idle run.new.heap run.new.host (g.I.Items.item_plan run.new.self.planner.items) run.new.self.planner.batch.items run.new.self.planner.begun
+    run.ensures.kept.2 (ap (λ b. b.items) run.ensures.kept.0) run.ensures.kept.1
+    (within_lacks e d may batch next at c.args.n from base spent ahead r run.new.heap run.new.host Idle c.requires.within stands)
