@@ -29,22 +29,18 @@ pub position-line : (t rest : List ℕ) → IsOneLine t → position (λ byte. b
 position-line t rest one =
     position_from-zero (λ byte. byte == 10) ((t ++ 10 ∷ []) ++ rest) ∙ (position_from-line 0 t rest one ∙ ap Some (omega arith))
 
--- bytes that begin with one line begin with no other
-pub same_line : (t r rest : List ℕ) → IsOneLine t → IsOneLine r → BeginsWithLine ((t ++ 10 ∷ []) ++ rest) r → t ≡ r
-same_line [] [] rest first other begins = refl
-same_line [] (y ∷ r) rest first other begins =
-    let e : Some 10 ≡ Some y = begins.text_first 0 (omega arith) in
-    absurd (All-head (λ byte. byte ≢ 10) y r other (cc))
-same_line (x ∷ t) [] rest first other begins =
-    let e : Some x ≡ Some 10 = begins.then_feed in
-    absurd (All-head (λ byte. byte ≢ 10) x t first (cc))
-same_line (x ∷ t) (y ∷ r) rest first other begins =
+-- a line begins with no other text of its length
+pub same_line : (t r rest : List ℕ) → length t ≡ length r → BeginsWithLine ((t ++ 10 ∷ []) ++ rest) r → t ≡ r
+same_line [] [] rest long begins = refl
+same_line [] (y ∷ r) rest long begins = absurd (omega arith)
+same_line (x ∷ t) [] rest long begins = absurd (omega arith)
+same_line (x ∷ t) (y ∷ r) rest long begins =
     let e : Some x ≡ Some y = begins.text_first 0 (omega arith) in
     let tail : BeginsWithLine ((t ++ 10 ∷ []) ++ rest) r = record {
       text_first = λ k below. begins.text_first (suc k) (omega arith);
       then_feed = begins.then_feed;
     } in
-    let same : t ≡ r = same_line t r rest (All-tail (λ byte. byte ≢ 10) x t first) (All-tail (λ byte. byte ≢ 10) y r other) tail in
+    let same : t ≡ r = same_line t r rest (omega arith) tail in
     cc
 
 own_text : (t rest : List ℕ) (k : ℕ) → k < length t → slice_get ((t ++ 10 ∷ []) ++ rest) k ≡ Some (slice_index t k)
@@ -60,24 +56,19 @@ own_feed (x ∷ t) rest = own_feed t rest
 pub own_line : (t rest : List ℕ) → BeginsWithLine ((t ++ 10 ∷ []) ++ rest) t
 own_line t rest = record { text_first = own_text t rest; then_feed = own_feed t rest }
 
--- no byte waits exactly where no call does
-pub no_line : (ws : List (List ℕ)) → length (flat_map line_of ws) ≡ 0 → ws ≡ []
-no_line [] none = refl
-no_line (t ∷ ts) none =
-    absurd (omega (arith, length-append (t ++ 10 ∷ []) (flat_map line_of ts), length-append t (10 ∷ [])))
-
 -- the bytes of the lines
 pub length-lines : (ws : List (List ℕ)) → length (flat_map line_of ws) ≡ sum_by (λ text. length text + 1) ws
 length-lines [] = refl
 length-lines (t ∷ ts) =
     omega (arith, length-append (t ++ 10 ∷ []) (flat_map line_of ts), length-append t (10 ∷ []), length-lines ts, sum_by-cons (λ text. length text + 1) t ts)
 
--- the front is the text with which the bytes begin
-pub front_begins : (ws : List (List ℕ)) (r : List ℕ) → All IsOneLine ws → IsOneLine r → BeginsWithLine (flat_map line_of ws) r → slice_get ws 0 ≡ Some r
-front_begins [] r all one begins =
-    let e : ◌≡◌ {A = Option ℕ} None (Some 10) = begins.then_feed in cc
-front_begins (t ∷ ts) r all one begins =
-    ap Some (same_line t r (flat_map line_of ts) (All-head IsOneLine t ts all) one begins)
+-- the front is the text of its length with which the bytes begin
+pub front_begins : (ws : List (List ℕ)) (r : List ℕ) → All IsOneLine ws → position (λ byte. byte == 10) (flat_map line_of ws) ≡ Some (length r) → BeginsWithLine (flat_map line_of ws) r → slice_get ws 0 ≡ Some r
+front_begins [] r all found begins = absurd (cc)
+front_begins (t ∷ ts) r all found begins =
+    let e = position-line t (flat_map line_of ts) (All-head IsOneLine t ts all) in
+    let long : length t ≡ length r = cc in
+    ap Some (same_line t r (flat_map line_of ts) long begins)
 
 pub begins_front : (ws : List (List ℕ)) (r : List ℕ) → slice_get ws 0 ≡ Some r → BeginsWithLine (flat_map line_of ws) r
 begins_front [] r e = absurd (cc)
@@ -103,3 +94,11 @@ front_taken (t ∷ ts) end all found =
     let e = position-line t (flat_map line_of ts) (All-head IsOneLine t ts all) in
     let at : end ≡ length t = cc in
     rw (at, append_assoc, take-append_seam) refl
+
+-- where there is a line feed, a call waits, and it ends the front
+pub end_is_of_front : (ws : List (List ℕ)) (end : ℕ) (r : List ℕ) → All IsOneLine ws → position (λ byte. byte == 10) (flat_map line_of ws) ≡ Some end → slice_get ws 0 ≡ Some r → end ≡ length r
+end_is_of_front [] end r all found front = absurd (cc)
+end_is_of_front (t ∷ ts) end r all found front =
+    let e = position-line t (flat_map line_of ts) (All-head IsOneLine t ts all) in
+    let same : t ≡ r = cc in
+    rw (← same) cc

@@ -1,13 +1,14 @@
 //! What a queue no longer holds. It exists in proofs alone.
 ghost use Rattle.std.specs.Prelude.{◌≡◌, List, ℕ, ◌+◌, [], ◌∷◌, ◌++◌};
 ghost use Rattle.std.specs.Borrow.{ftrue};
+ghost use Rattle.rip_calls.specs.Calls.{MadeCall};
 
 use std::marker::Model;
 
 /// All calls that were made, and how many of them were taken. It takes no room, and its calls do nothing when they run.
 #[derive(Drop)]
 pub(crate) struct Past {
-    pub ghost made: { List (List ℕ) },
+    pub ghost made: { List MadeCall },
     pub ghost taken: { ℕ },
 }
 
@@ -15,10 +16,11 @@ impl Model for Past {
     ghost also_owns = { λ _. ftrue };
 }
 
-/// The text of a call.
+/// A call with its callback.
 #[derive(Clone, Copy, Drop)]
 pub(crate) struct Call<'a> {
     pub(crate) text: &'a [u8],
+    pub(crate) callback: Option<u32>,
 }
 
 impl Past {
@@ -31,7 +33,9 @@ impl Past {
     /// One more call was made.
     #[inline(always)]
     pub(crate) fn with(&self, _call: &Call<'_>) -> Past
-        ensures { result ≡ record self.now { made = self.now.made ++ _call.now.text.now ∷ [] } }
+        ensures { result ≡ record self.now {
+          made = self.now.made ++ record { text = _call.now.text.now; callback = _call.now.callback } ∷ [];
+        } }
     {
         Past {}
     }

@@ -1,3 +1,12 @@
-pub mod Plain
+pub mod Adding
+pub mod Calling
+pub mod Chars
+pub mod Judged
+pub mod Judging
+pub mod Lines
+pub mod Placing
+pub mod Searching
 pub mod Telling
-pub mod Walking
+pub mod ToldData
+pub mod Utf16
+pub mod Writing

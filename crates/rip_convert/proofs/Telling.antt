@@ -13,29 +13,11 @@ use Rattle.rip_data.proofs.DataLemmas.{utf8_of-IsSameText, IsUtf16-IsSameText}
 use Rattle.rip_data.specs.Datum.{number, text, array, object, Elements, no_elements, element, Fields, no_fields, field, data_of, items_of, members_of, number_of_whole, AreData, HaveData, AreInOrder}
 use Rattle.rip_convert.specs.Told.{IsSpelt, IsTold, AreTold, HaveTold}
 
-pub spelt : (bytes units : List ℕ) → IsSameText bytes units → IsSpelt bytes
-spelt bytes units same = (units, (IsUtf16-IsSameText bytes units same, utf8_of-IsSameText bytes units same))
-
-whole-number : (z : ℤ) → number_of_whole z ≡ of_integer z
-whole-number (pos n) = refl
-whole-number (negsuc n) = refl
-
-pub told_number : (z : ℤ) (v : JsonValue) → IsWhole z → view v ≡ json.number (of_integer z) → IsTold (view v)
-told_number z v h e = (number z, (h, ap json.number (whole-number z) ∙ sym e))
-
-pub told_text : (bytes : List ℕ) (v : JsonValue) → IsSpelt bytes → view v ≡ json.string bytes → IsTold (view v)
-told_text bytes v h e = (text h.0, (h.1.0, ap json.string h.1.1 ∙ sym e))
-
 elements : (ds : Items) → AreTold ds → (ts : Elements) × (AreData ts × (items_of ts ≡ ds))
 elements no_items h = (no_elements, (tt, refl))
 elements (item d ds) h =
     let rest = elements ds h.1 in
     (element h.0.0 rest.0, ((h.0.1.0, rest.1.0), ap₂ item h.0.1.1 rest.1.1))
-
-pub told_array : (ds : Items) (v : JsonValue) → AreTold ds → view v ≡ json.array ds → IsTold (view v)
-told_array ds v h e =
-    let all = elements ds h in
-    (array all.0, (all.1.0, ap json.array all.1.1 ∙ sym e))
 
 fields : (ms : Members) → HaveTold ms → (fs : Fields) × (HaveData fs × (members_of fs ≡ ms))
 fields no_members h = (no_fields, (tt, refl))
@@ -44,15 +26,6 @@ fields (member k d ms) h =
     let name = h.0 in
     let value = h.1.0 in
     (field name.0 value.0 rest.0, ((name.1.0, value.1.0, rest.1.0), ap (λ b. member b (data_of value.0) (members_of rest.0)) name.1.1 ∙ ap₂ (member k) value.1.1 rest.1.1))
-
-pub told_object : (ms : Members) (v : JsonValue) → HaveTold ms → AreInOrder ms → view v ≡ json.object ms → IsTold (view v)
-told_object ms v h order e =
-    let all = fields ms h in
-    (object all.0, ((all.1.0, subst AreInOrder (sym all.1.1) order), ap json.object all.1.1 ∙ sym e))
-
-pub told_push : (vs : List JsonValue) (v : JsonValue) → AreTold (items_view vs) → IsTold (view v) → AreTold (items_view (vs ++ v ∷ []))
-told_push [] v h new = (new, tt)
-told_push (x ∷ vs) v h new = (h.0, told_push vs v h.1 new)
 
 put-at : (o : Ordering) (k l : List ℕ) (d e : Data) (ms : Members) → IsSpelt k → IsTold d → HaveTold (member l e ms) → HaveTold (put k d ms)
     → HaveTold (match_ordering o (member k d (member l e ms)) (member l d ms) (member l e (put k d ms)))
@@ -63,3 +36,15 @@ put-at Greater k l d e ms name value h further = (h.0, (h.1.0, further))
 pub told_put : (k : List ℕ) (d : Data) (ms : Members) → IsSpelt k → IsTold d → HaveTold ms → HaveTold (put k d ms)
 told_put k d no_members name value h = (name, (value, tt))
 told_put k d (member l e ms) name value h = put-at (slice_cmp nat_cmp k l) k l d e ms name value h (told_put k d ms name value h.1.1)
+
+pub told_items : (ds : Items) → AreTold ds → IsTold (json.array ds)
+told_items ds h = let all = elements ds h in (array all.0, (all.1.0, ap json.array all.1.1))
+
+pub told_members : (ms : Members) → HaveTold ms → AreInOrder ms → IsTold (json.object ms)
+told_members ms h order = let all = fields ms h in (object all.0, ((all.1.0, subst AreInOrder (sym all.1.1) order), ap json.object all.1.1))
+
+pub told_whole : (z : ℤ) → IsWhole z → IsTold (json.number (number_of_whole z))
+told_whole z h = (number z, (h, refl))
+
+pub told_spelt : (bytes : List ℕ) → IsSpelt bytes → IsTold (json.string bytes)
+told_spelt bytes h = (text h.0, (h.1.0, ap json.string h.1.1))

@@ -1,11 +1,11 @@
 -- Data made of values: what the arguments of a call to the server are as JSON (RFC 8259).
-use Rattle.std.specs.Prelude.{◌≡◌, ℕ, zero, suc, ◌-◌, nat_le, if◌then◌else◌, List, [], ◌∷◌, ◌++◌, length, Option, None, Some, Result, Ok, Err, String, string_bytes}
+use Rattle.std.specs.Prelude.{ℕ, zero, suc, ◌-◌, nat_le, if◌then◌else◌, List, [], ◌∷◌, ◌++◌, length, Option, None, Some, Result, Ok, Err}
 use Rattle.std.specs.Char.Utf16.{has_unpaired_surrogate}
-use Rattle.std.specs.declared.alloc.Global.{Global}
+use Rattle.json.specs.Print.{quoted}
 use Rattle.serde_json.specs.Data.{Data, null, boolean, number, string, array, object, Members, no_members, put}
-use Rattle.serde_json.specs.View.{view, items_of}
+use Rattle.serde_json.specs.View.{items_of}
 use Rattle.serde_json.specs.Written.{compact_text}
-use Rattle.serde_json.specs.declared.value.Value.{Value as JsonValue}
+use Rattle.rip_values.specs.declared.value.Span.{Span}
 use Rattle.rip_values.specs.declared.value.Value.{Value}
 use Rattle.rip_values.specs.declared.value.Value.TheVariants.{Undefined, Null, Bool as Boolean, Num, NaN, Text, Object}
 use Rattle.rip_values.specs.declared.value.Fault.{Fault}
@@ -13,8 +13,6 @@ use Rattle.rip_values.specs.declared.value.Fault.TheVariants.{BadArgument, LoneS
 use Rattle.rip_values.specs.Pool.{Texts, text_at}
 use Rattle.rip_heap.specs.declared.holder.Holder.{Holder}
 use Rattle.rip_heap.specs.declared.holder.Holder.TheVariants.{PlainObject, ArrayObject, OtherObject}
-use Rattle.rip_heap.specs.declared.outcome.Abrupt.{Abrupt}
-use Rattle.rip_heap.specs.declared.outcome.Abrupt.TheVariants.{TypeError, Fault as AtFault, Limit as AtLimit, Memory}
 use Rattle.rip_heap.specs.declared.property.Property.{Property}
 use Rattle.rip_heap.specs.Arrays.{elements_at}
 use Rattle.rip_heap.specs.Holders.{holder_of}
@@ -94,26 +92,14 @@ text_judged (Err fault) = Err fault
 abbrev pub arguments_text : World → Value → Result (List ℕ) Fault
 arguments_text w v = text_judged (walked 8 w v 16384)
 
--- ANSWERS
+-- the text of a call, `[NAME,ARGS]` with no space: a name in UTF-8 and the canonical text of arguments
+abbrev pub call_line : List ℕ → List ℕ → List ℕ
+call_line name args = 91 ∷ (quoted name ++ 44 ∷ (args ++ 93 ∷ []))
 
--- the cause is the fault that ends a walk. Of want of memory nothing is said; no limit is passed, and no TypeError thrown
-abbrev pub Fails : {A : Type 0} → Result A Fault → Abrupt → Type 0
-Fails meant (AtFault fault) = meant ≡ Err fault
-Fails meant TypeError = ⊥
-Fails meant (AtLimit limit) = ⊥
-Fails meant Memory = Unit {0}
+abbrev pub line_judged : List ℕ → Result (List ℕ) Fault → Result (List ℕ) Fault
+line_judged name (Ok args) = Ok (call_line name args)
+line_judged name (Err fault) = Err fault
 
--- the answer is this text, or why there is none
-abbrev pub IsText : Result (List ℕ) Fault → Result (List ℕ) Abrupt → Type 0
-IsText meant (Ok text) = meant ≡ Ok text
-IsText meant (Err cause) = Fails meant cause
-
--- the answer is what this walk finds, whose data is held as a value of `serde_json`
-abbrev pub Walks : Walk Data → Result (JsonValue × ℕ) Abrupt → Type 0
-Walks meant (Ok found) = meant ≡ Ok (view found.0, found.1)
-Walks meant (Err cause) = Fails meant cause
-
--- the same of a text or a name, whose bytes are held as a `String`
-abbrev pub Spells : Walk (List ℕ) → Result (String Global × ℕ) Abrupt → Type 0
-Spells meant (Ok found) = meant ≡ Ok (string_bytes found.0, found.1)
-Spells meant (Err cause) = Fails meant cause
+-- the canonical text of a call of this name, or the first fault on the walk over its arguments
+abbrev pub call_text : World → Span → Value → Result (List ℕ) Fault
+call_text w name args = line_judged (utf8_of (text_at w.pool name)) (arguments_text w args)

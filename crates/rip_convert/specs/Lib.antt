@@ -2,3 +2,4 @@ pub mod Arguments
 pub mod Pieces
 pub mod Told
 pub mod Values
+pub mod Written

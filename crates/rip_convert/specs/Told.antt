@@ -2,6 +2,7 @@
 use Rattle.std.specs.Prelude.{◌≡◌, ℕ, List, ⊤}
 use Rattle.serde_json.specs.Data.{Data, Items, no_items, item, Members, no_members, member}
 use Rattle.rip_values.specs.Text.{IsUtf16}
+use Rattle.rip_convert.specs.Arguments.{call_line}
 use Rattle.rip_data.specs.Datum.{Tree, IsDatum, data_of, utf8_of, canonical_text}
 
 -- the bytes are the UTF-8 of a text of UTF-16 units
@@ -25,3 +26,7 @@ HaveTold (member k d ms) = IsSpelt k × (IsTold d × HaveTold ms)
 -- the text is the canonical one of a datum that is well made
 abbrev pub IsCanonical : List ℕ → Type 0
 IsCanonical text = (t : Tree) × (IsDatum t × (canonical_text t ≡ text))
+
+-- the text is that of a call of this name in UTF-8, whose arguments are a datum that is well made
+abbrev pub IsCallOf : List ℕ → List ℕ → Type 0
+IsCallOf name text = (args : List ℕ) × (IsCanonical args × (call_line name args ≡ text))

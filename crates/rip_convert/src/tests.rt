@@ -1,7 +1,7 @@
 use super::*;
 use rip_data::read_datum;
-use rip_heap::{Abrupt, Class, Heap, HeapLimits};
-use rip_values::{Fault, Limit, Refused, Units, Value, Whole};
+use rip_heap::{Class, Heap, HeapLimits};
+use rip_values::{Limit, Refused, Span, Units, Value, Whole};
 use std::alloc::Global;
 use std::test::Fail;
 
@@ -81,11 +81,13 @@ fn nested(alloc: Global, heap: &mut Heap, levels: u32, inner: Value) -> Result<V
     Ok(value)
 }
 
+// The text of a call without a name, or its fault.
+#[tactic(auto, using(crate::proofs::Calling::no_name))]
 fn told(alloc: Global, heap: &Heap, args: Value) -> Result<String, Fail> {
-    match arguments_text(alloc, heap, args) {
-        Ok(text) => Ok(String::from_utf8(Vec::from_slice(alloc, text.as_slice())?)?),
-        Err(Abrupt::Fault(fault)) => Ok(format!(in alloc; "{fault:?}")?),
-        Err(_) => Err(Fail::from("memory")),
+    let mut row = CallRow::make(alloc)?;
+    match row.write_call(heap, Span { start: 0, count: 0 }, args) {
+        Ok(text) => Ok(String::from_utf8(Vec::from_slice(alloc, text)?)?),
+        Err(fault) => Ok(format!(in alloc; "{fault:?}")?),
     }
 }
 
@@ -120,8 +122,8 @@ fn values_become_data(rt: HostRuntime) -> Result<(), Fail> {
     )?;
     let faults = array_of(alloc, heap, &[lone, Value::Undefined])?;
     let rows = [
-        (all, r#"["a\"\\\né😀",{"a":7,"ab":true,"b":null},{}]"#),
-        (eight, "[[[[[[[[null]]]]]]]]"),
+        (all, r#"["",["a\"\\\né😀",{"a":7,"ab":true,"b":null},{}]]"#),
+        (eight, r#"["",[[[[[[[[null]]]]]]]]]"#),
         (nine, "BadArgument"),
         (Value::Object(cycle), "BadArgument"),
         (Value::Object(error), "BadArgument"),

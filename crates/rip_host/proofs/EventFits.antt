@@ -73,6 +73,8 @@ fits-event s w x f made nodes = record {
   events_made = all-replaced (λ e. e.object < first_object + length w.objects) x s.events.events made f.events_made;
   event_nodes = all-replaced AreNodes x s.events.events nodes f.event_nodes;
   listeners_on_nodes = f.listeners_on_nodes;
+  callbacks = f.callbacks;
+  reply_callbacks = f.reply_callbacks;
 }
 
 pub event-made : (s : Browser) (w : World) (object : ℕ) (e : Event) → Fits s w → event_of s.events.events object ≡ Some e → e.object < first_object + length w.objects

@@ -1,5 +1,9 @@
 -- What a browser goes with, and what each answer keeps.
-use Rattle.std.proofs.Common.{◌≡◌, length, refl, sym, ap, subst, arith}
+use Rattle.std.proofs.Common.{◌≡◌, ℕ, ◌+◌, nat_le, Bool, true, false, cond, Option, List, [], ◌∷◌, ◌++◌, length, refl, sym, ap, subst, arith}
+use Rattle.std.specs.Prelude.{All, IfSome}
+use Rattle.std.proofs.lemmas.List.Elements.{All-push}
+use Rattle.rip_values.specs.declared.value.Limit.TheVariants.{Queue}
+use Rattle.rip_values.specs.declared.value.Value.TheVariants.{Undefined, Object}
 use Rattle.rip_values.specs.declared.value.Value.{Value as ScriptValue}
 use Rattle.rip_values.specs.Pool.{Texts}
 use Rattle.rip_heap.specs.declared.host.HostDone.{HostDone}
@@ -10,6 +14,9 @@ use Rattle.rip_heap.specs.World.{World}
 use Rattle.rip_dom.specs.Tree.{Tree}
 use Rattle.rip_nodes.specs.Answers.{AddsTexts, IsAnswered, KeepsTree}
 use Rattle.rip_host.specs.declared.browser.Browser.{Browser}
+use Rattle.rip_calls.specs.Calls.{Calls, used, with_call}
+use Rattle.rip_host.specs.declared.replies.WaitingReply.{WaitingReply}
+use Rattle.rip_host.specs.Ripley.{call_made, of_calls}
 use Rattle.rip_host.specs.Stays.{fits-stays}
 use Rattle.rip_host.specs.Visit.{Fits, KeepsBrowser, with_tree}
 
@@ -29,6 +36,8 @@ fits-tree s w u f e = record {
   events_made = f.events_made;
   event_nodes = f.event_nodes;
   listeners_on_nodes = f.listeners_on_nodes;
+  callbacks = f.callbacks;
+  reply_callbacks = f.reply_callbacks;
 }
 
 -- where only texts are added, no function is made
@@ -107,3 +116,51 @@ keeps-value old new s r v f a b = record { fits = f; keeps = keeps-texts old new
 
 pub keeps-value-here : (w : World) (s r : Browser) (v : ScriptValue) → Fits r w → Belongs w v → KeepsBrowser w s (Value v) w r
 keeps-value-here w s r v f b = keeps-value w w s r v f (adds-nothing w) b
+
+-- so it is with one call more, whose callback is of the world
+pub fits-call : (s : Browser) (w : World) (text : List ℕ) (callback : Option ℕ) → Fits s w → IfSome callback (λ f. Belongs w (Object f)) → Fits (record s { calls = with_call s.calls text callback }) w
+fits-call s w text callback f b = record {
+  nodes = f.nodes;
+  body = f.body;
+  class = f.class;
+  class_stands = f.class_stands;
+  form_room = f.form_room;
+  listener_room = f.listener_room;
+  listener_nodes = f.listener_nodes;
+  listeners_charged = f.listeners_charged;
+  event_room = f.event_room;
+  events_charged = f.events_charged;
+  events_made = f.events_made;
+  event_nodes = f.event_nodes;
+  listeners_on_nodes = f.listeners_on_nodes;
+  callbacks = All-push (λ m. IfSome m.callback (λ f. Belongs w (Object f))) s.calls.made (record { text = text; callback = callback }) f.callbacks b;
+  reply_callbacks = f.reply_callbacks;
+}
+
+-- and with other calls of the same callbacks, and other replies whose callbacks are of the world
+pub fits-served : (s : Browser) (w : World) (c : Calls) (replies : List WaitingReply) → Fits s w → c.made ≡ s.calls.made → All (λ r. Belongs w (Object r.callback)) replies → Fits (record s { calls = c; undelivered = replies }) w
+fits-served s w c replies f e all = record {
+  nodes = f.nodes;
+  body = f.body;
+  class = f.class;
+  class_stands = f.class_stands;
+  form_room = f.form_room;
+  listener_room = f.listener_room;
+  listener_nodes = f.listener_nodes;
+  listeners_charged = f.listeners_charged;
+  event_room = f.event_room;
+  events_charged = f.events_charged;
+  events_made = f.events_made;
+  event_nodes = f.event_nodes;
+  listeners_on_nodes = f.listeners_on_nodes;
+  callbacks = subst (All (λ m. IfSome m.callback (λ f. Belongs w (Object f)))) (sym e) f.callbacks;
+  reply_callbacks = all;
+}
+
+-- an answer of the calls
+pub keeps-call : (w : World) (s : Browser) (text : List ℕ) (callback : Option ℕ) → Fits s w → IfSome callback (λ f. Belongs w (Object f)) → KeepsBrowser w s (call_made w s callback text).0 w (call_made w s callback text).2
+keeps-call w s text callback f b = by (nat_le (used s.calls + (length text + 1)) s.calls.limit)
+  where
+    by : (x : Bool) → KeepsBrowser w s (of_calls (cond x (Value Undefined, with_call s.calls text callback) (Limit Queue, s.calls)) w s).0 w (of_calls (cond x (Value Undefined, with_call s.calls text callback) (Limit Queue, s.calls)) w s).2
+    by true = keeps-value-here w s (record s { calls = with_call s.calls text callback }) Undefined (fits-call s w text callback f b) tt
+    by false = keeps-all w s (Limit Queue) f refl

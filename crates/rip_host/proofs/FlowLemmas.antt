@@ -228,6 +228,20 @@ next-fewer most pool l stopped c d p h e =
     let f : P (next_call pool l stopped c) = next-fewer-at most pool l stopped c c.here h in
     subst P (sym e) f
 
+-- THE ROOM STAYS
+
+goes-room : (l : Listed) (c : Course) (o : Option Arrival) → (goes_on l c o).1.nodes ≡ c.nodes
+goes-room l c None = refl
+goes-room l c (Some a) = refl
+
+here-room : (pool : Texts) (l : Listed) (stopped : Bool) (c : Course) (found : Option (Station × ℕ)) → (here_or_ahead pool l stopped c found).1.nodes ≡ c.nodes
+here-room pool l stopped c None = goes-room l c (next_arrival pool c.kind l (in_reach stopped c.ahead))
+here-room pool l stopped c (Some found) = refl
+
+pub next-room : (pool : Texts) (l : Listed) (stopped : Bool) (c d : Course) (next : Option Place) → (next, d) ≡ next_call pool l stopped c → d.nodes ≡ c.nodes
+next-room pool l stopped c d next e =
+    ap (λ (n : Option Place × Course). n.1.nodes) e ∙ here-room pool l stopped c (called_here pool c.kind l c.next c.mark c.here)
+
 -- A FLOW BEGINS
 
 pub flow-begins : (item : ℕ) (kind : Span) (target : ℕ) (done : ℕ → Going) (w : World) (s : Browser) (event : ℕ) (x : World) (r : Browser) (c d : Course) (bubbling : Bool)

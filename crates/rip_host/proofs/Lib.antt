@@ -1,3 +1,5 @@
+pub mod CallLemmas
+pub mod ReplyLemmas
 pub mod FlowLemmas
 pub mod FitsLemmas
 pub mod EventLemmas

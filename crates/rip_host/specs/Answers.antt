@@ -34,7 +34,7 @@ use Rattle.rip_host.specs.FormMembers.{form_member_of, form_read, form_written}
 use Rattle.rip_host.specs.HostCalls.{host_call_of}
 use Rattle.rip_host.specs.Listening.{listener_added, listener_removed}
 use Rattle.rip_host.specs.Owners.{owner_of}
-use Rattle.rip_host.specs.Ripley.{random_call, ripley_member}
+use Rattle.rip_host.specs.Ripley.{random_call, ripley_call, ripley_member}
 use Rattle.rip_host.specs.Visit.{of_nodes, of_reading, outside}
 
 -- READING
@@ -138,6 +138,7 @@ called w s (Some call.StopPropagation) this args =
     on_receiver (event_receiver s this) w s (λ e. event_put w s (stopped e))
 called w s (Some call.PreventDefault) this args =
     on_receiver (event_receiver s this) w s (λ e. event_put w s (prevented w.pool e))
+called w s (Some call.Call) this args = ripley_call w s (argument args 0) (argument args 1) (argument args 2)
 called w s (Some call.Now) this args = (host.Value (Num s.moment), w, s)
 called w s (Some call.Random) this args = random_call w s (argument args 0)
 

@@ -7,6 +7,7 @@ pub mod HostCalls
 pub mod Listening
 pub mod Opening
 pub mod Owners
+pub mod Replies
 pub mod Ripley
 pub mod Stays
 pub mod Visit

@@ -8,6 +8,7 @@ use Rattle.rip_values.specs.declared.value.Refused.{Refused}
 use Rattle.rip_values.specs.declared.value.Refused.TheVariants.{Limit as At, Memory}
 use Rattle.rip_values.specs.Pool.{Texts, span_behind, with_text}
 use Rattle.rip_heap.specs.World.{World}
+use Rattle.rip_calls.specs.Calls.{none_made}
 use Rattle.rip_dom.specs.Opening.{Opens as OpensDocument}
 use Rattle.rip_dom.specs.Tree.{is_element}
 use Rattle.rip_forms.specs.States.{no_states}
@@ -24,8 +25,8 @@ abbrev pub body_from : ℕ → List PageNode → Option ℕ
 body_from n [] = None
 body_from n (x ∷ xs) = if is_body x then Some n else body_from (suc n) xs
 
--- the browser of a page: its document, no listener and no event yet, no state of a control set, the seed as random word
--- and the moment; the text `class` stands behind those of the page
+-- the browser of a page: its document, no listener, no event and no call yet, no state of a control set, the seed as random
+-- word and the moment; the text `class` stands behind those of the page
 pub record IsNew (nodes : List PageNode) (limits : Limits) (old middle : Texts) (seed : ℕ) (time : ℤ) (s : Browser) (new : Texts) : Type 0 where
   pub document : OpensDocument nodes limits.nodes old (Ok s.dom) middle
   pub texts : new ≡ with_text middle (codes "class") 0
@@ -34,6 +35,8 @@ pub record IsNew (nodes : List PageNode) (limits : Limits) (old middle : Texts) 
   pub forms : s.forms ≡ no_states s.dom.limit
   pub listeners : s.listeners ≡ record { limit = limits.cells + 1; nodes = s.dom.limit; registered = []; standing = [] }
   pub events : s.events ≡ record { limit = limits.cells; events = [] }
+  pub calls : s.calls ≡ none_made limits.queue
+  pub undelivered : s.undelivered ≡ []
   pub random : s.random ≡ seed
   pub moment : s.moment ≡ time
 

@@ -1,6 +1,8 @@
 -- What stands behind a page's objects, as one value; and the worlds that it goes with.
 use Rattle.std.specs.Prelude.{◌≡◌, ◌+◌, ◌<◌, ◌≤◌, codes, All, IfSome, length}
 use Rattle.rip_values.specs.Pool.{text_at}
+use Rattle.rip_values.specs.declared.value.Value.TheVariants.{Object}
+use Rattle.rip_heap.specs.Growth.{Belongs}
 use Rattle.rip_heap.specs.Host.{Keeps, LeavesOnRefusal}
 use Rattle.rip_heap.specs.World.{World, first_node, first_object}
 use Rattle.rip_values.specs.declared.value.Fault.TheVariants.{NotInProfile}
@@ -47,6 +49,8 @@ pub record Fits (s : Browser) (w : World) : Type 0 where
   pub events_made : All (λ e. e.object < first_object + length w.objects) s.events.events
   pub event_nodes : All AreNodes s.events.events
   pub listeners_on_nodes : All (λ l. l.node < first_node) s.listeners.registered
+  pub callbacks : All (λ m. IfSome m.callback (λ f. Belongs w (Object f))) s.calls.made
+  pub reply_callbacks : All (λ r. Belongs w (Object r.callback)) s.undelivered
 
 -- what holds of each answer of a browser: it still fits; older objects, texts and limits stand, and no function is made;
 -- a value is of the world after it; a fault and a limit leave all as it was; and memory is never wanting

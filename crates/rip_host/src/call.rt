@@ -12,6 +12,7 @@ pub enum HostCall {
     RemoveEventListener,
     StopPropagation,
     PreventDefault,
+    Call,
     Now,
     Random,
 }
@@ -26,6 +27,7 @@ impl HostCall {
             Builtin::RemoveEventListener => Some(HostCall::RemoveEventListener),
             Builtin::StopPropagation => Some(HostCall::StopPropagation),
             Builtin::PreventDefault => Some(HostCall::PreventDefault),
+            Builtin::RipleyCall => Some(HostCall::Call),
             Builtin::RipleyNow => Some(HostCall::Now),
             Builtin::RipleyRandom => Some(HostCall::Random),
             _ => match NodeCall::of(function) {

@@ -65,6 +65,8 @@ pub fn next_call(
         flow_left item event cursor.old done heap.now browser.old
         ≡ flow_ahead item event cursor.new result done heap.now browser.new }
     ensures fewer { IfSome result (λ _. flow_steps cursor.new < flow_steps cursor.old) }
+    ensures node { IfSome result (λ place. place.node < first_node) }
+    ensures room { cursor.new.nodes ≡ cursor.old.nodes }
     ensures fits { Fits browser.new heap.now }
 {
     let _count = browser.listeners.count();

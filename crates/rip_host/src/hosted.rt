@@ -193,6 +193,12 @@ impl Browser {
                 Ok(event) => self.put_event(heap, prevented(heap, &event)),
                 Err(done) => done,
             },
+            Some(HostCall::Call) => self.ripley_call(
+                heap,
+                &argument(args, 0),
+                &argument(args, 1),
+                &argument(args, 2),
+            ),
             Some(HostCall::Now) => HostDone::Value(Value::Num(self.moment)),
             Some(HostCall::Random) => self.random_call(heap, &argument(args, 0)),
             None => outside(),

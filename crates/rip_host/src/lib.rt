@@ -2,8 +2,9 @@
 //! of an event as a plan.
 //!
 //! A [`Browser`] is the host of a page's script: the document, the states of its controls, its listeners, the events that
-//! were dispatched, the moment and the random word. Contracts see it as the record of its fields. Each request of the
-//! evaluator has one answer, a value, a TypeError, a code, a fault or a limit, with the heap and the browser after it.
+//! were dispatched, the calls that the script made and the replies to them, the moment and the random word. Contracts see
+//! it as the record of its fields. Each request of the evaluator has one answer, a value, a TypeError, a code, a fault or
+//! a limit, with the heap and the browser after it.
 //!
 //! | what | its definition in `specs/` |
 //! |---|---|
@@ -11,7 +12,9 @@
 //! | whose members an object has | `Owners.owner_of` |
 //! | members and calls of nodes | those of `rip_nodes`; controls `FormMembers`, listeners `Listening` |
 //! | [`EventMember`], [`bubbles`], [`can_be_cancelled`] | `EventMembers` |
-//! | `ripley.now`, `ripley.random` | `Answers.called`, `Ripley.random_call` |
+//! | `ripley.call`, `ripley.now`, `ripley.random` | `Answers.called`, `Ripley.ripley_call`, `Ripley.random_call` |
+//! | [`Browser::serve`] | `Replies.call_served`: the call that is next is taken, and its reply waits if it has a callback |
+//! | [`Undelivered`] | contracts see the list of replies; [`Undelivered::due`] and [`Undelivered::take_due`] `Replies.due`, `Replies.without_due` |
 //! | [`Browser::make`] | `Opening.Begins` |
 //! | [`Browser::open_event`], [`Browser::event_at`], [`Browser::stopped`], [`Browser::prevented`] | `Flow.event_opened`, `Flow.reached`, `Flow.is_stopped`, `Flow.is_prevented` |
 //! | the flow of an event as a plan | `Flow.flow`; what is left of one under way, `Flow.flow_left` |
@@ -37,7 +40,10 @@ mod hosted;
 mod listening;
 mod opening;
 mod owner;
+mod replies;
 mod ripley;
+#[cfg(test)]
+mod tests;
 
 pub use browser::Browser;
 pub use call::HostCall;
@@ -47,3 +53,4 @@ pub use flow::{begin_flow, next_call};
 pub use form_members::FormMember;
 pub use listening::Handler;
 pub use owner::Owner;
+pub use replies::{Undelivered, WaitingReply};

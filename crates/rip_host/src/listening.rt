@@ -31,7 +31,8 @@ fn is_built_in_function(b: Option<Builtin>) -> bool
     }
 }
 
-fn is_function_object(heap: &Heap, n: u32) -> bool
+/// Whether the object is a function, of the script or built in.
+pub(crate) fn is_function_object(heap: &Heap, n: u32) -> bool
     ensures { result ≡ is_function_object heap.now n (builtin_of n) }
 {
     heap.function(n).is_some() || is_built_in_function(builtin_of(n))

@@ -5,6 +5,9 @@ ghost use Rattle.rip_host.specs.Visit.{Fits};
 
 use crate::browser::Browser;
 use crate::events::Events;
+use crate::replies::Undelivered;
+use rip_calls::Queue;
+use rip_convert::CallRow;
 use rip_dom::Dom;
 use rip_events::Listeners;
 use rip_forms::Forms;
@@ -45,6 +48,9 @@ impl Browser {
             forms: Forms::make(alloc, nodes)?,
             listeners: Listeners::make(alloc, limits.cells + 1, nodes)?,
             events: Events::make(alloc, limits.cells)?,
+            calls: Queue::make(alloc, limits.queue)?,
+            undelivered: Undelivered::make(alloc)?,
+            row: CallRow::make(alloc)?,
             moment: time,
             random: seed,
             body: body_of(page),

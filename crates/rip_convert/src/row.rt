@@ -1,0 +1,120 @@
+ghost use Rattle.std.specs.Prelude.{◌≡◌, ◌≢◌, ◌≤◌, ◌+◌, ◌++◌, ◌↔◌, [], ℕ, List, All, IfOk, IsTrue, MatchResult, OnOk, Err, Ok, Some, IsSome, length, unwrap_or, vec_capacity};
+ghost use Rattle.json.specs.Print.{quoted};
+ghost use Rattle.rip_values.specs.Pool.{text_at};
+ghost use Rattle.rip_data.specs.Datum.{utf8_of};
+ghost use Rattle.rip_convert.specs.Arguments.{call_text};
+ghost use Rattle.rip_convert.specs.Told.{IsCallOf};
+
+use crate::judge::left_after;
+use crate::line::{Line, append};
+use crate::order::Places;
+use crate::write::write_value;
+use rip_data::{MAX_DEPTH, MAX_LENGTH};
+use rip_heap::Heap;
+use rip_values::{Fault, NoMemory, Span, Value};
+use std::alloc::Global;
+use std::marker::Model;
+
+/// The most bytes of a call's text: those of its arguments, 16,384, and those of its name, with what stands around both.
+const ROW: usize = 16_460;
+
+/// The room in which the text of a call is written. Contracts see nothing of what it holds.
+#[derive(Drop)]
+pub struct CallRow {
+    text: Vec<u8>,
+    part: Line,
+    places: Places,
+}
+
+impl Model for CallRow {
+    ghost use Rattle.std.specs.Prelude.{◌≡◌, ◌≤◌, [], vec_capacity};
+
+    ghost Value = { Unit {0} };
+
+    ghost view = { λ _. tt };
+
+    ghost invariant = { λ r. (16460 ≤ vec_capacity r.text) × (r.places ≡ []) };
+}
+
+impl CallRow {
+    /// A row for each text of a call. It takes all its memory.
+    pub fn make(alloc: Global) -> Result<CallRow, NoMemory> {
+        Ok(CallRow {
+            text: Vec::with_capacity(alloc, ROW)?,
+            part: Line::make(alloc)?,
+            places: Places::make(alloc)?,
+        })
+    }
+
+    /// The canonical text of a call, `[NAME,ARGS]` with no space, of a name and arguments, or the first fault on the walk
+    /// over the arguments. It takes no memory.
+    pub fn write_call(&mut self, heap: &Heap, name: Span, args: Value) -> Result<&[u8], Fault>
+        requires { length (quoted (utf8_of (text_at heap.now.pool name))) ≤ 73 }
+        ensures text { MatchResult result (λ text. call_text heap.now name args ≡ Ok text.now)
+            (λ fault. call_text heap.now name args ≡ Err fault) }
+        ensures told { IfOk result (λ text. IsCallOf (utf8_of (text_at heap.now.pool name)) text.now) }
+        ensures line { IfOk result (λ text. All (λ byte. byte ≢ 10) text.now) }
+        ensures least { IfOk result (λ text. 6 ≤ length text.now) }
+    {
+        fill(
+            &mut self.text,
+            &mut self.part,
+            &mut self.places,
+            heap,
+            name,
+            &args,
+        )?;
+        Ok(self.text.as_slice())
+    }
+}
+
+// Makes the text of a call.
+fn fill(
+    text: &mut Vec<u8>,
+    part: &mut Line,
+    places: &mut Places,
+    heap: &Heap,
+    name: Span,
+    args: &Value,
+) -> Result<(), Fault>
+    requires room { 16460 ≤ vec_capacity text.old }
+    requires none { places.old ≡ [] }
+    requires name { length (quoted (utf8_of (text_at heap.now.pool name))) ≤ 73 }
+    ensures text { MatchResult result (λ _. call_text heap.now name args.now ≡ Ok text.new.items)
+        (λ fault. call_text heap.now name args.now ≡ Err fault) }
+    ensures told { OnOk result (IsCallOf (utf8_of (text_at heap.now.pool name)) text.new.items) }
+    ensures places { places.new ≡ places.old }
+    ensures room { vec_capacity text.new ≡ vec_capacity text.old }
+{
+    left_after(heap, *args, MAX_DEPTH, MAX_LENGTH as u32)?;
+    text.truncate(0);
+    text.push_reserved(b'[');
+    part.clear();
+    part.push_text(heap.pool().get(name));
+    copy(part, text);
+    text.push_reserved(b',');
+    part.clear();
+    write_value(heap, *args, MAX_DEPTH, places, part);
+    if !copy(part, text) {
+        return Err(Fault::BadArgument);
+    }
+    text.push_reserved(b']');
+    Ok(())
+}
+
+// Puts a text behind others, if there is one.
+fn copy(part: &Line, text: &mut Vec<u8>) -> bool
+    requires { (more : List ℕ) → part.now ≡ Some more
+        → length text.old.items + length more ≤ vec_capacity text.old }
+    ensures there { IsTrue result ↔ IsSome part.now }
+    ensures text { text.new.items ≡ text.old.items ++ unwrap_or part.now [] }
+    ensures room { vec_capacity text.new ≡ vec_capacity text.old }
+{
+    match part.text() {
+        Some(more) => {
+            append(text, more);
+            true
+        }
+        None => false,
+    }
+}

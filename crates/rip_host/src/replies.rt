@@ -1,0 +1,132 @@
+ghost use Rattle.std.specs.Prelude.{◌≡◌, ◌≢◌, ◌<◌, ◌≤◌, ◌^◌, ◌+◌, ◌++◌, ◌∷◌, [], All, IfOk, IfSome, length, position, MatchOption, None, Some};
+ghost use Rattle.rip_values.specs.declared.value.Value.TheVariants.{Object};
+ghost use Rattle.rip_heap.specs.Growth.{Belongs};
+ghost use Rattle.rip_heap.specs.World.{World};
+ghost use Rattle.rip_calls.specs.Calls.{front_callback, waiting};
+ghost use Rattle.rip_host.specs.Replies.{call_served, due, is_due, most_replies, without_due};
+ghost use Rattle.rip_host.specs.Visit.{Fits};
+
+use crate::browser::Browser;
+use rip_data::Datum;
+use rip_values::{MOST_REPLIES, NoMemory, Whole};
+use std::alloc::Global;
+use std::marker::Model;
+
+/// The reply to a call that was served and has a callback: the call's number, the batch in which it was served, its
+/// callback, and the moment at which it was served.
+#[derive(Drop)]
+pub struct WaitingReply {
+    pub number: u64,
+    pub batch: u64,
+    pub callback: u32,
+    pub time: Whole,
+    pub reply: Datum,
+}
+
+/// The replies that are not delivered, in the order of their calls. The room for all is taken at once.
+#[derive(Drop)]
+pub struct Undelivered {
+    replies: Vec<WaitingReply>,
+}
+
+impl Model for Undelivered {
+    ghost use Rattle.std.specs.Prelude.{◌≤◌, List, length, vec_capacity};
+    ghost use Rattle.std.specs.Coded.{codes};
+    ghost use Rattle.rip_data.specs.contracts.datum.Datum as datum;
+    ghost use Rattle.rip_host.specs.declared.replies.WaitingReply.{WaitingReply};
+
+    ghost Value = { List WaitingReply };
+
+    ghost coded = { Prim.hlevel (codes, datum.the_row.coded) };
+
+    ghost view = { λ u. u.replies.items };
+
+    ghost invariant = { λ u. (length u.replies.items ≤ 64) × (64 ≤ vec_capacity u.replies) };
+}
+
+impl Undelivered {
+    /// No reply, and the room for 64.
+    pub fn make(alloc: Global) -> Result<Undelivered, NoMemory>
+        ensures { IfOk result (λ u. u ≡ []) }
+    {
+        Ok(Undelivered {
+            replies: Vec::with_capacity(alloc, MOST_REPLIES as usize)?,
+        })
+    }
+
+    /// How many there are.
+    pub fn count(&self) -> u32
+        ensures count { result ≡ length self.now }
+        ensures most { result ≤ most_replies }
+    {
+        self.replies.len() as u32
+    }
+
+    /// The reply that is due to this call in this batch: it was served in a batch before, and is not delivered.
+    pub fn due(&self, number: u64, batch: u64) -> Option<&WaitingReply>
+        ensures { MatchOption result (due number batch self.now ≡ None) (λ r. due number batch self.now ≡ Some r.now) }
+    {
+        let place = self.place(number, batch);
+        match place {
+            Some(place) => self.replies.get(place),
+            None => None,
+        }
+    }
+
+    /// Takes the reply that is due to this call in this batch.
+    pub fn take_due(&mut self, number: u64, batch: u64) -> Option<WaitingReply>
+        ensures taken { result ≡ due number batch self.old }
+        ensures left { self.new ≡ without_due number batch self.old }
+        ensures callbacks { (w : World) → All (λ r. Belongs w (Object r.callback)) self.old
+            → All (λ r. Belongs w (Object r.callback)) self.new
+            × IfSome result (λ r. Belongs w (Object r.callback)) }
+    {
+        match self.place(number, batch) {
+            Some(place) => Some(self.replies.remove(place)),
+            None => None,
+        }
+    }
+
+    // Where the reply is that is due.
+    fn place(&self, number: u64, batch: u64) -> Option<usize>
+        ensures { result ≡ position (is_due number batch) self.now }
+    {
+        self.replies
+            .iter()
+            .position(|reply| reply.number == number && reply.batch < batch)
+    }
+
+    // A reply more.
+    fn push(&mut self, reply: WaitingReply)
+        requires { length self.old < most_replies }
+        ensures { self.new ≡ self.old ++ reply ∷ [] }
+    {
+        self.replies.push_reserved(reply);
+    }
+}
+
+impl Browser {
+    /// Serves the call that is next, in this batch at this moment, with this reply, which waits to be delivered where the
+    /// call has a callback. It takes no memory.
+    pub fn serve(&mut self, batch: u64, time: Whole, reply: Datum)
+        requires waits { waiting self.old.calls ≢ [] }
+        requires room { front_callback self.old.calls ≢ None → length self.old.undelivered < most_replies }
+        requires number { self.old.calls.taken + 1 < 2 ^ 64 }
+        ensures served { self.new ≡ call_served self.old batch time reply }
+        ensures fits { (w : World) → Fits self.old w → Fits self.new w }
+    {
+        let callback = self.calls.front_callback();
+        let number = self.calls.taken() + 1;
+        self.calls.take();
+        match callback {
+            Some(callback) => self.undelivered.push(WaitingReply {
+                number,
+                batch,
+                callback,
+                time,
+                reply,
+            }),
+            None => {}
+        }
+    }
+}
