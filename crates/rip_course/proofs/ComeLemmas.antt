@@ -207,7 +207,7 @@ at-end (b ∷ bs) x (z ∷ xs) p ys e = by (at-end bs x xs p ys (ap (λ (t : Lis
     by (inl h) = inl h
     by (inr (zs, h)) = inr (zs, λ i. first (e i) ∷ h i)
 
-before_behind : (l : Lacking) (ps : List Part) → ps ≡ before l ps ++ behind l ps
+pub before_behind : (l : Lacking) (ps : List Part) → ps ≡ before l ps ++ behind l ps
 before_behind l [] = refl
 before_behind l (p ∷ ps) = splits-step p ps (before l ps) (behind l ps) (is_before l p) (before_behind l ps)
 

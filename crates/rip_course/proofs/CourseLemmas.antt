@@ -67,9 +67,9 @@ courses_are_in_order m service limit told turns history c =
     subst (λ (h : List Recorded). AreWithin 1 (length turns) h) (sym c.entries) (within limit 1 (length turns) [] turns (omega arith) c.made)
 
 pub courses_isolate : CoursesIsolate
-courses_isolate m reads service other_service limit other_limit told other_told turns other_turns history other n k opening c d here there none other_none batches given =
+courses_isolate m reads service other_service limit other_limit told other_told turns other_turns history other n k opening c d here there calm other_calm batches given =
     sessions_are_alone m reads (length turns) (length other_turns) history other n k (c.sessions n opening here) (d.sessions k opening there)
-    none other_none (here ∙ sym there) batches given
+    calm other_calm (here ∙ sym there) batches given
 
 -- ---- sessions and batches are counted
 

@@ -1,10 +1,14 @@
 -- A session does the same wherever it is given the same.
-use Rattle.std.proofs.Common.{◌≡◌, inl, inr, ℕ, zero, suc, ◌-◌, ◌/◌, Bool, true, false, cond, eqb, List, [], ◌∷◌, ◌++◌, length, map, take, Option, Some, None, refl, sym, ap, ◌∙◌, subst, arith}
+use Rattle.std.proofs.Common.{◌≡◌, ◌⊎◌, inl, inr, ℕ, zero, suc, ◌-◌, ◌/◌, ◌≤◌, Bool, true, false, cond, eqb, List, [], ◌∷◌, ◌++◌, length, map, take, Option, Some, None, refl, sym, ap, ◌∙◌, subst, arith}
 use Rattle.std.specs.Prelude.{slice_get, unwrap_or}
+use Rattle.std.specs.List.{AllByRecursion, list_any}
+use Rattle.std.proofs.lemmas.Bool.{false≢true, leb-true, le-leb, or_right}
+use Rattle.std.proofs.lemmas.List.Folds.{list_any-append}
 use Rattle.rip_log.specs.Entries.{Recorded, opened, admitted, served, done, closed, ended}
 use Rattle.rip_course.specs.Turns.{turn_at}
-use Rattle.rip_course.specs.Parts.{Fact, passes, serves, finishes, Part, Given, Meaning, serves_call, served_count, ReadsGivenInTurn, Lacking, with_lack}
-use Rattle.rip_course.specs.Sessions.{batches_in, turns_in, given_in, Deed, deeds_in, admission, comes_by, come_by, deed_of, is_deed, deeds_of, deeds_by, IsSessionOf, Distant, distant, story_in, IsFrontOf, Agree, SessionsAreAlone}
+use Rattle.rip_course.specs.Parts.{Fact, passes, serves, finishes, Part, Given, Meaning, serves_call, served_count, ReadsGivenInTurn, Lacking, before, IsLack, lacking_part, with_lack, MayLack}
+use Rattle.rip_course.specs.Sessions.{batches_in, turns_in, given_in, Deed, deeds_in, admission, comes_by, come_by, deed_of, is_deed, deeds_of, deeds_by, IsSessionOf, is_want, wants_memory, Distant, distant, story_in, IsFrontOf, Agree, SessionsAreAlone}
+use Rattle.rip_course.proofs.ComeLemmas.{ComesBy, come_by_whole, before_behind}
 
 -- ---- fronts
 
@@ -124,19 +128,119 @@ agree-distances ps qs (inr h) = inr (front-distances qs ps h)
 
 -- ---- isolation
 
+-- ---- want of memory that the history does not show
+
+deeds-push : (turns : List ℕ) (p : Part) (xs ys zs : List Deed) (b : Bool) → xs ≡ ys ++ zs
+    → cond b (deed_of turns p ∷ xs) xs ≡ cond b (deed_of turns p ∷ ys) ys ++ zs
+deeds-push turns p xs ys zs true e = ap (λ (t : List Deed). deed_of turns p ∷ t) e
+deeds-push turns p xs ys zs false e = e
+
+pub deeds_join : (turns : List ℕ) (ps qs : List Part) → deeds_of turns (ps ++ qs) ≡ deeds_of turns ps ++ deeds_of turns qs
+deeds_join turns [] qs = refl
+deeds_join turns (p ∷ ps) qs =
+    deeds-push turns p (deeds_of turns (ps ++ qs)) (deeds_of turns ps) (deeds_of turns qs) (is_deed p.fact) (deeds_join turns ps qs)
+
+-- all of the parts come, or what comes is the same whatever stands behind them
+cut-step : (last : ℕ) (turns : List ℕ) (p : Part) (ps : List Part) (b : Bool) → comes_by last p.cost (admission turns p) ≡ b
+    → AllByRecursion (ComesBy last turns) ps ⊎ ((qs : List Part) → come_by last turns (ps ++ qs) ≡ come_by last turns ps)
+    → AllByRecursion (ComesBy last turns) (p ∷ ps) ⊎ ((qs : List Part) → come_by last turns ((p ∷ ps) ++ qs) ≡ come_by last turns (p ∷ ps))
+cut-step last turns p ps true e (inl h) = inl (e, h)
+cut-step last turns p ps true e (inr f) = inr (λ qs. ap (λ (t : List Part). cond (comes_by last p.cost (admission turns p)) (p ∷ t) []) (f qs))
+cut-step last turns p ps false e h =
+    inr (λ qs. ap (λ (b : Bool). cond b (p ∷ come_by last turns (ps ++ qs)) []) e ∙ sym (ap (λ (b : Bool). cond b (p ∷ come_by last turns ps) []) e))
+
+cut : (last : ℕ) (turns : List ℕ) (ps : List Part)
+    → AllByRecursion (ComesBy last turns) ps ⊎ ((qs : List Part) → come_by last turns (ps ++ qs) ≡ come_by last turns ps)
+cut last turns [] = inl tt
+cut last turns (p ∷ ps) = cut-step last turns p ps (comes_by last p.cost (admission turns p)) refl (cut last turns ps)
+
+-- what costs less comes no later
+cheaper : (last low high : ℕ) (o : Option ℕ) → low ≤ high → comes_by last high o ≡ true → comes_by last low o ≡ true
+cheaper last low high None le h = absurd (false≢true h)
+cheaper last low high (Some t) le h = le-leb (turn_at t low) last (omega (arith, le, leb-true (turn_at t high) last h))
+
+-- where memory may be wanting, but does not show, the deeds are those without it
+unseen : (last : ℕ) (turns : List ℕ) (l : Lacking) (ps : List Part) → IsLack l ps
+    → list_any (λ (d : Deed). is_want d.fact) (deeds_by last turns (with_lack (Some l) ps)) ≡ false
+    → deeds_by last turns (with_lack (Some l) ps) ≡ deeds_by last turns ps
+unseen last turns l ps k calm = by (cut last turns first)
+  where
+    first : List Part
+    first = before l ps
+
+    others : List Part
+    others = k.part ∷ k.others
+
+    whole : ps ≡ first ++ others
+    whole = before_behind l ps ∙ ap (λ (t : List Part). first ++ t) k.comes
+
+    dearer : comes_by last l.cost (slice_get turns l.batch) ≡ false → come_by last turns others ≡ []
+    dearer late =
+        ap (λ (b : Bool). cond b (k.part ∷ come_by last turns k.others) []) (turn (comes_by last (let p = k.part in p.cost) (admission turns k.part)) refl)
+      where
+        turn : (b : Bool) → comes_by last (let p = k.part in p.cost) (admission turns k.part) ≡ b → comes_by last (let p = k.part in p.cost) (admission turns k.part) ≡ false
+        turn true e =
+            absurd (false≢true (sym late
+            ∙ cheaper last l.cost (let p = k.part in p.cost) (slice_get turns l.batch) k.within
+            (sym (ap (λ (n : ℕ). comes_by last (let p = k.part in p.cost) (slice_get turns n)) k.batch) ∙ e)))
+        turn false e = e
+
+    all : AllByRecursion (ComesBy last turns) first → (b : Bool) → comes_by last l.cost (slice_get turns l.batch) ≡ b
+        → deeds_by last turns (with_lack (Some l) ps) ≡ deeds_by last turns ps
+    all h true e = absurd (false≢true (sym calm ∙ ap (list_any (λ (d : Deed). is_want d.fact)) shown ∙ seen))
+      where
+        shown : deeds_by last turns (with_lack (Some l) ps) ≡ deeds_of turns first ++ deed_of turns (lacking_part l) ∷ []
+        shown =
+            ap (deeds_of turns) (come_by_whole last turns first (lacking_part l ∷ []) h
+            ∙ ap (λ (b : Bool). first ++ cond b (lacking_part l ∷ []) []) e) ∙ deeds_join turns first (lacking_part l ∷ [])
+
+        seen : list_any (λ (d : Deed). is_want d.fact) (deeds_of turns first ++ deed_of turns (lacking_part l) ∷ []) ≡ true
+        seen =
+            list_any-append (λ (d : Deed). is_want d.fact) (deeds_of turns first) (deed_of turns (lacking_part l) ∷ [])
+            ∙ or_right (list_any (λ (d : Deed). is_want d.fact) (deeds_of turns first)) true refl
+    all h false e =
+        ap (deeds_of turns) (come_by_whole last turns first (lacking_part l ∷ []) h
+        ∙ ap (λ (b : Bool). first ++ cond b (lacking_part l ∷ []) []) e
+        ∙ ap (λ (t : List Part). first ++ t) (sym (dearer e))
+        ∙ sym (come_by_whole last turns first others h) ∙ ap (come_by last turns) (sym whole))
+
+    by : AllByRecursion (ComesBy last turns) first ⊎ ((qs : List Part) → come_by last turns (first ++ qs) ≡ come_by last turns first)
+        → deeds_by last turns (with_lack (Some l) ps) ≡ deeds_by last turns ps
+    by (inl h) = all h (comes_by last l.cost (slice_get turns l.batch)) refl
+    by (inr f) = ap (deeds_of turns) (f (lacking_part l ∷ []) ∙ sym (f others) ∙ ap (come_by last turns) (sym whole))
+
+-- so a session that wants no memory in the history did what the meaning says
+calm_deeds : (m : Meaning) (last : ℕ) (history : List Recorded) (n : ℕ) (s : IsSessionOf m last history n) → wants_memory n history ≡ false
+    → deeds_in n history ≡ deeds_by last (turns_in n history) (m s.seed s.time (batches_in n history) (given_in n history))
+calm_deeds m last history n s calm = by s.lacking refl
+  where
+    turns : List ℕ
+    turns = turns_in n history
+
+    parts : List Part
+    parts = m s.seed s.time (batches_in n history) (given_in n history)
+
+    by : (o : Option Lacking) → s.lacking ≡ o → deeds_in n history ≡ deeds_by last turns parts
+    by None e = s.deeds ∙ ap (λ (l : Option Lacking). deeds_by last turns (with_lack l parts)) e
+    by (Some l) e =
+        let d : deeds_in n history ≡ deeds_by last turns (with_lack (Some l) parts) =
+        s.deeds ∙ ap (λ (o : Option Lacking). deeds_by last turns (with_lack o parts)) e in
+        d ∙ unseen last turns l parts (subst (λ (o : Option Lacking). MayLack o parts) e s.may_lack)
+        (ap (list_any (λ (d : Deed). is_want d.fact)) (sym d) ∙ calm)
+
 -- what a session of a history did, as a front of what the meaning gives
 record Fronts (m : Meaning) (history : List Recorded) (n seed time : ℕ) : Type 0 where
   count : ℕ
   few : served_count (take count (m seed time (batches_in n history) (given_in n history))) ≡ length (given_in n history)
   story : story_in n history ≡ distances (take count (m seed time (batches_in n history) (given_in n history)))
 
-fronts : (m : Meaning) (last : ℕ) (history : List Recorded) (n : ℕ) (s : IsSessionOf m last history n) → s.lacking ≡ None → Fronts m history n s.seed s.time
-fronts m last history n s none =
+fronts : (m : Meaning) (last : ℕ) (history : List Recorded) (n : ℕ) (s : IsSessionOf m last history n) → wants_memory n history ≡ false → Fronts m history n s.seed s.time
+fronts m last history n s calm =
     let turns = turns_in n history in
     let parts = m s.seed s.time (batches_in n history) (given_in n history) in
     let k = reached last turns parts in
     let deeds : deeds_in n history ≡ deeds_of turns (take k parts) =
-    s.deeds ∙ ap (λ (l : Option Lacking). deeds_by last turns (with_lack l parts)) none ∙ deeds-are last turns parts in
+    calm_deeds m last history n s calm ∙ deeds-are last turns parts in
     record {
       count = k;
       few = sym (serving-parts turns (take k parts)) ∙ ap serving (sym deeds) ∙ serving-given n history;
@@ -164,12 +268,12 @@ flip xs ys (inl h) = inr h
 flip xs ys (inr h) = inl h
 
 pub sessions_are_alone : SessionsAreAlone
-sessions_are_alone m reads last other_last history other n k s t lacks_none other_none opening batches agree =
+sessions_are_alone m reads last other_last history other n k s t calm other_calm opening batches agree =
     let pairs : Some (s.seed, s.time) ≡ Some (t.seed, t.time) = sym s.opening ∙ opening ∙ t.opening in
     let pair : (s.seed, s.time) ≡ (t.seed, t.time) = ap (λ (o : Option (ℕ × ℕ)). unwrap_or o (s.seed, s.time)) pairs in
-    let f = fronts m last history n s lacks_none in
+    let f = fronts m last history n s calm in
     let g : Fronts m other k s.seed s.time =
-    subst (λ (p : ℕ × ℕ). Fronts m other k p.0 p.1) (sym pair) (fronts m other_last other k t other_none) in
+    subst (λ (p : ℕ × ℕ). Fronts m other k p.0 p.1) (sym pair) (fronts m other_last other k t other_calm) in
     by f g agree
   where
     by : Fronts m history n s.seed s.time → Fronts m other k s.seed s.time → Agree (given_in n history) (given_in k other) → Agree (story_in n history) (story_in k other)

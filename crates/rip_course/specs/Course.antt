@@ -6,7 +6,7 @@ use Rattle.rip_course.specs.Requests.{Asked, page, batch, quit, Drawn, drawn_of,
 use Rattle.rip_course.specs.Sequences.{AreDistinct, counted, numbers_of, ordinals_in}
 use Rattle.rip_course.specs.Parts.{Meaning, ReadsGivenInTurn}
 use Rattle.rip_course.specs.Services.{Called, Service}
-use Rattle.rip_course.specs.Sessions.{IsSessionOf, Agree, opening_in, batches_in, given_in, deeds_in, story_in}
+use Rattle.rip_course.specs.Sessions.{IsSessionOf, Agree, opening_in, batches_in, given_in, deeds_in, wants_memory, story_in}
 
 -- a request that is handled: what it asks, the words that would be drawn, and want of memory
 pub record Handled : Type 0 where
@@ -172,11 +172,9 @@ CoursesIsolate =
     (m : Meaning) → ReadsGivenInTurn m
     → (service other_service : Service) (limit other_limit : ℕ) (told other_told : Told) (turns other_turns : List Turn)
     → (history other : List Recorded) (n k : ℕ) (opening : ℕ × ℕ)
-    → (course : IsCourse m service limit told turns history)
-    → (other_course : IsCourse m other_service other_limit other_told other_turns other)
-    → (here : opening_in n history ≡ Some opening) (there : opening_in k other ≡ Some opening)
-    → (let s = course.sessions n opening here in s.lacking ≡ None)
-    → (let s = other_course.sessions k opening there in s.lacking ≡ None)
+    → IsCourse m service limit told turns history → IsCourse m other_service other_limit other_told other_turns other
+    → opening_in n history ≡ Some opening → opening_in k other ≡ Some opening
+    → wants_memory n history ≡ false → wants_memory k other ≡ false
     → batches_in n history ≡ batches_in k other
     → Agree (given_in n history) (given_in k other)
     → Agree (story_in n history) (story_in k other)

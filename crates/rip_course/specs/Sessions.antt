@@ -1,6 +1,9 @@
 -- What a history has of a session, and that it is what the session does.
 use Rattle.std.specs.Prelude.{◌≡◌, ℕ, ◌-◌, ◌==◌, Bool, true, false, nat_le, List, [], ◌∷◌, ◌++◌, ◌⊎◌, map, slice_get, Option, Some, None, unwrap_or, if◌then◌else◌}
+use Rattle.std.specs.List.{list_any}
 use Rattle.rip_wire.specs.Batches.{Contents}
+use Rattle.rip_wire.specs.declared.ending.Ending.{Ending}
+use Rattle.rip_wire.specs.declared.ending.Ending.TheVariants.{Mismatch, BadReport, Limit, Fault, Memory, Closed}
 use Rattle.rip_log.specs.Entries.{Recorded, opened, admitted, served, done, closed, ended}
 use Rattle.rip_course.specs.Parts.{Fact, passes, serves, finishes, Part, Given, Meaning, ReadsGivenInTurn, Lacking, MayLack, with_lack}
 use Rattle.rip_course.specs.Turns.{turn_at}
@@ -132,6 +135,25 @@ IsFrontOf xs ys = (more : List _) × (ys ≡ xs ++ more)
 abbrev pub Agree : {A : Type 0} → List A → List A → Type 0
 Agree xs ys = IsFrontOf xs ys ⊎ IsFrontOf ys xs
 
+-- a fact that ends a session for want of memory
+abbrev pub ends_for_memory : Option Ending → Bool
+ends_for_memory None = false
+ends_for_memory (Some (Mismatch item number reported made)) = false
+ends_for_memory (Some (BadReport item kind)) = false
+ends_for_memory (Some (Limit item limit)) = false
+ends_for_memory (Some (Fault item fault)) = false
+ends_for_memory (Some (Memory item)) = true
+ends_for_memory (Some Closed) = false
+
+abbrev pub is_want : Fact → Bool
+is_want passes = false
+is_want (serves number name args) = false
+is_want (finishes how) = ends_for_memory how
+
+-- the history says that the session of an ordinal ended for want of memory
+abbrev pub wants_memory : ℕ → List Recorded → Bool
+wants_memory n h = list_any (λ (d : Deed). is_want d.fact) (deeds_in n h)
+
 -- isolation: two histories, each up to its last turn, in neither of which a session wants memory, that give it the same
 -- opening, the same batches and, as far as both go, the same moments and replies, have it do the same, as far as both go:
 -- the same served calls, the same endings, each so many turns after the admission of its batch
@@ -139,8 +161,8 @@ abbrev pub SessionsAreAlone : Type 0
 SessionsAreAlone =
     (m : Meaning) → ReadsGivenInTurn m
     → (last other_last : ℕ) (history other : List Recorded) (n k : ℕ)
-    → (here : IsSessionOf m last history n) (there : IsSessionOf m other_last other k)
-    → here.lacking ≡ None → there.lacking ≡ None
+    → IsSessionOf m last history n → IsSessionOf m other_last other k
+    → wants_memory n history ≡ false → wants_memory k other ≡ false
     → opening_in n history ≡ opening_in k other → batches_in n history ≡ batches_in k other
     → Agree (given_in n history) (given_in k other)
     → Agree (story_in n history) (story_in k other)

@@ -31,7 +31,7 @@
 //! | [`requests_are_handled_once`] | `Handlings.TurnsAreHandled`, `HandledOnce` |
 //! | [`sequences_count`] | `Sequences.OrdinalsCount`, `BatchesCount`, `IdentifiersDiffer`, `EndsLast` |
 //! | [`meanings_keep`] | `Stages.MeaningsKeep`, of a lawful meaning (`Parts.IsLawful`) |
-//! | [`sessions_are_alone`] | `Sessions.SessionsAreAlone`, of a meaning that reads what is given at its served calls (`ReadsGivenInTurn`) |
+//! | [`sessions_are_alone`] | `Sessions.SessionsAreAlone`, of sessions that want no memory, whose meaning reads what is given at its served calls (`Parts.ReadsGivenInTurn`) |
 //! | [`courses_hold`] | `Course.CoursesAreInOrder`, `CoursesCount`, `CoursesIsolate` |
 //!
 //! A layer above may rest on these. That each run of the machine is a course is a law of the crate above (`rip_legal`). Not

@@ -60,13 +60,13 @@ idle-last : (c : ℕ) (b : Bool) → pending (suc c) (cond b (suc c ∷ []) []) 
 idle-last c true p = absurd (true≢false (sym (eq-eqb (suc c) (suc c) refl) ∙ (or_parts (eqb (suc c) (suc c)) false p).0))
 idle-last c false p = refl
 
-idle-rest : (c i : ℕ) (h : List Recorded) → i < c → pending (suc i) (busy_up_to c h) ≡ false → is_busy_in (standing_of (suc i) h) ≡ false
-idle-rest zero i h lt p = absurd (omega (arith, lt))
-idle-rest (suc c) i h lt p =
+pub idle_rest : (c i : ℕ) (h : List Recorded) → i < c → pending (suc i) (busy_up_to c h) ≡ false → is_busy_in (standing_of (suc i) h) ≡ false
+idle_rest zero i h lt p = absurd (omega (arith, lt))
+idle_rest (suc c) i h lt p =
     let b = is_busy_in (standing_of (suc c) h) in
     by (eqb i c) refl
     (or_parts (pending (suc i) (busy_up_to c h)) (pending (suc i) (cond b (suc c ∷ []) []))
-    (sym (list_any-append (λ (k : ℕ). eqb k (suc i)) (busy_up_to c h) (cond b (suc c ∷ []) [])) ∙ p)) (idle-rest c i h)
+    (sym (list_any-append (λ (k : ℕ). eqb k (suc i)) (busy_up_to c h) (cond b (suc c ∷ []) [])) ∙ p)) (idle_rest c i h)
   where
     by : (t : Bool) → eqb i c ≡ t
         → (pending (suc i) (busy_up_to c h) ≡ false) × (pending (suc i) (cond (is_busy_in (standing_of (suc c) h)) (suc c ∷ []) []) ≡ false)
@@ -91,7 +91,7 @@ begin_midst m u h stages f = record {
     idle n st p is =
         let within = stage_within n stages st is in
         subst (λ (k : ℕ). is_busy_in (standing_of k h) ≡ false) (sym within.1)
-        (idle-rest (length (identifiers_in h)) within.0 h (omega (arith, within.2, f.count))
+        (idle_rest (length (identifiers_in h)) within.0 h (omega (arith, within.2, f.count))
         (subst (λ (k : ℕ). pending k (busy_in h) ≡ false) within.1 p))
 
     by : (n : ℕ) → pending n (busy_in h) ≡ false → (o : Option Stage) → stage_of n stages ≡ o → Fits m u (seen n h) o → Fits m (u + 1) (seen n h) o

@@ -1,7 +1,10 @@
 pub mod AdvanceLemmas
+pub mod AloneLemmas
+pub mod EndLemmas
 pub mod EntryLemmas
 pub mod FitLemmas
 pub mod MadeLemmas
 pub mod RunLemmas
 pub mod StandLemmas
+pub mod StreamLemmas
 pub mod ViewLemmas

@@ -81,12 +81,18 @@ unopened-session m last h n is (Some st) k = absurd (none_some (st.seed, st.time
 from-zero : (n : ℕ) → 0 + n ≡ n
 from-zero n = omega arith
 
+-- after any turns of a run each session fits its stage
+pub run_fits : (site : Site) (ts : List Coming) → IsLawful site.meaning → AreTurns site 1 first_state ts
+    → (let x = after_turns site 1 first_state ts in AllFit site.meaning (length ts) x.history x.stages)
+run_fits site ts lawful turns =
+    let end = after_turns site 1 first_state ts in
+    subst (λ (w : ℕ). AllFit site.meaning w end.history end.stages) (from-zero (length ts))
+    (turns-fit site lawful 0 first_state ts turns (first-fit site.meaning))
+
 pub runs_are_courses : RunsAreCourses
 runs_are_courses site ts lawful turns =
     let end = after_turns site 1 first_state ts in
-    let fit : AllFit site.meaning (length ts) (history_of site ts) end.stages =
-    subst (λ (w : ℕ). AllFit site.meaning w (history_of site ts) end.stages) (from-zero (length ts))
-    (turns-fit site lawful 0 first_state ts turns (first-fit site.meaning)) in
+    let fit : AllFit site.meaning (length ts) (history_of site ts) end.stages = run_fits site ts lawful turns in
     record {
       entries = turns_history site 1 first_state ts;
       made = turns_made site 1 first_state ts turns;

@@ -8,13 +8,14 @@ use Rattle.rip_wire.specs.Reasons.{reason_of}
 use Rattle.rip_wire.specs.declared.ending.Ending.{Ending}
 use Rattle.rip_wire.specs.declared.ending.Reason.{Reason}
 use Rattle.rip_course.specs.Parts.{Fact, passes, serves, finishes, Part, ends_batch, ends_session, has_finished, has_ended, Lacking, with_lack, MayLack}
-use Rattle.rip_course.specs.Sessions.{Deed, admission, comes_by, come_by, deed_of, is_deed, deeds_of, deeds_by}
+use Rattle.rip_course.specs.Sessions.{Deed, admission, comes_by, come_by, is_deed, deeds_of, deeds_by}
 use Rattle.rip_course.specs.Stages.{has_come, come, finishes_batch, GoesLacking, IsProgress}
 use Rattle.rip_course.specs.Standings.{when_opened, when_admitted, when_done, when_closed, has_done, is_busy}
 use Rattle.rip_course.specs.Turns.{turn_at}
 use Rattle.rip_course.specs.declared.sessions.Progress.{Progress}
 use Rattle.rip_course.specs.declared.sessions.Progress.TheVariants.{Busy, Finished}
 use Rattle.rip_course.specs.declared.standing.Standing.{Standing}
+use Rattle.rip_course.proofs.SessionLemmas.{deeds_join}
 use Rattle.rip_course.proofs.ComeLemmas.{none_come, all_right, come_bounds, come_earlier, come_splits, HasCome, come_all, come_whole, ComesBy, come_later, Spends, come_by_busy, come_by_idle, EndIsLast, end_is_last, done_leaves_none}
 use Rattle.rip_legal.proofs.MadeLemmas.{all-join, all-maps}
 
@@ -262,16 +263,6 @@ parts_in_turn u whole next lacking new units last turns parts s is now =
     all-in-turn u turns last units parts s now
     (all_right (HasCome last (units + 1000)) (at whole lacking units last) parts
     (subst (λ (ps : List Part). AllByRecursion (HasCome last (units + 1000)) ps) is (come_all last (units + 1000) (with_lack new next))))
-
-deeds-push : (turns : List ℕ) (p : Part) (xs ys zs : List Deed) (b : Bool) → xs ≡ ys ++ zs
-    → cond b (deed_of turns p ∷ xs) xs ≡ cond b (deed_of turns p ∷ ys) ys ++ zs
-deeds-push turns p xs ys zs true e = ap (λ (t : List Deed). deed_of turns p ∷ t) e
-deeds-push turns p xs ys zs false e = e
-
-pub deeds_join : (turns : List ℕ) (ps qs : List Part) → deeds_of turns (ps ++ qs) ≡ deeds_of turns ps ++ deeds_of turns qs
-deeds_join turns [] qs = refl
-deeds_join turns (p ∷ ps) qs =
-    deeds-push turns p (deeds_of turns (ps ++ qs)) (deeds_of turns ps) (deeds_of turns qs) (is_deed p.fact) (deeds_join turns ps qs)
 
 -- parts in which no batch is done end no session, and no batch
 fact-ends : (f : Fact) → ends_batch f ≡ false → ends_session f ≡ false

@@ -17,7 +17,8 @@ use Rattle.rip_course.specs.Standings.{when_opened, when_admitted, when_done, wh
 use Rattle.rip_course.specs.declared.sessions.Progress.{Progress}
 use Rattle.rip_course.specs.declared.sessions.Progress.TheVariants.{Busy, Finished}
 use Rattle.rip_course.specs.declared.standing.Standing.{Standing}
-use Rattle.rip_legal.proofs.StandLemmas.{InTurn, after_progress, deeds_join}
+use Rattle.rip_legal.proofs.StandLemmas.{InTurn, after_progress}
+use Rattle.rip_course.proofs.SessionLemmas.{deeds_join}
 
 -- what a history has of a session
 pub record Seen : Type 0 where

@@ -1,11 +1,14 @@
 -- Runs of the machine are legal courses.
-use Rattle.std.specs.Prelude.{ℕ, ◌+◌, List, [], ◌∷◌, map}
+use Rattle.std.specs.Prelude.{◌≡◌, ℕ, ◌+◌, List, [], ◌∷◌, ◌++◌, length, map, Option, Some}
 use Rattle.std.specs.List.{flat_map}
-use Rattle.rip_log.specs.Entries.{Recorded}
+use Rattle.rip_log.specs.Entries.{Recorded, ended}
 use Rattle.rip_course.specs.Course.{Told, Turn, IsCourse}
 use Rattle.rip_course.specs.Parts.{IsLawful}
 use Rattle.rip_course.specs.Run.{Site, first_state, Advance, advance_entries, Coming, asked_in}
-use Rattle.rip_course.specs.Runs.{after_turns, AreTurns}
+use Rattle.rip_course.specs.Runs.{after_turns, AreTurns, IsRun}
+use Rattle.rip_course.specs.Connections.{Act, put_in}
+use Rattle.rip_course.specs.Standings.{standing_of}
+use Rattle.rip_course.specs.declared.standing.Standing.{Standing}
 
 -- the entries of what the sessions do in a turn
 abbrev pub made_in : ℕ → List Advance → List Recorded
@@ -33,3 +36,17 @@ abbrev pub RunsAreCourses : Type 0
 RunsAreCourses =
     (site : Site) (ts : List Coming) → IsLawful site.meaning → AreTurns site 1 first_state ts
     → IsCourse site.meaning site.service site.limit (told_in ts) (course_turns 1 ts) (history_of site ts)
+
+-- a run that stops with 0 leaves nothing undone: the last batch of each session is done, and so is each opening. One that
+-- stops with 3 has made as many turns as it may
+abbrev pub RunsEnd : Type 0
+RunsEnd =
+    (site : Site) (most : Option ℕ) (ts : List Coming) (acts : List Act) → IsLawful site.meaning
+    → (IsRun site most ts 0 acts → (n : ℕ) (s : Standing) → standing_of n (history_of site ts) ≡ Some s → s.done ≡ Some s.last)
+    × (IsRun site most ts 3 acts → most ≡ Some (length ts))
+
+-- what a whole run puts is a course and its status, in order
+abbrev pub RunsPut : Type 0
+RunsPut =
+    (site : Site) (most : Option ℕ) (ts : List Coming) (status : ℕ) (acts : List Act) → IsRun site most ts status acts
+    → put_in acts ≡ history_of site ts ++ ended (length ts) status ∷ []

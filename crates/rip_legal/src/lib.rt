@@ -5,15 +5,36 @@
 //!
 //! | law | its definition in `specs/` |
 //! |---|---|
-//! | [`runs_are_courses`] | `Legal.RunsAreCourses`: the history after any turns of the machine is a course of these turns, moments and words |
+//! | [`runs_are_courses`] | `Legal.RunsAreCourses`: the history after any turns of the machine is a course of these turns, moments and words; `RunsPut`: a whole run puts it and its status; `RunsEnd`: with 0 the last batch of each session is done |
+//! | [`runs_isolate`] | `Alone.RunsIsolate`: a session that is given the same in two runs of one application does the same, each so many turns after the admission of its batch, and its batches are answered the same, as far as both go |
+//! | [`streams_are_handled`] | `Streams.StreamsAreHandled`: the messages handled on a connection stand one behind the other at the front of the bytes that came on it; `Streams.NothingIsLeft`: in each turn they are all requests of these bytes, where no answer is owed |
 //!
-//! A layer above may rest on this: what is known of courses ([`rip_course::courses_hold`]) is known of each run, so a
-//! session does the same in two runs that give it the same.
+//! A layer above may rest on this: what is known of courses ([`rip_course::courses_hold`]) is known of each run, and what
+//! is known of the messages of a stream ([`rip_http::taken_stands`], [`rip_http::cuts_do_not_matter`]) is known of what is
+//! handled on a connection. Not said: that a run that breaks off could have gone on.
 #![tactic(auto)]
 
-ghost use Rattle.rip_legal.specs.Legal.{RunsAreCourses};
+ghost use Rattle.rip_legal.specs.Alone.{RunsIsolate};
+ghost use Rattle.rip_legal.specs.Legal.{RunsAreCourses, RunsEnd, RunsPut};
+ghost use Rattle.rip_legal.specs.Streams.{NothingIsLeft, StreamsAreHandled};
 
-/// The history of each run of the machine is a legal course.
+/// The history of each run of the machine is a legal course; a whole run puts it, and behind it its status; where that is 0
+/// nothing is undone.
 pub fn runs_are_courses()
-    ensures { RunsAreCourses }
+    ensures courses { RunsAreCourses }
+    ensures ends { RunsEnd }
+    ensures puts { RunsPut }
+{}
+
+/// In each run of the machine, what is handled on a connection is what is asked in the bytes that came on it, in order.
+/// And in each turn all is handled that was asked, on each connection on which no answer is owed.
+pub fn streams_are_handled()
+    ensures taken { StreamsAreHandled }
+    ensures all { NothingIsLeft }
+{}
+
+/// Isolation: a session that is given the same in two runs, and wants no memory there, does the same in both, in turns
+/// counted from the admission of each batch, and is answered the same, as far as both go.
+pub fn runs_isolate()
+    ensures { RunsIsolate }
 {}
