@@ -1,28 +1,46 @@
 ghost use Rattle.std.specs.Prelude.{◌≡◌, ◌≤◌, length, IfOk};
 ghost use Rattle.rip_outer.specs.declared.reading.TheConstants.{MAX_FILE};
 
+use crate::history::{Deed, History};
 use rip_outer::{Files, FilesError, MAX_FILE};
 use rip_values::Bytes;
 use std::alloc::Global;
 use std::io::{ErrorKind, Read};
+use std::marker::Model;
 use std::{fs, rt};
 
 /// Bytes that are read at once.
 const ROOM: usize = 4096;
 
-/// The files of the machine. They tell nothing.
+/// The files of the machine. They tell the names that were asked, and not what is held.
 #[derive(Drop)]
 pub struct HostFiles<'a, R> {
     rt: &'a R,
+    history: History,
     faults: u64,
 }
 
+impl<'a, R> Model for HostFiles<'a, R> {
+    ghost use Rattle.rip_real.specs.History.{HostState};
+
+    ghost Value = { HostState };
+
+    ghost view = { λ s. record { deeds = s.history.deeds; faults = s.faults } };
+}
+
 impl<'a, R> HostFiles<'a, R> {
-    /// Files of which no read has failed.
+    ghost use Rattle.std.specs.Prelude.{◌≡◌};
+    ghost use Rattle.rip_real.specs.History.{new_state};
+
+    /// Files of which none was asked, and of which no read has failed.
     pub fn new(rt: &'a R) -> HostFiles<'a, R>
-        ensures { result.faults ≡ 0 }
+        ensures { result ≡ new_state }
     {
-        HostFiles { rt, faults: 0 }
+        HostFiles {
+            rt,
+            history: History::new(),
+            faults: 0,
+        }
     }
 }
 
@@ -54,10 +72,11 @@ fn read_file<R: rt::Files>(rt: &R, alloc: Global, name: &str) -> Result<Bytes, F
 
 impl<'a, R: rt::Files> Files for HostFiles<'a, R> {
     ghost use Rattle.std.specs.Prelude.{None};
+    ghost use Rattle.rip_real.specs.History.{names_in};
 
     ghost held = { λ _. None };
 
-    ghost asked = { λ _. None };
+    ghost asked = { λ f. names_in f.deeds };
 
     ghost count = { λ f. f.faults };
 
@@ -67,6 +86,10 @@ impl<'a, R: rt::Files> Files for HostFiles<'a, R> {
 
     fn read_all(&mut self, alloc: Global, name: &str) -> Result<Bytes, FilesError> {
         let answer = read_file(self.rt, alloc, name);
+        if matches!(answer, Err(FilesError::Memory)) {
+            return answer;
+        }
+        self.history = self.history.then(&Deed::Read(name));
         if matches!(answer, Err(FilesError::Failed)) {
             self.faults = self.faults.saturating_add(1);
         }

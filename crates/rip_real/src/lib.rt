@@ -1,16 +1,44 @@
-//! The outside of the machine: its files, and a writer as a sink.
+//! The outside of the machine: its files, a writer as a sink, a TCP door, its clock and its random words.
 //!
-//! This is the trusted edge. The objects tell nothing of what they hold, so that what a program promises over them is
-//! what its clauses say of objects that tell nothing: how often the outside failed. A count rises at each failure.
+//! This is the trusted edge. What the system does no clause can say; but each object tells, call by call, what it
+//! answered, and so a promise over an object that tells holds of the program too, of whatever the system answered. A
+//! history is noted for that by the proofs alone: it takes no memory and does nothing at run time. What will come
+//! cannot be told. A count rises at each failure.
 //!
-//! | what | stands for |
-//! |---|---|
-//! | [`HostFiles`] | the files of the machine, read whole, at most [`rip_outer::MAX_FILE`] bytes each |
-//! | [`HostSink`] | a writer, as standard output |
+//! | what | stands for | it tells, by its definition in `specs/` |
+//! |---|---|---|
+//! | [`HostFiles`] | the files of the machine, read whole, at most [`rip_outer::MAX_FILE`] bytes each | the names asked: `History.names_in` |
+//! | [`HostSink`] | a writer, as standard output | the bytes that the writer took: `History.written_in` |
+//! | [`TcpDoor`] | connections over TCP | the knocks and the connections that a send found gone: `History.told_in`; the `busy` of each knock: `History.busy_in`; the bytes sent to each connection: `History.sent_in`; the shuts: `History.shuts_in` |
+//! | [`HostClock`] | the time of day, in milliseconds since the beginning of 1970 | the moments: `History.given_in` |
+//! | [`HostWords`] | words from the system's random source | the words: `History.given_in` |
+//! | [`real_outside`] | door, clock and words of a server | |
+//!
+//! Law: whatever the sockets answer, a door tells a piece or a going only of a connection that it told as opened, and
+//! that is neither gone nor shut; connections are numbered in the order of their opening (`Journal.IsJournal`).
+//!
+//! A layer above may rest on this: each meets its trait of `rip_outer`, and begins with nothing told and no failure
+//! counted. Bytes that were sent to a connection were taken by the system or wait for it; a door never waits for a peer
+//! that doesn't read, and gives a connection up once more than 4 MiB wait when more are sent. A connection that is shut
+//! is still written to, and what it still sends is thrown away. A peer that will send no more counts as gone.
 #![tactic(auto)]
 
+mod clock;
+mod door;
 mod files;
+mod history;
+mod journal;
+mod link;
+mod outside;
+mod random_words;
 mod sink;
+mod sockets;
+#[cfg(test)]
+mod tests;
 
+pub use clock::HostClock;
+pub use door::TcpDoor;
 pub use files::HostFiles;
+pub use outside::{RealOutside, real_outside};
+pub use random_words::HostWords;
 pub use sink::HostSink;

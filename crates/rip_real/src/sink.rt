@@ -1,28 +1,66 @@
-ghost use Rattle.std.specs.Prelude.{◌≡◌};
+ghost use Rattle.std.specs.Prelude.{◌≡◌, ◌≤◌, length};
 
+use crate::history::{Deed, History};
 use rip_outer::{Sink, SinkError};
-use std::io::Write;
+use std::io::{ErrorKind, Write};
+use std::marker::Model;
 
-/// A writer as a sink. It tells nothing.
+/// A writer as a sink. It tells the bytes that the writer took.
 #[derive(Drop)]
 pub struct HostSink<W> {
     writer: W,
+    history: History,
     faults: u64,
 }
 
+impl<W> Model for HostSink<W> {
+    ghost use Rattle.rip_real.specs.History.{HostState};
+
+    ghost Value = { HostState };
+
+    ghost view = { λ s. record { deeds = s.history.deeds; faults = s.faults } };
+}
+
 impl<W> HostSink<W> {
-    /// A sink of which no put has failed.
+    ghost use Rattle.std.specs.Prelude.{◌≡◌};
+    ghost use Rattle.rip_real.specs.History.{new_state};
+
+    /// A sink to which nothing was put, and of which no put has failed.
     pub fn new(writer: W) -> HostSink<W>
-        ensures { result.faults ≡ 0 }
+        ensures { result ≡ new_state }
     {
-        HostSink { writer, faults: 0 }
+        HostSink {
+            writer,
+            history: History::new(),
+            faults: 0,
+        }
     }
 }
 
-impl<W: Write> Sink for HostSink<W> {
-    ghost use Rattle.std.specs.Prelude.{None};
+/// Writes the bytes, and says how many of them the writer took: all where none of its calls failed. A write that was
+/// interrupted is tried again.
+fn write_front<W: Write>(writer: &mut W, bytes: &[u8]) -> usize
+    ensures { result ≤ length bytes.now }
+{
+    let mut count = 0;
+    for _ in 0..u64::MAX {
+        if count == bytes.len() {
+            break;
+        }
+        match writer.write(&bytes[count..]) {
+            Ok(0) => break,
+            Ok(more) => count += more,
+            Err(error) if error.kind() == ErrorKind::Interrupted => {}
+            Err(_) => break,
+        }
+    }
+    count
+}
 
-    ghost held = { λ _. None };
+impl<W: Write> Sink for HostSink<W> {
+    ghost use Rattle.rip_real.specs.History.{written_in};
+
+    ghost held = { λ s. written_in s.deeds };
 
     ghost count = { λ s. s.faults };
 
@@ -31,7 +69,9 @@ impl<W: Write> Sink for HostSink<W> {
     }
 
     fn put(&mut self, bytes: &[u8]) -> Result<(), SinkError> {
-        if self.writer.write_all(bytes).is_err() {
+        let count = write_front(&mut self.writer, bytes);
+        self.history = self.history.then(&Deed::Put(&bytes[..count]));
+        if count < bytes.len() {
             self.faults = self.faults.saturating_add(1);
             return Err(SinkError::Failed);
         }

@@ -1,0 +1,14 @@
+use Rattle.std.proofs.Common.{◌<◌, sym, subst}
+use Rattle.rip_real.specs.Journal.{JournalState}
+use Rattle.rip_real.proofs.Journals.{journal_sent, journal_lost}
+use Rattle.rip_real.proofs.journal.Journal.answer.Goals as goal
+
+pub invariant_of-self : goal.invariant_of-self
+invariant_of-self c =
+    let i = c.self.inside in
+    journal_sent i.history.deeds c.then-self-inside.result.deeds i.opened c.args.c i.live.items c.args.bytes.now c.self.invariant c.then-self-inside.ensures
+
+pub invariant_of-self-2 : goal.invariant_of-self-2
+invariant_of-self-2 c =
+    let i = c.self.inside in
+    journal_lost i.history.deeds c.then-self-inside-2.result.deeds i.opened c.args.c i.live.items c.strike.new.live.items c.args.bytes.now c.self.invariant (subst (λ (s : JournalState). c.args.c < s.opened) (sym c.self.view_is) c.requires) c.strike.ensures c.then-self-inside-2.ensures

@@ -1,0 +1,3 @@
+pub mod History
+pub mod Deeds
+pub mod Journal

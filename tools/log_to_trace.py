@@ -1,0 +1,81 @@
+#!/usr/bin/env python3
+"""Makes of the log of `ripley serve` a trace over which `ripley replay` writes the same log.
+
+    tools/log_to_trace.py LOG > TRACE
+    ripley replay PAGE APP TRACE | cmp - LOG
+
+A trace has one knock a turn, so this goes where no two requests were handled in one turn, and where turns without a
+request are left to open connections in; else it says at which turn it doesn't go, with status 1. Requests that were
+refused are not in a log, and leave no mark in it. The last line of the log, if it is `end`, is to be that of the
+trace's own end and is left out of the comparison where the server was stopped from outside.
+"""
+
+import json
+import sys
+import uuid
+
+
+def read(path):
+    """The requests by turn, the moments by turn, the words, and the last turn of an entry."""
+    asked, moments, words, done, last = {}, {}, [], {}, 0
+    for line in open(path, encoding="utf-8"):
+        kind, turn, *rest = line.rstrip("\n").split(" ", 3)
+        turn = int(turn)
+        last = max(last, turn)
+        if kind == "end":
+            continue
+        session = int(rest[0])
+        if kind == "open":
+            name, seed, moment = line.split()[3:6]
+            drawn = uuid.UUID(name).int
+            words += [drawn >> 64, drawn % 2**64, int(seed)]
+            moments[turn] = int(moment)
+            asked.setdefault(turn, []).append((session, 0, "get"))
+        elif kind == "batch":
+            number, items = line.rstrip("\n").split(" ", 4)[3:]
+            body = '{"batch":%s,"items":%s}' % (number, items)
+            asked.setdefault(turn, []).append((session, int(number), f"e {session} {body}"))
+        elif kind == "close":
+            asked.setdefault(turn, []).append((session, None, f"q {session}"))
+            done[session, None] = turn
+        elif kind == "serve":
+            behind = line.rstrip("\n").split(" ", 6)[6]
+            _, end = json.JSONDecoder().raw_decode(behind)
+            moments[turn] = int(behind[end:].split()[0])
+        elif kind == "done":
+            done[session, int(line.split()[3])] = turn
+    return asked, moments, words, done, last
+
+
+def trace(asked, moments, words, done, last):
+    lines = [f"word {word:016x}" for word in words]
+    knocks, opens, free_at, free = {}, 0, {}, []
+    for turn in range(1, last + 1):
+        here = asked.get(turn, [])
+        if len(here) > 1:
+            sys.exit(f"turn {turn}: two requests were handled")
+        if not here:
+            free.append(turn)
+            continue
+        session, number, say = here[0]
+        ready = [c for c in range(opens) if free_at[c] < turn]
+        if ready:
+            c = ready[0]
+        elif free and opens < 64:
+            knocks[free.pop(0)] = f"open {opens}"
+            c, opens = opens, opens + 1
+        else:
+            sys.exit(f"turn {turn}: no connection can be opened before it")
+        free_at[c] = done.get((session, number), turn)
+        knocks[turn] = f"say {c} {say}"
+    moment = 0
+    for turn in range(1, last + 1):
+        if moments.get(turn, moment) != moment:
+            moment = moments[turn]
+            lines.append(f"time {moment}")
+        lines.append(knocks.get(turn, "quiet"))
+    return lines
+
+
+if __name__ == "__main__":
+    print("\n".join(trace(*read(sys.argv[1]))))
