@@ -1,4 +1,5 @@
 pub mod Arguments
+pub mod Extending
 pub mod Pieces
 pub mod Told
 pub mod Values

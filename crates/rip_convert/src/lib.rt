@@ -6,7 +6,7 @@
 //!
 //! | what | its definition in `specs/` |
 //! |---|---|
-//! | [`value_of_datum`] | `Values.made_value`, the steps in the order of their charges; `Values.Does` says what an answer means |
+//! | [`value_of_datum`] | `Values.made_value`, the steps in the order of their charges; `Values.Does` says what an answer means; want of memory takes all back |
 //! | [`CallRow::write_call`] | `Arguments.call_text`: the walk `Arguments.walked` over the arguments, left to right, and at last their length; `Told.IsCallOf` that they are the text of a datum that is well made |
 //!
 //! A layer above may rest on this: each call is total, a number that is no object of the heap included. A limit ends the

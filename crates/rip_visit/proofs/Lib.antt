@@ -1,0 +1,4 @@
+pub mod EffectLemmas
+pub mod FlowingLemmas
+pub mod OpeningLemmas
+pub mod StepLemmas
