@@ -5,6 +5,7 @@ pub mod EntryLemmas
 pub mod FitLemmas
 pub mod MadeLemmas
 pub mod RunLemmas
+pub mod SliceLemmas
 pub mod StandLemmas
 pub mod StreamLemmas
 pub mod ViewLemmas

@@ -1,3 +1,4 @@
 pub mod Alone
 pub mod Legal
+pub mod Sliced
 pub mod Streams
