@@ -208,7 +208,7 @@ here-fits site u moment s a i k busy = subst (λ (v : Seen). Has site.meaning (u
         ∙ seen_advance u n s.history a.parts a.given a.progress last k.standing k.is turned i.how_far g.each
 
 -- and the others
-advance_fit : (site : Site) (u moment : ℕ) (s : State) (a : Advance) (ns : List ℕ) → IsAdvance site moment s a → RisesFrom a.session ns
+pub advance_fit : (site : Site) (u moment : ℕ) (s : State) (a : Advance) (ns : List ℕ) → IsAdvance site moment s a → RisesFrom a.session ns
     → Midst site.meaning u s.history s.stages (a.session ∷ ns)
     → (let x = after_advance (u + 1) s a in Midst site.meaning u x.history x.stages ns)
 advance_fit site u moment s a ns i rises f = record {

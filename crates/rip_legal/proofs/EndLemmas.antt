@@ -78,7 +78,7 @@ runs_end site most ts acts lawful = (
 
 -- ---- what is put
 
-put-join : (xs ys : List Act) → put_in (xs ++ ys) ≡ put_in xs ++ put_in ys
+pub put-join : (xs ys : List Act) → put_in (xs ++ ys) ≡ put_in xs ++ put_in ys
 put-join [] ys = refl
 put-join (puts e ∷ xs) ys = ap (λ (t : List Recorded). e ∷ t) (put-join xs ys)
 put-join (sends c bytes ∷ xs) ys = put-join xs ys
@@ -156,7 +156,7 @@ advances-puts site turn s (a ∷ rest) =
     advances-puts site turn next rest ∙ append_assoc s.history es (put_in others)
     ∙ ap (λ (t : List Recorded). s.history ++ t) (ap (λ (t : List Recorded). t ++ put_in others) (sym one) ∙ sym (put-join (advance_acts site turn s a) others))
 
-turn-puts : (site : Site) (turn : ℕ) (t : Coming) (s : State)
+pub turn-puts : (site : Site) (turn : ℕ) (t : Coming) (s : State)
     → (let x = after_turn site turn t s in x.history) ≡ s.history ++ put_in (turn_acts site turn t s)
 turn-puts site turn t s =
     let first = knock_acts t.knock s.connections in
@@ -169,7 +169,7 @@ turn-puts site turn t s =
     ∙ ap (λ (h : List Recorded). h ++ put_in third) (handlings-puts site turn t.moment (knocked_at t s) t.handlings)
     ∙ append_assoc s.history (put_in second) (put_in third) ∙ ap (λ (es : List Recorded). s.history ++ es) (sym parts)
 
-turns-puts : (site : Site) (turn : ℕ) (s : State) (ts : List Coming)
+pub turns-puts : (site : Site) (turn : ℕ) (s : State) (ts : List Coming)
     → (let x = after_turns site turn s ts in x.history) ≡ s.history ++ put_in (turns_acts site turn s ts)
 turns-puts site turn s [] = sym (append-nil s.history)
 turns-puts site turn s (t ∷ ts) =

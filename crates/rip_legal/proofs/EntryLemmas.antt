@@ -154,10 +154,10 @@ advance_replies site turn moment s a is =
     (done_replies site.service (before ++ called_so_far (entries a.given)) turn a.session (length a.next.batches) a.progress)
 
 -- each reply of the history is the service's
-abbrev Replied : Site → State → Type 0
+abbrev pub Replied : Site → State → Type 0
 Replied site s = AreReplies site.service [] s.history
 
-handled_replied : (site : Site) (turn moment : ℕ) (s : State) (hs : List Handling) → Replied site s → Replied site (after_handlings site turn moment s hs)
+pub handled_replied : (site : Site) (turn moment : ℕ) (s : State) (hs : List Handling) → Replied site s → Replied site (after_handlings site turn moment s hs)
 handled_replied site turn moment s [] p = p
 handled_replied site turn moment s (h ∷ hs) p =
     let es = arrived_entries site.limit turn moment s.history h.arrived in
@@ -166,7 +166,7 @@ handled_replied site turn moment s (h ∷ hs) p =
     (subst (λ (g : List Recorded). AreReplies site.service [] g) (sym (arrived_history site turn moment h.connection h.size h.gone s h.arrived))
     (replies-join site.service [] s.history es p (arrived_replies site.service (called_so_far s.history) site.limit turn moment s.history h.arrived)))
 
-advanced_replied : (site : Site) (turn moment : ℕ) (s : State) (ns : List ℕ) (rest : List Advance) → AreAdvancedSo site turn moment s ns rest
+pub advanced_replied : (site : Site) (turn moment : ℕ) (s : State) (ns : List ℕ) (rest : List Advance) → AreAdvancedSo site turn moment s ns rest
     → Replied site s → Replied site (after_advances turn s rest)
 advanced_replied site turn moment s [] rest e p = subst (λ (others : List Advance). Replied site (after_advances turn s others)) (sym e) p
 advanced_replied site turn moment s (n ∷ ns) [] e p = absurd e

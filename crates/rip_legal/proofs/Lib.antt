@@ -1,5 +1,6 @@
 pub mod AdvanceLemmas
 pub mod AloneLemmas
+pub mod BrokenLemmas
 pub mod EndLemmas
 pub mod EntryLemmas
 pub mod FitLemmas

@@ -47,7 +47,7 @@ advance_made site turn moment s a is =
     (served_made turn a.session moment (servings_in a.parts) (replies_to site.service (called_so_far s.history) called)))
     (done_made turn a.session (length a.next.batches) moment a.progress)
 
-advanced_made : (site : Site) (turn moment : ℕ) (s : State) (ns : List ℕ) (rest : List Advance) → AreAdvancedSo site turn moment s ns rest
+pub advanced_made : (site : Site) (turn moment : ℕ) (s : State) (ns : List ℕ) (rest : List Advance) → AreAdvancedSo site turn moment s ns rest
     → AllByRecursion (IsMadeIn turn moment) (made_in turn rest)
 advanced_made site turn moment s [] rest e = subst (λ (others : List Advance). AllByRecursion (IsMadeIn turn moment) (made_in turn others)) (sym e) tt
 advanced_made site turn moment s (n ∷ ns) [] e = absurd e
@@ -111,7 +111,7 @@ advance_of_one turn a =
     (done_entries turn a.session (length a.next.batches) a.progress)
     (served_of_one turn a.session (zip (servings_in a.parts) a.given)) (done_of_one turn a.session (length a.next.batches) a.progress)
 
-advanced_by_session : (site : Site) (turn moment : ℕ) (low : ℕ) (s : State) (ns : List ℕ) (rest : List Advance) → RisesFrom low ns
+pub advanced_by_session : (site : Site) (turn moment : ℕ) (low : ℕ) (s : State) (ns : List ℕ) (rest : List Advance) → RisesFrom low ns
     → AreAdvancedSo site turn moment s ns rest → AreBySession low (made_in turn rest)
 advanced_by_session site turn moment low s [] rest r e = subst (λ (others : List Advance). AreBySession low (made_in turn others)) (sym e) tt
 advanced_by_session site turn moment low s (n ∷ ns) [] r e = absurd e

@@ -68,12 +68,12 @@ is-session m lawful last h n st k = record {
     parts : m st.seed st.time (batches_in n h) (given_in n h) ≡ whole_of m st
     parts = (λ i. m st.seed st.time (k.batches i) (k.given i))
 
-opened-session : (m : Meaning) → IsLawful m → (last : ℕ) (h : List Recorded) (n : ℕ) (opening : ℕ × ℕ) → opening_in n h ≡ Some opening
+pub opened-session : (m : Meaning) → IsLawful m → (last : ℕ) (h : List Recorded) (n : ℕ) (opening : ℕ × ℕ) → opening_in n h ≡ Some opening
     → (o : Option Stage) → Fits m last (seen n h) o → IsSessionOf m last h n
 opened-session m lawful last h n opening is None k = absurd (none_some opening (sym k.opening ∙ is))
 opened-session m lawful last h n opening is (Some st) k = is-session m lawful last h n st k
 
-unopened-session : (m : Meaning) (last : ℕ) (h : List Recorded) (n : ℕ) → opening_in n h ≡ None
+pub unopened-session : (m : Meaning) (last : ℕ) (h : List Recorded) (n : ℕ) → opening_in n h ≡ None
     → (o : Option Stage) → Fits m last (seen n h) o → deeds_in n h ≡ []
 unopened-session m last h n is None k = k.deeds
 unopened-session m last h n is (Some st) k = absurd (none_some (st.seed, st.time) (sym is ∙ k.opening))

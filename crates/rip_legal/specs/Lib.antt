@@ -1,4 +1,5 @@
 pub mod Alone
+pub mod Broken
 pub mod Legal
 pub mod Sliced
 pub mod Streams

@@ -6,6 +6,7 @@
 //! | law | its definition in `specs/` |
 //! |---|---|
 //! | [`runs_are_courses`] | `Legal.RunsAreCourses`: the history after any turns of the machine is a course of these turns, moments and words; `RunsPut`: a whole run puts it and its status; `RunsEnd`: with 0 the last batch of each session is done |
+//! | [`broken_runs_are_fronts`] | `Broken.BrokenRunsPut`: what a run that breaks off put is a front of the history of whole turns, a course, and of a turn that broke off |
 //! | [`sessions_are_sliced`] | `Sliced.SessionsAreSliced`: the stage of each session is told by the history, and a busy one got exactly 1,000 units in each turn since its batch was admitted |
 //! | [`runs_isolate`] | `Alone.RunsIsolate`: a session that is given the same in two runs of one application does the same, each so many turns after the admission of its batch, and its batches are answered the same, as far as both go |
 //! | [`streams_are_handled`] | `Streams.StreamsAreHandled`: the messages handled on a connection stand one behind the other at the front of the bytes that came on it; `Streams.NothingIsLeft`: in each turn they are all requests of these bytes, where no answer is owed |
@@ -16,6 +17,7 @@
 #![tactic(auto)]
 
 ghost use Rattle.rip_legal.specs.Alone.{RunsIsolate};
+ghost use Rattle.rip_legal.specs.Broken.{BrokenRunsPut};
 ghost use Rattle.rip_legal.specs.Legal.{RunsAreCourses, RunsEnd, RunsPut};
 ghost use Rattle.rip_legal.specs.Sliced.{SessionsAreSliced};
 ghost use Rattle.rip_legal.specs.Streams.{NothingIsLeft, StreamsAreHandled};
@@ -45,4 +47,10 @@ pub fn runs_isolate()
 /// exactly 1,000 units in each turn since that was admitted.
 pub fn sessions_are_sliced()
     ensures { SessionsAreSliced }
+{}
+
+/// What a run that breaks off put is a front of the history of whole turns, a legal course, and of a turn that broke off,
+/// up to which or the one before each session did what the meaning says.
+pub fn broken_runs_are_fronts()
+    ensures { BrokenRunsPut }
 {}
