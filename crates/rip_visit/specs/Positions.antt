@@ -40,7 +40,7 @@ stands-by : (a b c d : Bool) (made : List (List ℕ)) (calls_back : ℕ → Bool
     (if not a then position.NotNext else if b then (if c && d then position.TooMany else position.Served) else position.Other)
 stands-by false b c d made calls_back taken undelivered number text next last is reads back full fills = λ e. true≢false (sym (last e))
 stands-by true false c d made calls_back taken undelivered number text next last is reads back full fills = (next refl, λ e. true≢false (sym (reads e)))
-stands-by true true true true made calls_back taken undelivered number text next last is reads back full fills = (next refl, is refl, sym back, full refl)
+stands-by true true true true made calls_back taken undelivered number text next last is reads back full fills = (next refl, is refl, (sym back, full refl))
 stands-by true true true false made calls_back taken undelivered number text next last is reads back full fills =
     (next refl, is refl, λ r. true≢false (sym (fills r.1)))
 stands-by true true false d made calls_back taken undelivered number text next last is reads back full fills =

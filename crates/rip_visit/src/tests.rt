@@ -1,22 +1,15 @@
-ghost use Rattle.std.specs.Prelude.{IfOk};
-ghost use Rattle.rip_host.specs.Visit.{Fits};
-
 use super::*;
-use rip_data::Datum;
-use rip_heap::{Heap, HeapLimits, Host, HostDone};
+use rip_heap::{Heap, HeapLimits};
 use rip_host::Browser;
 use rip_items::{PageHost, Position, ReplyRefused, ReportRefused};
 use rip_values::{
-    BadReport, Builtin, EventKind, FIRST_NODE, Limits, List, NodeKind, Page, PageNode, Report,
-    Units, Value, Whole,
+    BadReport, EventKind, Limits, List, NodeKind, Page, PageNode, Report, Units, Whole,
 };
 use std::alloc::Global;
 use std::test::Fail;
 
-/// A visit of the page of the document alone, at the moment 7.
-fn visit(alloc: Global) -> Result<(Heap, Browser), Fail>
-    ensures { IfOk result (λ r. Fits r.1 r.0) }
-{
+/// The page of the document alone.
+fn page(alloc: Global) -> Result<Page, Fail> {
     let mut nodes = List::new(alloc).into_vec();
     nodes.push(PageNode {
         kind: NodeKind::Document,
@@ -25,41 +18,21 @@ fn visit(alloc: Global) -> Result<(Heap, Browser), Fail>
         attributes: List::new(alloc),
         parent: None,
     })?;
-    let page = Page::new(List::from_vec(nodes), List::new(alloc));
-    let limits = Limits::DEFAULT;
-    let cells = limits.cells;
-    let mut heap = Heap::make(
-        alloc,
-        HeapLimits {
-            cells,
-            units: limits.units,
-            text: 1_000,
-        },
-    )?;
-    let browser = Browser::make(alloc, &page, &limits, heap.pool_mut(), 3, Whole::from(7))?;
-    Ok((heap, browser))
+    Ok(Page::new(List::from_vec(nodes), List::new(alloc)))
 }
 
-/// What a call of the document answers, with this text as its argument or none.
-fn asked(
-    alloc: Global,
-    heap: &mut Heap,
-    browser: &mut Browser,
-    which: Builtin,
-    this: Value,
-    args: &[&str],
-) -> Result<Value, Fail>
-    requires { Fits browser.old heap.old }
-    ensures { Fits browser.new heap.new }
+const LIMITS: HeapLimits = HeapLimits {
+    cells: 1_000,
+    units: 1_000,
+    text: 1_000,
+};
+
+fn limits() -> Limits
+    ensures { result.cells ≡ 1000 }
 {
-    let mut values = Vec::new(alloc);
-    for text in args {
-        let units = Units::from_utf8(alloc, text.as_bytes())?;
-        values.push(Value::Text(heap.add_text(alloc, units.as_slice())?))?;
-    }
-    match browser.call(heap, which.number(), this, values.as_slice()) {
-        HostDone::Value(v) => Ok(v),
-        _ => Err(Fail::from("refused")),
+    Limits {
+        cells: 1_000,
+        ..Limits::DEFAULT
     }
 }
 
@@ -72,78 +45,28 @@ fn click(node: u32) -> Report {
     }
 }
 
-const DOCUMENT: Value = Value::Object(FIRST_NODE);
-
 #[test]
-fn clicks_turn_checkboxes_and_are_put_back(rt: HostRuntime) -> Result<(), Fail> {
+fn a_click_at_no_node_is_refused(rt: HostRuntime) -> Result<(), Fail> {
     let alloc = rt.alloc();
-    let (mut heap, mut browser) = visit(alloc)?;
-    let (heap, browser) = (&mut heap, &mut browser);
+    let page = page(alloc)?;
+    let mut heap = Heap::make(alloc, LIMITS)?;
+    let mut browser = Browser::make(alloc, &page, &limits(), heap.pool_mut(), 3, Whole::from(7))?;
     let mut flow = Flow::make(alloc, browser.dom.limit())?;
-    let html = asked(
-        alloc,
-        heap,
-        browser,
-        Builtin::CreateElement,
-        DOCUMENT,
-        &["html"],
-    )?;
-    let input = asked(
-        alloc,
-        heap,
-        browser,
-        Builtin::CreateElement,
-        DOCUMENT,
-        &["input"],
-    )?;
-    asked(
-        alloc,
-        heap,
-        browser,
-        Builtin::SetAttribute,
-        input,
-        &["type", "checkbox"],
-    )?;
-    browser.call(heap, Builtin::AppendChild.number(), DOCUMENT, &[html]);
-    browser.call(heap, Builtin::AppendChild.number(), html, &[input]);
-    for (prevents, after) in [(false, true), (true, true), (false, false)] {
-        assert!(rt; browser.report(heap, &click(2), &mut flow).is_ok());
-        if prevents {
-            let event = Value::Object(flow.event);
-            browser.call(heap, Builtin::PreventDefault.number(), event, &[]);
-        }
-        assert_eq!(rt; browser.next_call(heap, &mut flow), None);
-        assert_eq!(rt; browser.forms.checked(&browser.dom, heap.pool(), 2), after);
-    }
-    let none = browser.report(heap, &click(9), &mut flow);
-    assert_eq!(rt; none, Err(ReportRefused::Illegal(BadReport::Node)));
+    let none = browser.report(&mut heap, &click(9), &mut flow);
+    assert!(rt; matches!(none, Err(ReportRefused::Illegal(BadReport::Node))));
+    assert!(rt; browser.next_call(&mut heap, &mut flow).is_none());
     Ok(())
 }
 
 #[test]
-fn replies_are_delivered_once_in_a_later_batch(rt: HostRuntime) -> Result<(), Fail> {
+fn where_no_call_was_made_none_is_served_and_no_reply_is_due(rt: HostRuntime) -> Result<(), Fail> {
     let alloc = rt.alloc();
-    let (mut heap, mut browser) = visit(alloc)?;
-    let text = "[\"f\",[1]]".as_bytes();
-    let function = Builtin::RipleyNow.number();
-    assert!(rt; browser.calls.push_made(text, Some(function)).is_ok());
-    assert_eq!(rt; browser.position_of(2, text), Position::NotNext);
-    assert_eq!(rt;
-        browser.position_of(1, "[\"g\",[1]]".as_bytes()),
-        Position::Other
-    );
-    assert_eq!(rt; browser.position_of(1, text), Position::Served);
-    browser.serve(1, Whole::from(9), Datum::Num(Whole::from(5)));
-    assert_eq!(rt; browser.position_of(2, text), Position::Other);
-    assert!(rt; matches!(browser.deliver(&mut heap, 1, 1), Err(ReplyRefused::NotDue)));
-    match browser.deliver(&mut heap, 2, 1) {
-        Ok(callback) => {
-            assert_eq!(rt; callback.function, function);
-            assert_eq!(rt; callback.reply, Value::Num(Whole::from(5)));
-        }
-        Err(_) => return Err(Fail::from("refused")),
-    }
-    assert_eq!(rt; browser.moment, Whole::from(9));
+    let page = page(alloc)?;
+    let mut heap = Heap::make(alloc, LIMITS)?;
+    let mut browser = Browser::make(alloc, &page, &limits(), heap.pool_mut(), 3, Whole::from(7))?;
+    assert_eq!(rt; browser.position_of(2, &[91]), Position::NotNext);
+    assert_eq!(rt; browser.position_of(1, &[91]), Position::Other);
     assert!(rt; matches!(browser.deliver(&mut heap, 2, 1), Err(ReplyRefused::NotDue)));
+    assert_eq!(rt; browser.moment, Whole::from(7));
     Ok(())
 }
