@@ -1,7 +1,9 @@
 pub mod ItemLemmas
 pub mod PlayLemmas
+pub mod RunUnits
 pub mod ServedParts
 pub mod ResumeLemmas
 pub mod SliceLemmas
+pub mod StageLemmas
 pub mod TurnLemmas
 pub mod WithinLemmas

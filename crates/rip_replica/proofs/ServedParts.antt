@@ -1,8 +1,9 @@
 -- The served calls of parts, one after another.
-use Rattle.std.proofs.Common.{◌≡◌, ℕ, suc, List, [], ◌∷◌, ◌++◌, length, map, if◌then◌else◌, refl, ap, sym, subst, ◌∙◌, arith, append-nil, append_assoc}
+use Rattle.std.proofs.Common.{◌≡◌, ℕ, suc, List, [], ◌∷◌, ◌++◌, length, map, Option, if◌then◌else◌, refl, ap, sym, subst, ◌∙◌, arith, append-nil, append_assoc}
 use Rattle.std.specs.List.{zip}
 use Rattle.rip_data.specs.Datum.{Tree}
 use Rattle.rip_wire.specs.Answers.{served_of}
+use Rattle.rip_wire.specs.declared.ending.Ending.{Ending}
 use Rattle.rip_log.specs.Entries.{recorded_of}
 use Rattle.rip_course.specs.Parts.{Fact, passes, serves, finishes, Part, Given, served_count, serves_call}
 use Rattle.rip_course.specs.Services.{Called, Service, Serving, called_in, replies_to, serving_of, servings_in, served_entry, served_entries, answered_call, answered_calls}
@@ -35,18 +36,29 @@ servings_count : (ps : List Part) → length (servings_in ps) ≡ served_count p
 servings_count [] = refl
 servings_count (p ∷ ps) = count_of_fact p p.fact ps refl (servings_count ps)
 
-pub served_quiet : (service : Service) (calls : List Called) (slice : Slice) (old new : Made) (Replies : List Called → Type 0) (ps qs : List Part) (gs : List Given) → ServeNone qs
-    → AreServed service calls slice old new Replies ps gs → AreServed service calls slice old new Replies (ps ++ qs) gs
-served_quiet service calls slice old new Replies ps qs gs quiet are =
-    let same : servings_in ps ≡ servings_in (ps ++ qs) = sym (servings_quiet ps qs quiet) in
+-- parts of which the same calls are served
+served_same : (service : Service) (calls : List Called) (slice : Slice) (old new : Made) (Replies : List Called → Type 0) (ps qs : List Part) (gs : List Given) → servings_in ps ≡ servings_in qs
+    → AreServed service calls slice old new Replies ps gs → AreServed service calls slice old new Replies qs gs
+served_same service calls slice old new Replies ps qs gs same are =
     let R : List Serving → Type 0 = λ xs. Replies (calls ++ map (λ (s : Serving). (s.name, s.args)) xs) in
     record {
       replied = are.replied ∙ ap (λ xs. map (λ reply. record { time = slice.time; reply = reply }) (replies_to service calls (map (λ (s : Serving). (s.name, s.args)) xs))) same;
       replies = subst R same are.replies;
       entries = are.entries ∙ ap (λ xs. map recorded_of old.entries.items ++ map (served_entry slice.turn slice.session) (zip xs gs)) same;
       served = are.served ∙ ap (λ xs. map served_of old.served.items ++ map answered_call (zip xs gs)) same;
-      each = sym (servings_count (ps ++ qs)) ∙ ap length (sym same) ∙ servings_count ps ∙ are.each;
+      each = sym (servings_count qs) ∙ ap length (sym same) ∙ servings_count ps ∙ are.each;
     }
+
+pub served_quiet : (service : Service) (calls : List Called) (slice : Slice) (old new : Made) (Replies : List Called → Type 0) (ps qs : List Part) (gs : List Given) → ServeNone qs
+    → AreServed service calls slice old new Replies ps gs → AreServed service calls slice old new Replies (ps ++ qs) gs
+served_quiet service calls slice old new Replies ps qs gs quiet are = served_same service calls slice old new Replies ps (ps ++ qs) gs (sym (servings_quiet ps qs quiet)) are
+
+-- a part that ends its batch serves no call
+pub served_last : (service : Service) (calls : List Called) (slice : Slice) (old new : Made) (Replies : List Called → Type 0) (ps : List Part) (gs : List Given) (b n c : ℕ) (how : Option Ending)
+    → AreServed service calls slice old new Replies ps gs → AreServed service calls slice old new Replies (ps ++ record { batch = b; item = n; cost = c; fact = finishes how } ∷ []) gs
+served_last service calls slice old new Replies ps gs b n c how are =
+    let p : Part = record { batch = b; item = n; cost = c; fact = finishes how } in
+    served_same service calls slice old new Replies ps (ps ++ p ∷ []) gs (sym (servings_append ps (p ∷ []) ∙ append-nil (servings_in ps))) are
 
 -- one call more
 

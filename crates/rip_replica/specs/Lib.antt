@@ -2,5 +2,6 @@ pub mod Kept
 pub mod Parts
 pub mod Plays
 pub mod Serving
+pub mod Sessions
 pub mod Slices
 pub mod Standing

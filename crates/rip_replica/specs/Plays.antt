@@ -2,8 +2,11 @@
 use Rattle.std.specs.Prelude.{◌≡◌, ℕ, ◌+◌, ◌-◌, ◌<◌, ◌≤◌, min, Bool, true}
 use Rattle.rip_heap.specs.World.{World}
 use Rattle.rip_runs.specs.declared.close.Close.TheVariants.{Fine}
-use Rattle.rip_runs.specs.Evaluation.{IsEnded, IsLater, Reached, Passes, Breaks, Pauses}
+use Rattle.rip_runs.specs.Cut.{run_of}
+use Rattle.rip_runs.specs.Evaluation.{IsEnded, IsLater, Reached, Passes, Breaks, Pauses, reached}
 use Rattle.rip_runs.specs.Plan.{IsPlain, Plan, Over, Takes, Awaits, Runs}
+use Rattle.rip_runs.specs.Row.{Row, Table}
+use Rattle.rip_runs.specs.Run.{Calling}
 use Rattle.rip_runs.specs.Started.{Started}
 use Rattle.rip_course.specs.Parts.{Fact, passes, serves, finishes}
 
@@ -45,3 +48,9 @@ abbrev pub IsItemPlan : {S : Type 0} → (S → Bool) → Fact → Plan S → Ty
 IsItemPlan may passes plan = IsPlain plan
 IsItemPlan may (serves number name args) plan = IsCallPlan may plan
 IsItemPlan may (finishes how) plan = ⊥
+
+-- runs of rows with fuel leave no more units than they had, and one that is cut wants more
+abbrev pub RunsWant : Type 0 → Type 0
+RunsWant S = (h : Calling S) (t : Table) (depth room : ℕ) (row : Row) (s : S) (fuel u k : ℕ)
+    → LeavesAtMost (min u fuel) (reached depth (run_of h t room row s fuel u))
+    × WantsMore (min (u + k) fuel - min u fuel) (reached depth (run_of h t room row s fuel u)) (reached depth (run_of h t room row s fuel (u + k)))

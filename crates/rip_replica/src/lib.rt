@@ -14,9 +14,14 @@
 //! | what is asked of items: only a call waits, and no item takes a unit but for its fuel | `Plays.IsItemPlan` |
 //! | [`Works`], the items of a session over any page | its words `plans`, `fact`, `served`, `ending` and `shapes` |
 //! | a session in the middle of a batch | `Standing.Stands`, by its place `Standing.Left` |
-//! | [`Replica::resume`] | `Slices.SlicedSo`: what comes of a slice is `Slices.Comes`, with the served calls `Slices.AreServed` |
+//! | [`Replica::resume`] | `Slices.SlicedSo`: what comes of a slice is `Slices.Comes`, with the served calls `Slices.AreServed`; at a stage of the server's course `Stages.Resumed` (`rip_course`) |
+//! | a session at such a stage: busy, idle, ended | `Sessions.IsAt` |
 //! | a batch that goes on; that is done; that an item ends; where memory is wanting | `Slices.BusySo`, `DoneSo`, `EndsSo`, `LacksSo` |
 //! | [`AtItem`], one item of a batch as a plan | `Standing.planned`, and what each step keeps `Kept.IsKept` |
+//!
+//! | law | its definition |
+//! |---|---|
+//! | [`runs_want`]: runs of rows leave no more units than they had, and one that is cut wants one more | `Plays.RunsWant` |
 //!
 //! A layer above may rest on this: within a slice each call is served once, at its place among the parts, with the reply of
 //! the service after all calls before; the entries and the answers that are told are those of the served calls and no
@@ -25,11 +30,13 @@
 #![tactic(auto)]
 
 mod item;
+mod laws;
 mod replica;
 mod resume;
 mod serving;
 mod works;
 
 pub use item::AtItem;
+pub use laws::runs_want;
 pub use replica::{Place, Replica};
 pub use works::{Call, Works};

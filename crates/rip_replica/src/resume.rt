@@ -1,11 +1,14 @@
-ghost use Rattle.std.specs.Prelude.{◌≡◌, ◌⊎◌, ◌-◌, ◌<◌, ◌^◌, ◌==◌, ℕ, true, length, slice_get, List, Some, IfOk, OnErr, OnOk};
+ghost use Rattle.std.specs.Prelude.{◌≡◌, ◌≤◌, ◌⊎◌, ◌-◌, ◌<◌, ◌^◌, ◌==◌, ℕ, true, length, slice_get, List, Some, IfOk, OnErr, OnOk};
 ghost use Rattle.rip_data.specs.Datum.{Tree};
 ghost use Rattle.rip_heap.specs.Growth.{Grows};
 ghost use Rattle.rip_wire.specs.declared.ending.Ending.{Ending as Ends};
 ghost use Rattle.rip_course.specs.Parts.{serves};
 ghost use Rattle.rip_course.specs.Services.{Called, Service as Meant};
 ghost use Rattle.rip_replica.specs.Serving.{HasArgs, IsCallOf, IsServed, IsUnserved, given_to};
-ghost use Rattle.rip_replica.specs.Slices.{SlicedSo};
+ghost use Rattle.rip_course.specs.Stages.{Resumed, Stage};
+ghost use Rattle.rip_replica.specs.Parts.{Doing, meaning_of};
+ghost use Rattle.rip_replica.specs.Sessions.{IsAt, IsBusy};
+ghost use Rattle.rip_replica.specs.Slices.{Agrees, SlicedSo};
 ghost use Rattle.rip_replica.specs.Standing.{spot};
 
 use crate::replica::{Place, Replica, Turn};
@@ -43,6 +46,36 @@ impl<E, I, T, H> Replica<E, I, T, H> {
     /// Goes on with the batch for the units of a slice. Each call that comes is served within it, with a reply of the
     /// service. Want of memory in an item ends the session there.
     pub fn resume<V: Service>(
+        &mut self,
+        alloc: Global,
+        program: &E::Program,
+        service: &mut V,
+        slice: &Slice,
+        made: &mut Made,
+    ) -> Progress
+    where
+        H: Host,
+        E: Evaluator<H>,
+        I: Works<H, T>,
+        requires { H.fits self.old.host self.old.heap }
+        ensures fits { H.fits self.new.host self.new.heap }
+        ensures grows { Grows self.old.heap self.new.heap }
+        ensures slice { SlicedSo (E.evaluation program.now) I.fact I.served I.ending I.may_serve self.old.number
+            (spot I.item_plan I.under_way self.old) (spot I.item_plan I.under_way self.new)
+            slice.now.units slice.now made.old made.new result (V.replies_as service.old) (V.replies_as service.new) }
+        ensures resumed { (doing : ℕ → ℕ → Doing T H) (st : Stage) (meant : Meant) (calls : List Called)
+            → Agrees (doing st.seed st.time) I.fact I.served I.ending → self.old.number ≡ length st.batches
+            → IsBusy (E.evaluation program.now) (doing st.seed st.time) I.may_serve (spot I.item_plan I.under_way self.old) st
+            → 1 ≤ slice.now.units → V.replies_as service.old meant calls
+            → Resumed (meaning_of doing) st meant calls slice.now made.old made.new result
+            (IsAt (E.evaluation program.now) doing I.may_serve (spot I.item_plan I.under_way self.new))
+            (V.replies_as service.new meant) }
+    {
+        self.go_on(alloc, program, service, slice, made)
+    }
+
+    /// Goes on turn by turn.
+    fn go_on<V: Service>(
         &mut self,
         alloc: Global,
         program: &E::Program,

@@ -5,7 +5,7 @@ use Rattle.rip_replica.specs.Parts.{Doing}
 use Rattle.rip_replica.specs.Slices.{Agrees}
 use Rattle.rip_replica.specs.Standing.{Ahead, Behind, Stands, spot, turns_left}
 use Rattle.rip_replica.proofs.SliceLemmas.{Went}
-use Rattle.rip_replica.proofs.replica.Replica.resume.Given as goal
+use Rattle.rip_replica.proofs.replica.Replica.go_on.Given as goal
 
 abbrev pub invariant-loop-units : goal.invariant-loop-units
 invariant-loop-units g l = record {

@@ -1,0 +1,53 @@
+-- A session at a stage of the server's course.
+use Rattle.std.specs.Prelude.{◌≡◌, ◌⊎◌, ℕ, ◌+◌, ◌<◌, ◌≤◌, Bool, true, false, List, [], ◌∷◌, ◌++◌, length, None}
+use Rattle.rip_wire.specs.Batches.{Contents}
+use Rattle.rip_runs.specs.Evaluation.{Evaluation}
+use Rattle.rip_course.specs.Parts.{Part, Given, Meaning, has_ended}
+use Rattle.rip_course.specs.Parts as parts
+use Rattle.rip_course.specs.Stages.{Stage, finishes_batch, is_done, is_ended}
+use Rattle.rip_replica.specs.Parts.{Doing, later_parts, meaning_of, session_parts}
+use Rattle.rip_replica.specs.Standing.{Ahead, Behind, Keeps, Spot, Stands, next_number}
+
+-- what is behind the batch of a number
+abbrev pub behind_batch : {A S : Type 0} → Doing A S → ℕ → Behind S
+behind_batch d batch bs gs w s = later_parts d (batch + 1) bs gs w s
+
+-- these parts are of earlier batches, or of items below a number of the last that cost no more than this
+abbrev pub AreBehind : ℕ → ℕ → ℕ → List Part → Type 0
+AreBehind last number units [] = Unit {0}
+AreBehind last number units (p ∷ ps) =
+    ((p.batch < last) ⊎ ((p.batch ≡ last) × (p.item < number) × (p.cost ≤ units))) × AreBehind last number units ps
+
+-- the session is busy with its last batch: so much has come, and the rest of the batch is ahead
+pub record IsBusy {M A S : Type 0} (e : Evaluation M S) (d : Doing A S) (may : S → Bool) (at : Spot M A S) (st : Stage) : Type 0 where
+  pub earlier : List Part
+  pub ahead : Ahead
+  pub base : ℕ
+  pub whole : (bs : List Contents) (gs : List Given) → session_parts d (st.batches ++ bs) (st.given ++ gs) ≡ earlier ++ ahead bs gs
+  pub come : AreBehind (length st.batches) (next_number at.place at.begun) st.units earlier
+  pub busy : finishes_batch (length st.batches) earlier ≡ false
+  pub lives : has_ended earlier ≡ false
+  pub based : parts.spent (length st.batches) earlier 1 ≡ base
+  pub none : st.lacking ≡ None
+  pub stands : Stands e d may (length st.batches) (behind_batch d (length st.batches)) at st.units base st.units ahead
+
+-- its last batch is done, and it waits for the next
+pub record IsIdle {M A S : Type 0} (e : Evaluation M S) (d : Doing A S) (may : S → Bool) (at : Spot M A S) (st : Stage) : Type 0 where
+  pub earlier : List Part
+  pub number : ℕ
+  pub whole : (bs : List Contents) (gs : List Given) → session_parts d (st.batches ++ bs) (st.given ++ gs) ≡ earlier ++ behind_batch d (length st.batches) bs gs at.world at.page
+  pub come : AreBehind (length st.batches) number st.units earlier
+  pub done : finishes_batch (length st.batches) earlier ≡ true
+  pub lives : has_ended earlier ≡ false
+  pub none : st.lacking ≡ None
+  pub keeps : Keeps e d may (length st.batches) at
+
+-- it has ended
+pub record HasEnded (m : Meaning) (st : Stage) : Type 0 where
+  pub done : is_done m st ≡ true
+  pub ended : is_ended m st ≡ true
+
+-- a session stands at a stage, where each session does this from its seed and time on
+abbrev pub IsAt : {M A S : Type 0} → Evaluation M S → (ℕ → ℕ → Doing A S) → (S → Bool) → Spot M A S → Stage → Type 0
+IsAt e doing may at st =
+    IsBusy e (doing st.seed st.time) may at st ⊎ (IsIdle e (doing st.seed st.time) may at st ⊎ HasEnded (meaning_of doing) st)
