@@ -25,8 +25,6 @@ mod flowing;
 mod opening;
 mod page;
 mod replies;
-#[cfg(test)]
-mod tests;
 
 pub use flow::Flow;
 pub use opening::{Start, StartItems, StartStage};
