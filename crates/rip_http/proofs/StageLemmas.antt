@@ -1,5 +1,6 @@
 -- What a stage tells of the bytes.
 use Rattle.std.proofs.Common.{◌≡◌, ℕ, ◌+◌, ◌-◌, ◌≤◌, ◌<◌, ⊎_elim, min, Bool, true, false, leb, IsTrue, List, ◌++◌, length, take, drop, Option, Some, None, unwrap_or, refl, sym, ap, ◌∙◌, subst, arith}
+use Rattle.std.specs.Bool.{OnTrue, OnFalse}
 use Rattle.std.proofs.lemmas.List.{take_all, take-append-drop}
 use Rattle.std.proofs.lemmas.Bool.{cases_lt, cond-true, cond-false, le-leb, lt-leb, leb-true}
 use Rattle.httparse.specs.Spans.{IsWithin, span_bytes}
@@ -145,20 +146,28 @@ named_by_405 TooLarge e = absurd (omega (arith, e))
 
 -- ---- readiness
 
-pub not_ready : (bytes : List ℕ) → IsNext bytes waits → (IsTrue false → ¬ IsNext bytes waits) × ((¬ IsNext bytes waits) → IsTrue false)
-not_ready bytes w = ((λ t. cc), (λ h. absurd (h w)))
+pub refused_comes : (bytes : List ℕ) (n : ℕ) (r : RefusedHead) → IsNext bytes (refuses n r) → ¬ IsNext bytes waits
+refused_comes bytes n r next w = let same = next_one bytes (refuses n r) waits next w in cc
 
-pub refused_ready : (bytes : List ℕ) (n : ℕ) (r : RefusedHead) → IsNext bytes (refuses n r)
-    → (IsTrue true → ¬ IsNext bytes waits) × ((¬ IsNext bytes waits) → IsTrue true)
-refused_ready bytes n r next = ((λ t w. let same = next_one bytes (refuses n r) waits next w in cc), (λ h. refl))
-
-pub body_ready : (bytes : List ℕ) (a : Awaited) (b : Bool) → IsStage bytes (Body a)
+pub body_comes : (bytes : List ℕ) (a : Awaited) (b : Bool) → IsStage bytes (Body a)
     → (IsTrue b → a.end + a.going.size ≤ length bytes) × (a.end + a.going.size ≤ length bytes → IsTrue b)
+    → OnTrue b (¬ IsNext bytes waits)
+body_comes bytes a true is come =
+    λ w. let same = next_one bytes waits _ w (body_takes bytes _ _ a is (come.0 refl) refl refl) in cc
+body_comes bytes a false is come = tt
+
+pub body_is_waited : (bytes : List ℕ) (a : Awaited) (b : Bool) → IsStage bytes (Body a)
+    → (IsTrue b → a.end + a.going.size ≤ length bytes) × (a.end + a.going.size ≤ length bytes → IsTrue b)
+    → OnFalse b (IsNext bytes waits)
+body_is_waited bytes a true is come = tt
+body_is_waited bytes a false is come =
+    ⊎_elim
+    (λ (short : length bytes < a.end + a.going.size). body_waits bytes a is short)
+    (λ (fits : a.end + a.going.size ≤ length bytes). let wrong = come.1 fits in cc)
+    (cases_lt (length bytes) (a.end + a.going.size))
+
+-- a test that tells both is exact
+pub ready_exactly : (bytes : List ℕ) (b : Bool) → OnTrue b (¬ IsNext bytes waits) → OnFalse b (IsNext bytes waits)
     → (IsTrue b → ¬ IsNext bytes waits) × ((¬ IsNext bytes waits) → IsTrue b)
-body_ready bytes a b is come = (
-  (λ t w. let same = next_one bytes waits _ w (body_takes bytes _ _ a is (come.0 t) refl refl) in cc),
-  (λ h. ⊎_elim
-      (λ (short : length bytes < a.end + a.going.size). absurd (h (body_waits bytes a is short)))
-      (λ (fits : a.end + a.going.size ≤ length bytes). come.1 fits)
-      (cases_lt (length bytes) (a.end + a.going.size))),
-)
+ready_exactly bytes true come unready = ((λ t. come), (λ h. refl))
+ready_exactly bytes false come unready = ((λ t. cc), (λ h. absurd (h unready)))

@@ -1,4 +1,5 @@
 ghost use Rattle.std.specs.Prelude.{◌≡◌, ◌≤◌, ◌<◌, ◌+◌, ◌++◌, ◌↔◌, [], ℕ, length, drop, Some, IsTrue, IfOk, OnOk, OnErr, IsErrOf};
+ghost use Rattle.std.specs.Bool.{OnFalse};
 ghost use Rattle.rip_http.specs.Stream.{waits, refuses, IsNext, code_of, allowed_by};
 ghost use Rattle.rip_http.specs.Conns.{IsTaken};
 ghost use Rattle.rip_http.specs.declared.request.RefusedHead.{RefusedHead};
@@ -144,7 +145,8 @@ impl Conn {
 
     /// Whether a message, or a refusal, waits to be taken.
     pub fn ready(&self) -> bool
-        ensures { IsTrue result ↔ ¬ IsNext self.now waits }
+        ensures ready { IsTrue result ↔ ¬ IsNext self.now waits }
+        ensures waits { OnFalse result (IsNext self.now waits) }
     {
         self.stage
             .is_ready(unread(self.bytes.as_slice(), self.start))

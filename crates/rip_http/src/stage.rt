@@ -1,4 +1,5 @@
 ghost use Rattle.std.specs.Prelude.{◌≡◌, ◌≤◌, ◌+◌, ◌↔◌, length, take, IsTrue, IfOk};
+ghost use Rattle.std.specs.Bool.{OnTrue, OnFalse};
 ghost use Rattle.rip_http.specs.Heads.{head_at, head_end};
 ghost use Rattle.rip_http.specs.Stream.{takes, waits, IsNext};
 ghost use Rattle.rip_http.specs.Stages.{IsStage, IsFront, refused_of};
@@ -114,7 +115,8 @@ impl Stage {
     /// Whether a message has come, or is refused.
     pub(crate) fn is_ready(&self, bytes: &[u8]) -> bool
         requires { IsStage bytes.now self.now }
-        ensures { IsTrue result ↔ ¬ IsNext bytes.now waits }
+        ensures come { OnTrue result (¬ IsNext bytes.now waits) }
+        ensures waits { OnFalse result (IsNext bytes.now waits) }
     {
         match self {
             Stage::Head(_) => false,

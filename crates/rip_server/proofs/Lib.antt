@@ -1,0 +1,7 @@
+mod ActLemmas
+mod LinkLemmas
+mod OwedLemmas
+mod PieceLemmas
+mod PlaceLemmas
+mod PutLemmas
+mod SendLemmas
