@@ -78,7 +78,7 @@ fn does(alloc: Global, queue: &mut Queue, step: Step) -> Result<bool, Fail> {
         Step::Holds(made, taken, used) => Ok(
             queue.made() == made
                 && queue.taken() == taken
-                && queue.is_next(taken + 1)
+                && queue.is_next(taken.saturating_add(1))
                 && !queue.is_next(taken)
                 && queue.used() == used,
         ),

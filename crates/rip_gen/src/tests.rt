@@ -13,10 +13,10 @@ fn counts(plan: &GenPlan) -> (u32, u32, u32) {
         for session in 1..=plan.sessions() {
             let is_liar = session == plan.liar();
             if !(is_liar && lied) {
-                made += 1;
+                made = made.saturating_add(1);
                 if is_click(plan.gesture(round, session)) {
                     lied = lied || (is_liar && round >= 20);
-                    clicks += 1;
+                    clicks = clicks.saturating_add(1);
                 }
             }
         }
