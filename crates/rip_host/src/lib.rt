@@ -42,8 +42,6 @@ mod opening;
 mod owner;
 mod replies;
 mod ripley;
-#[cfg(test)]
-mod tests;
 
 pub use browser::Browser;
 pub use call::HostCall;
