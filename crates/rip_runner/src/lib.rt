@@ -10,6 +10,7 @@
 //! | what | its definition in `specs/` |
 //! |---|---|
 //! | a plan that is played | `Play.play`; what follows a run `Play.after_run`; one plan after another `Play.followed` |
+//! | [`Planner`], which makes a plan step by step | its words `plan` and `steps`, and what each step keeps: `kept` |
 //! | [`Runner`] | contracts see its fields; with the meaning of its planner it is `Going.Going` |
 //! | what is left of the plan | `Going.rest`, by the phase `Going.rest_in` |
 //! | [`Runner::resume`] | `Going.Rests`, with no change of the outside |
