@@ -82,7 +82,6 @@ fn nested(alloc: Global, heap: &mut Heap, levels: u32, inner: Value) -> Result<V
 }
 
 // The text of a call without a name, or its fault.
-#[tactic(auto, using(crate::proofs::Calling::no_name))]
 fn told(alloc: Global, heap: &Heap, args: Value) -> Result<String, Fail> {
     let mut row = CallRow::make(alloc)?;
     match row.write_call(heap, Span { start: 0, count: 0 }, args) {
