@@ -1,5 +1,3 @@
-pub mod Statements
-pub mod Pages
 pub mod LoadLemmas
 pub mod ScriptLemmas
 pub mod Answering

@@ -1,5 +1,3 @@
 pub mod App
 pub mod Laws
-pub mod Page
-pub mod Refusal
 pub mod Script

@@ -1,29 +1,29 @@
--- A run whose files are an application reads them to the end.
-use Rattle.std.proofs.Common.{◌≡◌, ℕ, ◌<◌, ◌≤◌, ◌⊎◌, inl, inr, List, [], ◌∷◌, length, Option, Some, None, refl, sym, ap, ◌∙◌, subst, arith}
+-- A run whose files are accepted does what the words ask for.
+use Rattle.std.proofs.Common.{◌≡◌, ◌≢◌, ℕ, ◌<◌, ◌≤◌, ◌⊎◌, inl, inr, List, [], ◌∷◌, length, Option, Some, None, refl, sym, ap, ◌∙◌, subst, arith, codes}
 use Rattle.std.specs.Prelude.{IsSomeAnd}
 use Rattle.rip_outer.specs.Reading.{contents_of}
 use Rattle.rip_outer.specs.declared.reading.NamedFile.{NamedFile}
 use Rattle.rip_outer.specs.declared.reading.TheConstants.{MAX_FILE}
+use Rattle.rip_words.specs.Commands.{Task, checks, replays, serves, drives, generates, IsTask}
+use Rattle.rip_words.proofs.WordLemmas.{tasks}
 use Rattle.rip_app.specs.App.{Loaded, AppOf, IsAppRefusal}
 use Rattle.rip_app.specs.declared.refusal.AppRefusal.{AppRefusal}
 use Rattle.rip_app.proofs.Answering.{is_never_both}
+use Rattle.rip_trace.specs.Traces.{Given, IsTrace, IsRefusedAt}
 use Rattle.rip_cli.specs.Run.{Told, Ran}
-use Rattle.rip_cli.specs.Words.{Task, Checks, Replays, task_words}
+use Rattle.rip_cli.specs.Words.{IsOffered}
 use Rattle.rip_cli.specs.Lines.{app_line}
-use Rattle.rip_cli.specs.Input.{IsContentOf, IsInputOf, Refuses, RefusesApp, files_of, first_too_long}
-use Rattle.rip_cli.specs.Laws.{HasBytes, AcceptedIsRead}
+use Rattle.rip_cli.specs.Input.{IsContentOf, IsAppOf, IsReplayOf, IsInputOf, Refuses, RefusesApp, RefusesTrace, app_files, replay_files, first_too_long}
+use Rattle.rip_cli.specs.Laws.{HasBytes, HoldApp, HoldTrace, AreAccepted, AcceptedIsDone}
 use Rattle.rip_cli.specs.declared.input.Content.{Content}
 use Rattle.rip_cli.specs.declared.input.Content.TheVariants.{Bytes, TooLong}
-use Rattle.rip_cli.specs.declared.input.CheckInput.{CheckInput}
+use Rattle.rip_cli.specs.declared.input.AppInput.{AppInput}
+use Rattle.rip_cli.specs.declared.input.ReplayInput.{ReplayInput}
 use Rattle.rip_cli.specs.declared.input.Input.{Input}
-use Rattle.rip_cli.specs.declared.input.Input.TheVariants.{Check, Replay}
+use Rattle.rip_cli.specs.declared.input.Input.TheVariants.{Check, Replay, Serve}
 use Rattle.rip_cli.specs.declared.status.Status.{Status}
 use Rattle.rip_cli.specs.declared.status.Status.TheVariants.{Read, BadWords, BadInput, TurnsSpent, Outside, NoMemory}
-
--- the words of `check` ask for nothing else
-same_task : (page app : List ℕ) (task : Task) → task_words (Checks page app) ≡ task_words task → task ≡ Checks page app
-same_task page app (Checks p a) is = let one : p ≡ page = cc in let two : a ≡ app = cc in ap (λ x. Checks x a) one ∙ ap (Checks page) two
-same_task page app (Replays p a t) is = cc
+use Rattle.rip_trace.proofs.TraceLemmas.{refusals}
 
 -- what was read of a file is what it holds
 same_content : (files : List NamedFile) (name bytes : List ℕ) (content : Content) → HasBytes files name bytes → IsContentOf (Some files) name content → content ≡ Bytes bytes
@@ -44,49 +44,92 @@ no_line bytes manifest loaded refusal line is so text =
 same_bytes : (content : Content) (bytes other : List ℕ) → content ≡ Bytes bytes → content ≡ Bytes other → other ≡ bytes
 same_bytes content bytes other one two = cc
 
--- neither file is too long
-none_long : (bytes manifest : List ℕ) (page app : Content) → page ≡ Bytes bytes → app ≡ Bytes manifest → first_too_long (files_of (Check (record { page = page; app = app }))) ≡ None
-none_long bytes manifest (Bytes x) (Bytes y) p a = refl
-none_long bytes manifest TooLong app p a = cc
-none_long bytes manifest page TooLong p a = cc
+-- no file is too long
+none_long : (bytes more : List ℕ) (page manifest : Content) → page ≡ Bytes bytes → manifest ≡ Bytes more
+    → first_too_long ((codes "page", page) ∷ (codes "app", manifest) ∷ []) ≡ None
+none_long bytes more (Bytes x) (Bytes y) p m = refl
+none_long bytes more TooLong manifest p m = cc
+none_long bytes more page TooLong p m = cc
 
-refuses_none : (bytes manifest : List ℕ) (loaded : Loaded) (input : Input) (line : List ℕ) (page app : Content) → AppOf bytes manifest loaded → page ≡ Bytes bytes → app ≡ Bytes manifest
-    → input ≡ Check (record { page = page; app = app }) → Refuses input line → ⊥
-refuses_none bytes manifest loaded (Replay i) line page app is p a made refuses = cc
-refuses_none bytes manifest loaded (Check i) line page app is p a made (inl long) =
-    let same : i ≡ record { page = page; app = app } = cc in
-    let none : first_too_long (files_of (Check i)) ≡ None = ap (λ (x : CheckInput). first_too_long (files_of (Check x))) same ∙ none_long bytes manifest page app p a in
-    let some : None ≡ Some long.0 = sym none ∙ long.1 in
-    cc
-refuses_none bytes manifest loaded (Check i) line page app is p a made (inr form) =
-    let same : i ≡ record { page = page; app = app } = cc in
-    let first : i.page ≡ Bytes bytes = ap (λ (x : CheckInput). x.page) same ∙ p in
-    let second : i.app ≡ Bytes manifest = ap (λ (x : CheckInput). x.app) same ∙ a in
-    let refused : RefusesApp i line = form.1 in
-    let one : refused.page ≡ bytes = same_bytes i.page bytes refused.page first refused.is_page in
-    let two : refused.manifest ≡ manifest = same_bytes i.app manifest refused.manifest second refused.is_manifest in
-    no_line bytes manifest loaded refused.refusal line is
-    (subst (λ m. IsAppRefusal bytes m refused.refusal) two (subst (λ b. IsAppRefusal b refused.manifest refused.refusal) one refused.refused)) refused.text
+none_longer : (bytes more last : List ℕ) (page manifest trace : Content) → page ≡ Bytes bytes → manifest ≡ Bytes more → trace ≡ Bytes last
+    → first_too_long ((codes "page", page) ∷ (codes "app", manifest) ∷ (codes "trace", trace) ∷ []) ≡ None
+none_longer bytes more last (Bytes x) (Bytes y) (Bytes z) p m t = refl
+none_longer bytes more last TooLong manifest trace p m t = cc
+none_longer bytes more last page TooLong trace p m t = cc
+none_longer bytes more last page manifest TooLong p m t = cc
 
-not_refused : (page app : List ℕ) (files : List NamedFile) (bytes manifest : List ℕ) (loaded : Loaded) (task : Task) (input : Input) (line : List ℕ) → HasBytes files page bytes → HasBytes files app manifest → AppOf bytes manifest loaded
-    → task ≡ Checks page app → IsInputOf (Some files) task input → Refuses input line → ⊥
-not_refused page app files bytes manifest loaded (Replays p a t) input line one two is asked contents refuses = cc
-not_refused page app files bytes manifest loaded (Checks p a) (Replay i) line one two is asked contents refuses = contents
-not_refused page app files bytes manifest loaded (Checks p a) (Check i) line one two is asked contents refuses =
-    let first : p ≡ page = cc in
-    let second : a ≡ app = cc in
-    refuses_none bytes manifest loaded (Check i) line i.page i.app is
-    (same_content files page bytes i.page one (subst (λ n. IsContentOf (Some files) n i.page) first contents.0))
-    (same_content files app manifest i.app two (subst (λ n. IsContentOf (Some files) n i.app) second contents.1)) refl refuses
+some_long : (x : Option (List ℕ)) (word : List ℕ) → x ≡ None → x ≡ Some word → ⊥
+some_long x word none some = cc
 
-pub accepted_is_read : AcceptedIsRead
-accepted_is_read Read page app old new files bytes manifest loaded held one two is ran = inl refl
-accepted_is_read Outside page app old new files bytes manifest loaded held one two is ran = inr (inl refl)
-accepted_is_read NoMemory page app old new files bytes manifest loaded held one two is ran = inr (inr refl)
-accepted_is_read TurnsSpent page app old new files bytes manifest loaded held one two is ran = absurd ran
-accepted_is_read BadWords page app old new files bytes manifest loaded held one two is ran = absurd (ran.1.no_form (Checks page app, refl))
-accepted_is_read BadInput page app old new files bytes manifest loaded held one two is ran =
-    let puts = ran.1 in
-    absurd (not_refused page app files bytes manifest loaded puts.reads.task puts.input puts.line one two is
-    (same_task page app puts.reads.task puts.reads.form)
-    (subst (λ h. IsInputOf h puts.reads.task puts.input) held puts.reads.contents) puts.refuses)
+module _ (files : List NamedFile) (page manifest : List ℕ) (hold : HoldApp files page manifest) (i : AppInput) (contents : IsAppOf (Some files) page manifest i) where
+  page_is : i.page ≡ Bytes hold.page_bytes
+  page_is = same_content files page hold.page_bytes i.page hold.has_page contents.0
+
+  manifest_is : i.manifest ≡ Bytes hold.manifest_bytes
+  manifest_is = same_content files manifest hold.manifest_bytes i.manifest hold.has_manifest contents.1
+
+  app_stands : (line : List ℕ) → RefusesApp i line → ⊥
+  app_stands line refused =
+      let one = same_bytes i.page hold.page_bytes refused.page page_is refused.is_page in
+      let two = same_bytes i.manifest hold.manifest_bytes refused.manifest manifest_is refused.is_manifest in
+      no_line hold.page_bytes hold.manifest_bytes hold.app refused.refusal line hold.is
+      (subst (λ m. IsAppRefusal hold.page_bytes m refused.refusal) two (subst (λ b. IsAppRefusal b refused.manifest refused.refusal) one refused.refused)) refused.text
+
+trace_stands : (files : List NamedFile) (trace : List ℕ) (hold : HoldTrace files trace) (i : ReplayInput) (line : List ℕ)
+    → i.trace ≡ Bytes hold.bytes → RefusesTrace i line → ⊥
+trace_stands files trace hold i line is refused =
+    let same = same_bytes i.trace hold.bytes refused.trace is refused.is_trace in
+    refusals.no_trace hold.bytes refused.number hold.given hold.is (subst (λ b. IsRefusedAt b refused.number) same refused.refused)
+
+both_stand : (files : List NamedFile) (page manifest trace : List ℕ) (app : HoldApp files page manifest) (hold : HoldTrace files trace) (i : ReplayInput) (line : List ℕ)
+    → IsReplayOf (Some files) page manifest trace i → RefusesApp i.app line ⊎ RefusesTrace i line → ⊥
+both_stand files page manifest trace app hold i line contents (inl refused) = app_stands files page manifest app i.app contents.0 line refused
+both_stand files page manifest trace app hold i line contents (inr refused) =
+    trace_stands files trace hold i line (same_content files trace hold.bytes i.trace hold.has contents.1) refused
+
+not_refused : (files : List NamedFile) (task : Task) (input : Input) (line : List ℕ) → AreAccepted files task → IsInputOf (Some files) task input
+    → Refuses input line → ⊥
+not_refused files (checks page app) (Check i) line hold contents (inl long) =
+    some_long _ long.0 (none_long hold.page_bytes hold.manifest_bytes i.page i.manifest (page_is files page app hold i contents) (manifest_is files page app hold i contents)) long.1
+not_refused files (checks page app) (Check i) line hold contents (inr form) = app_stands files page app hold i contents line form.1
+not_refused files (checks page app) (Replay i most) line hold contents refuses = contents
+not_refused files (checks page app) (Serve i most) line hold contents refuses = contents
+not_refused files (replays page app trace turns) (Replay i most) line hold contents (inl long) =
+    some_long _ long.0 (none_longer hold.0.page_bytes hold.0.manifest_bytes hold.1.bytes i.app.page i.app.manifest i.trace
+    (page_is files page app hold.0 i.app contents.0.0) (manifest_is files page app hold.0 i.app contents.0.0)
+    (same_content files trace hold.1.bytes i.trace hold.1.has contents.0.1)) long.1
+not_refused files (replays page app trace turns) (Replay i most) line hold contents (inr form) =
+    both_stand files page app trace hold.0 hold.1 i line contents.0 form.1
+not_refused files (replays page app trace turns) (Check i) line hold contents refuses = contents
+not_refused files (replays page app trace turns) (Serve i most) line hold contents refuses = contents
+not_refused files (serves page app address turns) (Serve i most) line hold contents (inl long) =
+    some_long _ long.0 (none_long hold.page_bytes hold.manifest_bytes i.page i.manifest (page_is files page app hold i contents.0) (manifest_is files page app hold i contents.0)) long.1
+not_refused files (serves page app address turns) (Serve i most) line hold contents (inr form) = app_stands files page app hold i contents.0 line form.1
+not_refused files (serves page app address turns) (Check i) line hold contents refuses = contents
+not_refused files (serves page app address turns) (Replay i most) line hold contents refuses = contents
+not_refused files (drives page app gestures) input line hold contents refuses = hold
+not_refused files (generates n) input line hold contents refuses = hold
+
+offered_so : (files : List NamedFile) (task : Task) → AreAccepted files task → IsOffered task
+offered_so files (checks page app) hold = tt
+offered_so files (replays page app trace turns) hold = tt
+offered_so files (serves page app address turns) hold = tt
+offered_so files (drives page app gestures) hold = hold
+offered_so files (generates n) hold = hold
+
+module _ (words : List (List ℕ)) (task : Task) (old new : Told) (files : List NamedFile) (held : old.held ≡ Some files) (is : IsTask words task) (hold : AreAccepted files task) where
+  no_other_words : Ran BadWords words old new → ⊥
+  no_other_words ran = ran.1.no_form (task, is, offered_so files task hold)
+
+  no_refusal : Ran BadInput words old new → ⊥
+  no_refusal ran =
+      let puts = ran.1 in
+      let same : puts.reads.task ≡ task = tasks words puts.reads.task task puts.reads.form is in
+      not_refused files task puts.input puts.line hold
+      (subst (λ t. IsInputOf (Some files) t puts.input) same (subst (λ h. IsInputOf h puts.reads.task puts.input) held puts.reads.contents)) puts.refuses
+
+pub accepted_is_done : AcceptedIsDone
+accepted_is_done status words task old new files held is hold ran = (
+  λ e. no_other_words words task old new files held is hold (subst (λ s. Ran s words old new) e ran),
+  λ e. no_refusal words task old new files held is hold (subst (λ s. Ran s words old new) e ran),
+)

@@ -1,5 +1,9 @@
 pub mod AskedLemmas
 pub mod WordLemmas
-pub mod RunLemmas
+pub mod DoorLemmas
+pub mod MomentLemmas
+pub mod FileLemmas
 pub mod SettleLemmas
+pub mod ServeLemmas
+pub mod RunLemmas
 pub mod Accepting

@@ -1,21 +1,27 @@
--- Words that are three or four.
-use Rattle.std.proofs.Common.{◌≡◌, List, [], ◌∷◌, length, get_or, arith}
+-- Words that ask for something that is not offered, or for nothing.
+use Rattle.std.proofs.Common.{◌≡◌, ℕ, List, Option, subst}
+use Rattle.rip_outer.specs.declared.reading.NamedFile.{NamedFile}
+use Rattle.rip_words.specs.Commands.{Task, checks, replays, serves, drives, generates, IsTask}
+use Rattle.rip_words.proofs.WordLemmas.{tasks}
+use Rattle.rip_cli.specs.Words.{IsOffered, IsForm, AskToServe}
+use Rattle.rip_cli.specs.Input.{IsInputOf}
+use Rattle.rip_cli.specs.Steps.{IsServe}
+use Rattle.rip_cli.specs.declared.input.Input.{Input}
+use Rattle.rip_cli.specs.declared.input.Input.TheVariants.{Check, Replay, Serve}
 
--- a list of four, by its elements
-pub four : {X : Type 0} (xs : List X) (a b c d : X) → length xs ≡ 4
-    → a ≡ get_or xs 0 a → b ≡ get_or xs 1 b → c ≡ get_or xs 2 c → d ≡ get_or xs 3 d → xs ≡ a ∷ b ∷ c ∷ d ∷ []
-four [] a b c d n e f g h = absurd (omega (arith, n))
-four (x ∷ []) a b c d n e f g h = absurd (omega (arith, n))
-four (x ∷ y ∷ []) a b c d n e f g h = absurd (omega (arith, n))
-four (x ∷ y ∷ z ∷ []) a b c d n e f g h = absurd (omega (arith, n))
-four (x ∷ y ∷ z ∷ w ∷ []) a b c d n e f g h = cc
-four (x ∷ y ∷ z ∷ w ∷ v ∷ xs) a b c d n e f g h = absurd (omega (arith, n))
+pub none_form : (words : List (List ℕ)) → ((task : Task) → ¬ IsTask words task) → ¬ IsForm words
+none_form words none = λ h. none h.0 h.1
 
--- and a list of three
-pub three : {X : Type 0} (xs : List X) (a b c : X) → length xs ≡ 3
-    → a ≡ get_or xs 0 a → b ≡ get_or xs 1 b → c ≡ get_or xs 2 c → xs ≡ a ∷ b ∷ c ∷ []
-three [] a b c n e f g = absurd (omega (arith, n))
-three (x ∷ []) a b c n e f g = absurd (omega (arith, n))
-three (x ∷ y ∷ []) a b c n e f g = absurd (omega (arith, n))
-three (x ∷ y ∷ z ∷ []) a b c n e f g = cc
-three (x ∷ y ∷ z ∷ w ∷ xs) a b c n e f g = absurd (omega (arith, n))
+pub other_form : (words : List (List ℕ)) (t : Task) → IsTask words t → ¬ IsOffered t → ¬ IsForm words
+other_form words t is other = λ h. other (subst IsOffered (tasks words h.0 t h.1 is) h.2)
+
+-- input asks for service where the words do
+pub other_input : (words : List (List ℕ)) (t : Task) (held : Option (List NamedFile)) (i : Input) → IsTask words t → IsInputOf held t i
+    → ¬ AskToServe words → ¬ IsServe i
+other_input words t held (Check i) is input none = λ h. h
+other_input words t held (Replay i turns) is input none = λ h. h
+other_input words (checks page app) held (Serve i turns) is input none = λ h. input
+other_input words (replays page app trace most) held (Serve i turns) is input none = λ h. input
+other_input words (serves page app address most) held (Serve i turns) is input none = λ h. none (page, app, address, most, is)
+other_input words (drives page app gestures) held (Serve i turns) is input none = λ h. input
+other_input words (generates n) held (Serve i turns) is input none = λ h. input

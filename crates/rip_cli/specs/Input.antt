@@ -1,44 +1,55 @@
--- The input of a run: the page and the manifest, and of `replay` the trace.
+-- The input of a run: what the files that the words name hold, and what is wrong with it.
 use Rattle.std.specs.Prelude.{◌≡◌, ◌≤◌, ◌∷◌, ◌⊎◌, ℕ, List, [], Option, Some, None, length, codes}
 use Rattle.rip_outer.specs.Reading.{IsContents, IsTooLong}
 use Rattle.rip_outer.specs.declared.reading.NamedFile.{NamedFile}
 use Rattle.rip_outer.specs.declared.reading.TheConstants.{MAX_FILE}
-use Rattle.rip_listed.specs.declared.batch.Batch.{Batch}
-use Rattle.rip_app.specs.Page.{IsSomePage, IsManifest, MakesCalls}
+use Rattle.rip_words.specs.Commands.{Task, checks, replays, serves}
 use Rattle.rip_app.specs.App.{Loaded, AppOf, IsAppRefusal}
 use Rattle.rip_app.specs.declared.refusal.AppRefusal.{AppRefusal}
-use Rattle.rip_listed_trace.specs.Trace.{IsTrace}
-use Rattle.rip_listed_log.specs.History.{history_text, IsHistory}
-use Rattle.rip_listed_log.specs.declared.entry.Entry.{Entry}
-use Rattle.rip_listed_server.specs.Course.{Course}
-use Rattle.rip_cli.specs.Lines.{count_line, too_long_line, app_line}
-use Rattle.rip_cli.specs.Words.{Task, Checks, Replays}
+use Rattle.rip_trace.specs.Traces.{Given, IsTrace, IsRefusedAt}
+use Rattle.rip_cli.specs.Lines.{count_line, too_long_line, app_line, trace_line}
 use Rattle.rip_cli.specs.declared.input.Content.{Content}
 use Rattle.rip_cli.specs.declared.input.Content.TheVariants.{Bytes, TooLong}
-use Rattle.rip_cli.specs.declared.input.CheckInput.{CheckInput}
+use Rattle.rip_cli.specs.declared.input.AppInput.{AppInput}
 use Rattle.rip_cli.specs.declared.input.ReplayInput.{ReplayInput}
 use Rattle.rip_cli.specs.declared.input.Input.{Input}
-use Rattle.rip_cli.specs.declared.input.Input.TheVariants.{Check, Replay}
+use Rattle.rip_cli.specs.declared.input.Input.TheVariants.{Check, Replay, Serve}
+
+-- ---- files
 
 -- the content of the file of that name, where it is told what the files hold
 abbrev pub IsContentOf : Option (List NamedFile) → List ℕ → Content → Type 0
 IsContentOf held name (Bytes content) = IsContents held name content × (length content ≤ MAX_FILE)
 IsContentOf held name TooLong = IsTooLong held name
 
--- the contents of the files that are named
-abbrev pub IsInputOf : Option (List NamedFile) → Task → Input → Type 0
-IsInputOf held (Checks page app) (Check i) = IsContentOf held page i.page × IsContentOf held app i.app
-IsInputOf held (Checks page app) (Replay i) = ⊥
-IsInputOf held (Replays page app trace) (Check i) = ⊥
-IsInputOf held (Replays page app trace) (Replay i) =
-    IsContentOf held page i.page × IsContentOf held app i.app × IsContentOf held trace i.trace
+-- the contents of a page and a manifest
+abbrev pub IsAppOf : Option (List NamedFile) → List ℕ → List ℕ → AppInput → Type 0
+IsAppOf held page manifest i = IsContentOf held page i.page × IsContentOf held manifest i.manifest
 
--- LENGTHS
+-- and of a trace
+abbrev pub IsReplayOf : Option (List NamedFile) → List ℕ → List ℕ → List ℕ → ReplayInput → Type 0
+IsReplayOf held page manifest trace i = IsAppOf held page manifest i.app × IsContentOf held trace i.trace
+
+-- what the files that a task names hold, and the turns that it grants
+abbrev pub IsInputOf : Option (List NamedFile) → Task → Input → Type 0
+IsInputOf held (checks page app) (Check i) = IsAppOf held page app i
+IsInputOf held (replays page app trace turns) (Replay i most) = IsReplayOf held page app trace i × (most ≡ turns)
+IsInputOf held (serves page app address turns) (Serve i most) = IsAppOf held page app i × (most ≡ turns)
+IsInputOf held task input = ⊥
+
+-- ---- lengths
 
 -- the files in the order of the words, each with the word by which a line names it
+abbrev pub app_files : AppInput → List (List ℕ × Content)
+app_files i = (codes "page", i.page) ∷ (codes "app", i.manifest) ∷ []
+
+abbrev pub replay_files : ReplayInput → List (List ℕ × Content)
+replay_files i = (codes "page", i.app.page) ∷ (codes "app", i.app.manifest) ∷ (codes "trace", i.trace) ∷ []
+
 abbrev pub files_of : Input → List (List ℕ × Content)
-files_of (Check i) = (codes "page", i.page) ∷ (codes "app", i.app) ∷ []
-files_of (Replay i) = (codes "page", i.page) ∷ (codes "app", i.app) ∷ (codes "trace", i.trace) ∷ []
+files_of (Check i) = app_files i
+files_of (Replay i turns) = replay_files i
+files_of (Serve i turns) = app_files i
 
 -- the word, where its file is too long, and else another
 abbrev pub word_or : List ℕ → Content → Option (List ℕ) → Option (List ℕ)
@@ -50,74 +61,53 @@ abbrev pub first_too_long : List (List ℕ × Content) → Option (List ℕ)
 first_too_long [] = None
 first_too_long (file ∷ files) = word_or file.0 file.1 (first_too_long files)
 
--- REPLAY
+-- no file is too long
+abbrev pub FitsAll : Input → Type 0
+FitsAll i = first_too_long (files_of i) ≡ None
 
--- a file that is too long is of no form
-abbrev pub Has : (List ℕ → Type 0) → Content → Type 0
-Has P (Bytes content) = P content
-Has P TooLong = ⊥
+-- ---- the application and the trace
 
--- the page is a spelling of some calls
-abbrev pub HasPage : Content → Type 0
-HasPage = Has IsSomePage
-
--- the manifest is the manifest
-abbrev pub HasManifest : Content → Type 0
-HasManifest = Has IsManifest
-
--- the trace is that of some batches
-abbrev pub HasTrace : Content → Type 0
-HasTrace = Has (λ content. (batches : List Batch) × IsTrace content batches)
-
--- the log for input that is accepted: that of a legal course of the page's calls and the trace's batches, whose entries
--- are in range, so that it is the log of no other history in range
-pub record IsLog (i : ReplayInput) (log : List ℕ) : Type 0 where
-  pub page : List ℕ
-  pub manifest : List ℕ
-  pub trace : List ℕ
-  pub is_page : i.page ≡ Bytes page
-  pub is_manifest : i.app ≡ Bytes manifest
-  pub is_trace : i.trace ≡ Bytes trace
-  pub made : List (List ℕ)
-  pub batches : List Batch
-  pub history : List Entry
-  pub application : MakesCalls page manifest made
-  pub reported : IsTrace trace batches
-  pub course : Course made batches history
-  pub in_range : IsHistory history
-  pub text : log ≡ history_text history
-
--- CHECK
-
--- the line for an application that is accepted
-pub record IsCount (i : CheckInput) (line : List ℕ) : Type 0 where
+-- the page and the manifest are this application
+pub record IsApp (i : AppInput) (app : Loaded) : Type 0 where
   pub page : List ℕ
   pub manifest : List ℕ
   pub is_page : i.page ≡ Bytes page
-  pub is_manifest : i.app ≡ Bytes manifest
-  pub app : Loaded
+  pub is_manifest : i.manifest ≡ Bytes manifest
   pub application : AppOf page manifest app
-  pub text : line ≡ count_line (length app.page.nodes) (length app.program.grove.roots)
 
--- the line for a page and a manifest that are no application
-pub record RefusesApp (i : CheckInput) (line : List ℕ) : Type 0 where
+-- or none, for the cause that the line tells
+pub record RefusesApp (i : AppInput) (line : List ℕ) : Type 0 where
   pub page : List ℕ
   pub manifest : List ℕ
   pub is_page : i.page ≡ Bytes page
-  pub is_manifest : i.app ≡ Bytes manifest
+  pub is_manifest : i.manifest ≡ Bytes manifest
   pub refusal : AppRefusal
   pub refused : IsAppRefusal page manifest refusal
   pub text : app_line refusal ≡ Some line
 
--- WHAT IS PUT
+-- the trace gives these knocks, moments and words
+pub record HasTrace (i : ReplayInput) (given : Given) : Type 0 where
+  pub trace : List ℕ
+  pub is_trace : i.trace ≡ Bytes trace
+  pub gives : IsTrace trace given
+
+-- or it is none, from the line on that is told, where there is an application
+pub record RefusesTrace (i : ReplayInput) (line : List ℕ) : Type 0 where
+  pub app : Loaded
+  pub is_app : IsApp i.app app
+  pub trace : List ℕ
+  pub is_trace : i.trace ≡ Bytes trace
+  pub number : ℕ
+  pub refused : IsRefusedAt trace number
+  pub text : line ≡ trace_line number
+
+-- ---- refusals
 
 -- the line for input of which no file is too long, and which is refused: the first that applies
 abbrev pub RefusesForm : Input → List ℕ → Type 0
 RefusesForm (Check i) line = RefusesApp i line
-RefusesForm (Replay i) line =
-    ((¬ HasPage i.page) × (line ≡ codes "refused page NotYet 0\n"))
-    ⊎ (HasPage i.page × (¬ HasManifest i.app) × (line ≡ codes "refused app NotYet\n"))
-    ⊎ (HasPage i.page × HasManifest i.app × (¬ HasTrace i.trace) × (line ≡ codes "refused trace NotYet\n"))
+RefusesForm (Replay i turns) line = RefusesApp i.app line ⊎ RefusesTrace i line
+RefusesForm (Serve i turns) line = RefusesApp i line
 
 -- the line for input of which a file is too long: it names the first one
 abbrev pub RefusesLength : Input → List ℕ → Type 0
@@ -125,9 +115,12 @@ RefusesLength i line = (word : List ℕ) × (first_too_long (files_of i) ≡ Som
 
 -- the line for input that is refused: the first that applies
 abbrev pub Refuses : Input → List ℕ → Type 0
-Refuses i line = RefusesLength i line ⊎ ((first_too_long (files_of i) ≡ None) × RefusesForm i line)
+Refuses i line = RefusesLength i line ⊎ (FitsAll i × RefusesForm i line)
 
--- what is put for input that is accepted: a line or a log
-abbrev pub IsAnswer : Input → List ℕ → Type 0
-IsAnswer (Check i) line = IsCount i line
-IsAnswer (Replay i) log = IsLog i log
+-- ---- check
+
+-- the line for an application
+pub record IsCount (i : AppInput) (line : List ℕ) : Type 0 where
+  pub app : Loaded
+  pub is_app : IsApp i app
+  pub text : line ≡ count_line (length app.page.nodes) (length app.program.grove.roots)

@@ -1,7 +1,10 @@
 pub mod Words
-pub mod Laws
 pub mod Lines
-pub mod Input
-pub mod Run
-pub mod Steps
 pub mod Content
+pub mod Input
+pub mod Steps
+pub mod TraceDoor
+pub mod Service
+pub mod Settling
+pub mod Run
+pub mod Laws

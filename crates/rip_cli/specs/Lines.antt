@@ -34,6 +34,10 @@ abbrev pub script_line : ℕ → List ℕ → ℕ → List ℕ
 script_line number kind place =
     codes "refused script " ++ decimal number ++ codes " " ++ kind ++ codes " " ++ decimal place ++ codes "\n"
 
+-- the line for a trace: its first line that is none, counted from 1
+abbrev pub trace_line : ℕ → List ℕ
+trace_line line = codes "refused trace " ++ decimal line ++ codes "\n"
+
 -- the words for what is wrong with a page
 abbrev pub page_word : PageKind → List ℕ
 page_word page.NotUtf8 = codes "NotUtf8"

@@ -1,17 +1,15 @@
--- What the steps of a run do: reading the input, and settling it.
-use Rattle.std.specs.Prelude.{◌≡◌, ◌++◌, ◌⊎◌, ℕ, List, [], Option, Some, None, Result, Ok, Err, codes}
+-- What the steps of a run do: reading the input, and putting a line.
+use Rattle.std.specs.Prelude.{◌≡◌, ◌++◌, ℕ, List, Option, Some, None, Result, Ok, Err, codes}
 use Rattle.rip_outer.specs.Outside.{Rose, Front, also}
-use Rattle.rip_app.specs.App.{IsAppRefusal}
-use Rattle.rip_app.specs.Page.{MakesCalls}
-use Rattle.rip_listed_trace.specs.Trace.{IsTrace}
-use Rattle.rip_listed.specs.declared.batch.Batch.{Batch}
+use Rattle.rip_app.specs.App.{Loaded, IsAppRefusal}
+use Rattle.rip_trace.specs.Traces.{IsRefusedAt}
 use Rattle.rip_cli.specs.Content.{content_bytes}
-use Rattle.rip_cli.specs.Lines.{too_long_line, app_line}
-use Rattle.rip_cli.specs.Input.{HasPage, HasManifest, HasTrace, files_of, first_too_long, Refuses, IsAnswer}
-use Rattle.rip_cli.specs.declared.input.Content.TheVariants.{Bytes}
+use Rattle.rip_cli.specs.Lines.{too_long_line, app_line, trace_line}
+use Rattle.rip_cli.specs.Input.{IsApp, FitsAll, files_of, first_too_long}
+use Rattle.rip_cli.specs.declared.input.AppInput.{AppInput}
 use Rattle.rip_cli.specs.declared.input.ReplayInput.{ReplayInput}
 use Rattle.rip_cli.specs.declared.input.Input.{Input}
-use Rattle.rip_cli.specs.declared.input.Input.TheVariants.{Check, Replay}
+use Rattle.rip_cli.specs.declared.input.Input.TheVariants.{Check, Replay, Serve}
 use Rattle.rip_cli.specs.declared.input.InputFile.{InputFile}
 use Rattle.rip_cli.specs.declared.input.InputFile.TheVariants as part
 use Rattle.rip_cli.specs.declared.input.ReadStop.{ReadStop}
@@ -20,6 +18,8 @@ use Rattle.rip_cli.specs.declared.refusal.Refusal.{Refusal}
 use Rattle.rip_cli.specs.declared.refusal.Refusal.TheVariants as refusal
 use Rattle.rip_cli.specs.declared.status.Status.{Status}
 use Rattle.rip_cli.specs.declared.status.Status.TheVariants.{Read, BadWords, BadInput, TurnsSpent, Outside, NoMemory}
+
+-- ---- reading
 
 -- a front of the names was asked for, in order
 pub record AskedFront (names : List (List ℕ)) (old new : Option (List (List ℕ))) : Type 0 where
@@ -39,23 +39,7 @@ CountsReading (Ok x) old new = new ≡ old
 CountsReading (Err stop.Failed) old new = Rose old new
 CountsReading (Err stop.Memory) old new = new ≡ old
 
--- no file is too long
-abbrev pub FitsAll : Input → Type 0
-FitsAll i = first_too_long (files_of i) ≡ None
-
--- the page and the manifest are accepted: the page makes these calls
-pub record AcceptsCalls (i : ReplayInput) (made : List (List ℕ)) : Type 0 where
-  pub page : List ℕ
-  pub manifest : List ℕ
-  pub is_page : i.page ≡ Bytes page
-  pub is_manifest : i.app ≡ Bytes manifest
-  pub application : MakesCalls page manifest made
-
--- the trace is accepted: it sends these batches
-pub record AcceptsTrace (i : ReplayInput) (batches : List Batch) : Type 0 where
-  pub trace : List ℕ
-  pub is_trace : i.trace ≡ Bytes trace
-  pub reported : IsTrace trace batches
+-- ---- refusals
 
 -- the word by which a line names a file
 abbrev pub file_word : InputFile → List ℕ
@@ -72,55 +56,46 @@ word_of (Some file) = Some (file_word file)
 abbrev pub refusal_line : Refusal → Option (List ℕ)
 refusal_line (refusal.TooLong file) = Some (too_long_line (file_word file))
 refusal_line (refusal.Application cause) = app_line cause
-refusal_line refusal.Page = Some (codes "refused page NotYet 0\n")
-refusal_line refusal.App = Some (codes "refused app NotYet\n")
-refusal_line refusal.Trace = Some (codes "refused trace NotYet\n")
+refusal_line (refusal.Trace line) = Some (trace_line line)
 refusal_line refusal.Memory = None
 
--- why input of `replay` of which no file is too long is refused, the first cause that applies
-abbrev pub IsReplayRefusal : ReplayInput → Refusal → Type 0
-IsReplayRefusal i (refusal.TooLong file) = ⊥
-IsReplayRefusal i (refusal.Application cause) = ⊥
-IsReplayRefusal i refusal.Page = ¬ HasPage i.page
-IsReplayRefusal i refusal.App = HasPage i.page × (¬ HasManifest i.app)
-IsReplayRefusal i refusal.Trace = HasPage i.page × HasManifest i.app × (¬ HasTrace i.trace)
-IsReplayRefusal i refusal.Memory = Unit {0}
+-- why a page and a manifest, neither of which is too long, are no application; want of memory has no cause
+abbrev pub IsAppCause : AppInput → Refusal → Type 0
+IsAppCause i (refusal.Application cause) = IsAppRefusal (content_bytes i.page) (content_bytes i.manifest) cause
+IsAppCause i (refusal.TooLong file) = ⊥
+IsAppCause i (refusal.Trace line) = ⊥
+IsAppCause i refusal.Memory = Unit {0}
+
+-- why a trace that is not too long is none
+abbrev pub IsTraceCause : ReplayInput → Refusal → Type 0
+IsTraceCause i (refusal.Trace line) = IsRefusedAt (content_bytes i.trace) line
+IsTraceCause i (refusal.Application cause) = ⊥
+IsTraceCause i (refusal.TooLong file) = ⊥
+IsTraceCause i refusal.Memory = Unit {0}
+
+-- the application of the input, if it asks for one
+abbrev pub app_input : Input → AppInput
+app_input (Check i) = i
+app_input (Replay i turns) = i.app
+app_input (Serve i turns) = i
+
+-- the input asks for service
+abbrev pub IsServe : Input → Type 0
+IsServe (Check i) = ⊥
+IsServe (Replay i turns) = ⊥
+IsServe (Serve i turns) = Unit {0}
 
 -- why input is refused, the first cause that applies; want of memory has none
 abbrev pub IsRefusedBy : Input → Refusal → Type 0
 IsRefusedBy i (refusal.TooLong file) = first_too_long (files_of i) ≡ Some (file_word file)
-IsRefusedBy (Check i) (refusal.Application cause) = FitsAll (Check i) × IsAppRefusal (content_bytes i.page) (content_bytes i.app) cause
-IsRefusedBy (Check i) refusal.Page = ⊥
-IsRefusedBy (Check i) refusal.App = ⊥
-IsRefusedBy (Check i) refusal.Trace = ⊥
-IsRefusedBy (Check i) refusal.Memory = Unit {0}
-IsRefusedBy (Replay i) (refusal.Application cause) = ⊥
-IsRefusedBy (Replay i) refusal.Page = FitsAll (Replay i) × IsReplayRefusal i refusal.Page
-IsRefusedBy (Replay i) refusal.App = FitsAll (Replay i) × IsReplayRefusal i refusal.App
-IsRefusedBy (Replay i) refusal.Trace = FitsAll (Replay i) × IsReplayRefusal i refusal.Trace
-IsRefusedBy (Replay i) refusal.Memory = Unit {0}
+IsRefusedBy i (refusal.Application cause) = FitsAll i × IsAppCause (app_input i) (refusal.Application cause)
+IsRefusedBy (Replay i turns) (refusal.Trace line) =
+    FitsAll (Replay i turns) × ((app : Loaded) × IsApp i.app app) × IsTraceCause i (refusal.Trace line)
+IsRefusedBy (Check i) (refusal.Trace line) = ⊥
+IsRefusedBy (Serve i turns) (refusal.Trace line) = ⊥
+IsRefusedBy i refusal.Memory = Unit {0}
 
--- what is due to be put
-abbrev pub IsDue : Input → List ℕ → Type 0
-IsDue i due = Refuses i due ⊎ IsAnswer i due
-
--- what was put of what is due for the input
-abbrev pub Settles : Status → Input → Option (List ℕ) → Option (List ℕ) → Type 0
-Settles Read i old new = (answer : List ℕ) × IsAnswer i answer × (new ≡ also answer old)
-Settles BadWords i old new = ⊥
-Settles BadInput i old new = (line : List ℕ) × Refuses i line × (new ≡ also line old)
-Settles TurnsSpent i old new = ⊥
-Settles Outside i old new = (due : List ℕ) × IsDue i due × Front due old new
-Settles NoMemory i old new = (new ≡ old) ⊎ ((due : List ℕ) × IsDue i due × Front due old new)
-
--- the sink's count rose where the outside stopped the run, and else is as it was
-abbrev pub CountsStatus : Status → ℕ → ℕ → Type 0
-CountsStatus Read old new = new ≡ old
-CountsStatus BadWords old new = new ≡ old
-CountsStatus BadInput old new = new ≡ old
-CountsStatus TurnsSpent old new = new ≡ old
-CountsStatus Outside old new = Rose old new
-CountsStatus NoMemory old new = new ≡ old
+-- ---- putting a line
 
 -- the statuses of a run that puts one line
 abbrev pub IsLineStatus : Status → Type 0
@@ -144,3 +119,12 @@ PutsLine due NoMemory line old new = new ≡ old
 abbrev pub PutsLineOf : Status → Status → Option (List ℕ) → Option (List ℕ) → Option (List ℕ) → Type 0
 PutsLineOf due status None old new = (status ≡ NoMemory) × (new ≡ old)
 PutsLineOf due status (Some line) old new = PutsLine due status line old new
+
+-- the sink's count rose where the outside stopped the run, and else is as it was
+abbrev pub CountsStatus : Status → ℕ → ℕ → Type 0
+CountsStatus Read old new = new ≡ old
+CountsStatus BadWords old new = new ≡ old
+CountsStatus BadInput old new = new ≡ old
+CountsStatus TurnsSpent old new = new ≡ old
+CountsStatus Outside old new = Rose old new
+CountsStatus NoMemory old new = new ≡ old

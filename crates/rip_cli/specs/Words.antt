@@ -1,35 +1,30 @@
--- The words of the command line.
-use Rattle.std.specs.Prelude.{◌≡◌, ◌∷◌, ℕ, List, [], codes}
-use Rattle.rip_cli.specs.declared.words.Command.{Command}
-use Rattle.rip_cli.specs.declared.words.Command.TheVariants as command
+-- The words that the program answers.
+use Rattle.std.specs.Prelude.{◌∷◌, ℕ, List, [], codes}
+use Rattle.rip_words.specs.Commands.{Task, checks, replays, serves, drives, generates, IsTask}
 
--- what words ask for, with the names of its files
-pub data Task : Type 0 where
-  Checks : (page app : List ℕ) → Task
-  Replays : (page app trace : List ℕ) → Task
+-- the program does what is asked for
+abbrev pub IsOffered : Task → Type 0
+IsOffered (checks page app) = Unit {0}
+IsOffered (replays page app trace turns) = Unit {0}
+IsOffered (serves page app address turns) = Unit {0}
+IsOffered (drives page app gestures) = ⊥
+IsOffered (generates n) = ⊥
 
--- the words that ask for it: `check PAGE APP` or `replay PAGE APP TRACE`
-abbrev pub task_words : Task → List (List ℕ)
-task_words (Checks page app) = codes "check" ∷ page ∷ app ∷ []
-task_words (Replays page app trace) = codes "replay" ∷ page ∷ app ∷ trace ∷ []
-
--- the names in the order of the words
-abbrev pub in_order : Task → List (List ℕ)
-in_order (Checks page app) = page ∷ app ∷ []
-in_order (Replays page app trace) = page ∷ app ∷ trace ∷ []
-
--- the words ask for this
-abbrev pub IsTask : List (List ℕ) → Task → Type 0
-IsTask words task = words ≡ task_words task
-
--- the words have the form of a command
+-- the words have a form, and the program does what they ask for
 abbrev pub IsForm : List (List ℕ) → Type 0
-IsForm words = (task : Task) × IsTask words task
+IsForm words = (task : Task) × IsTask words task × IsOffered task
 
--- what a command asks for
-abbrev pub task_of : Command → Task
-task_of (command.Check names) = Checks names.page.now names.app.now
-task_of (command.Replay names) = Replays names.page.now names.app.now names.trace.now
+-- the words ask for service
+abbrev pub AskToServe : List (List ℕ) → Type 0
+AskToServe words = (page app address : List ℕ) × (turns : ℕ) × IsTask words (serves page app address turns)
+
+-- the names of the files in the order of the words
+abbrev pub in_order : Task → List (List ℕ)
+in_order (checks page app) = page ∷ app ∷ []
+in_order (replays page app trace turns) = page ∷ app ∷ trace ∷ []
+in_order (serves page app address turns) = page ∷ app ∷ []
+in_order (drives page app gestures) = page ∷ app ∷ gestures ∷ []
+in_order (generates n) = []
 
 -- what other words are answered
 abbrev pub usage_line : List ℕ

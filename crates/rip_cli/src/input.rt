@@ -1,16 +1,18 @@
-ghost use Rattle.std.specs.Prelude.{◌≡◌, ◌∷◌, ◌⊎◌, [], IfOk, IfErr};
-ghost use Rattle.rip_app.specs.App.{AppOf, IsAppRefusal};
+ghost use Rattle.std.specs.Prelude.{◌≡◌, ◌∷◌, [], IfOk, IfErr};
+ghost use Rattle.rip_app.specs.App.{AppOf};
+ghost use Rattle.rip_trace.specs.Traces.{IsTrace};
+ghost use Rattle.rip_words.specs.Commands.{task_of};
 ghost use Rattle.rip_cli.specs.Content.{content_bytes, is_long};
-ghost use Rattle.rip_cli.specs.Input.{IsContentOf, IsInputOf, HasTrace, files_of, first_too_long};
-ghost use Rattle.rip_cli.specs.Steps.{Asked, CountsReading, AcceptsCalls, AcceptsTrace, IsReplayRefusal, file_word, word_of};
-ghost use Rattle.rip_cli.specs.Words.{Checks, Replays, in_order, task_of};
+ghost use Rattle.rip_cli.specs.Input.{IsAppOf, IsContentOf, IsInputOf, IsReplayOf, app_files, files_of, first_too_long, replay_files};
+ghost use Rattle.rip_cli.specs.Steps.{Asked, CountsReading, IsAppCause, IsTraceCause, file_word, word_of};
+ghost use Rattle.rip_cli.specs.Words.{IsOffered, in_order};
 
 use crate::refusal::Refusal;
-use crate::words::{CheckNames, Command, ReplayNames};
-use rip_app::{App, AppRefusal, Calls, CallsRefusal, load, load_calls};
-use rip_listed_trace::{Trace, TraceRefusal, read_trace};
+use rip_app::{App, load};
 use rip_outer::{Files, FilesError};
+use rip_trace::{Trace, TraceRefusal, read_trace};
 use rip_values::Bytes;
+use rip_words::Command;
 use std::alloc::Global;
 
 /// What reading a file gave.
@@ -21,26 +23,26 @@ pub enum Content {
     TooLong,
 }
 
-/// The contents of the files of `check`.
+/// The contents of the files of a page and a manifest.
 #[derive(Debug, Drop)]
-pub struct CheckInput {
+pub struct AppInput {
     pub page: Content,
-    pub app: Content,
+    pub manifest: Content,
 }
 
-/// The contents of the files of `replay`.
+/// The same, and that of the file of a trace.
 #[derive(Debug, Drop)]
 pub struct ReplayInput {
-    pub page: Content,
-    pub app: Content,
+    pub app: AppInput,
     pub trace: Content,
 }
 
-/// The contents of the files that the words name.
+/// What the words and the files that they name give; `turns` is how many turns may be made.
 #[derive(Debug, Drop)]
 pub enum Input {
-    Check(CheckInput),
-    Replay(ReplayInput),
+    Check(AppInput),
+    Replay { files: ReplayInput, turns: u64 },
+    Serve { files: AppInput, turns: u64 },
 }
 
 /// A file of the input.
@@ -72,7 +74,7 @@ impl InputFile {
 }
 
 impl Content {
-    /// The bytes; none of a file that is too long, which is of no form either way.
+    /// The bytes; none of a file that is too long.
     fn as_slice(&self) -> &[u8]
         ensures { result.now ≡ content_bytes self.now }
     {
@@ -108,31 +110,32 @@ fn read_content<F: Files>(alloc: Global, files: &mut F, name: &str) -> Result<Co
     }
 }
 
-impl CheckInput {
+impl AppInput {
     /// Reads the two files, in order.
     fn read<F: Files>(
         alloc: Global,
         files: &mut F,
         page: &str,
-        app: &str,
-    ) -> Result<CheckInput, ReadStop>
-        ensures page { IfOk result (λ i. IsContentOf (F.held files.old) page.now i.page) }
-        ensures app { IfOk result (λ i. IsContentOf (F.held files.old) app.now i.app) }
-        ensures asked { Asked result (page.now ∷ app.now ∷ []) (F.asked files.old) (F.asked files.new) }
+        manifest: &str,
+    ) -> Result<AppInput, ReadStop>
+        ensures input { IfOk result (IsAppOf (F.held files.old) page.now manifest.now) }
+        ensures asked { Asked result (page.now ∷ manifest.now ∷ [])
+            (F.asked files.old) (F.asked files.new) }
+        ensures held { F.held files.new ≡ F.held files.old }
         ensures counted { CountsReading result (F.count files.old) (F.count files.new) }
     {
         let page = read_content(alloc, files, page)?;
-        let app = read_content(alloc, files, app)?;
-        Ok(CheckInput { page, app })
+        let manifest = read_content(alloc, files, manifest)?;
+        Ok(AppInput { page, manifest })
     }
 
     /// The first of the files that is too long.
     fn first_too_long(&self) -> Option<InputFile>
-        ensures { word_of result ≡ first_too_long (files_of (Input.Check self.now)) }
+        ensures { word_of result ≡ first_too_long (app_files self.now) }
     {
         if self.page.is_too_long() {
             Some(InputFile::Page)
-        } else if self.app.is_too_long() {
+        } else if self.manifest.is_too_long() {
             Some(InputFile::App)
         } else {
             None
@@ -140,11 +143,15 @@ impl CheckInput {
     }
 
     /// The application of the page and the manifest.
-    pub fn load(&self, alloc: Global) -> Result<App, AppRefusal>
-        ensures loaded { IfOk result (AppOf (content_bytes self.now.page) (content_bytes self.now.app)) }
-        ensures refused { IfErr result (IsAppRefusal (content_bytes self.now.page) (content_bytes self.now.app)) }
+    pub fn load(&self, alloc: Global) -> Result<App, Refusal>
+        ensures loaded { IfOk result
+            (AppOf (content_bytes self.now.page) (content_bytes self.now.manifest)) }
+        ensures refused { IfErr result (IsAppCause self.now) }
     {
-        load(alloc, self.page.as_slice(), self.app.as_slice())
+        match load(alloc, self.page.as_slice(), self.manifest.as_slice()) {
+            Ok(app) => Ok(app),
+            Err(cause) => Err(Refusal::Application(cause)),
+        }
     }
 }
 
@@ -154,112 +161,81 @@ impl ReplayInput {
         alloc: Global,
         files: &mut F,
         page: &str,
-        app: &str,
+        manifest: &str,
         trace: &str,
     ) -> Result<ReplayInput, ReadStop>
-        ensures page { IfOk result (λ i. IsContentOf (F.held files.old) page.now i.page) }
-        ensures app { IfOk result (λ i. IsContentOf (F.held files.old) app.now i.app) }
-        ensures trace { IfOk result (λ i. IsContentOf (F.held files.old) trace.now i.trace) }
-        ensures asked { Asked result (page.now ∷ app.now ∷ trace.now ∷ []) (F.asked files.old) (F.asked files.new) }
+        ensures input { IfOk result
+            (IsReplayOf (F.held files.old) page.now manifest.now trace.now) }
+        ensures asked { Asked result (page.now ∷ manifest.now ∷ trace.now ∷ [])
+            (F.asked files.old) (F.asked files.new) }
         ensures counted { CountsReading result (F.count files.old) (F.count files.new) }
     {
-        let page: Content = read_content(alloc, files, page)?;
-        let app = read_content(alloc, files, app)?;
+        let app = AppInput::read(alloc, files, page, manifest)?;
         let trace = read_content(alloc, files, trace)?;
-        Ok(ReplayInput { page, app, trace })
+        Ok(ReplayInput { app, trace })
     }
 
     /// The first of the files that is too long.
     fn first_too_long(&self) -> Option<InputFile>
-        ensures { word_of result ≡ first_too_long (files_of (Input.Replay self.now)) }
+        ensures { word_of result ≡ first_too_long (replay_files self.now) }
     {
-        if self.page.is_too_long() {
-            Some(InputFile::Page)
-        } else if self.app.is_too_long() {
-            Some(InputFile::App)
-        } else if self.trace.is_too_long() {
-            Some(InputFile::Trace)
-        } else {
-            None
-        }
-    }
-
-    /// The calls of the page.
-    pub fn load_calls(&self, alloc: Global) -> Result<Calls, Refusal>
-        ensures ok { IfOk result (λ calls. AcceptsCalls self.now calls) }
-        ensures refused { IfErr result (IsReplayRefusal self.now) }
-    {
-        match load_calls(alloc, self.page.as_slice(), self.app.as_slice()) {
-            Ok(calls) => Ok(calls),
-            Err(CallsRefusal::Page) => Err(Refusal::Page),
-            Err(CallsRefusal::Manifest) => Err(Refusal::App),
-            Err(CallsRefusal::Memory) => Err(Refusal::Memory),
+        match self.app.first_too_long() {
+            Some(file) => Some(file),
+            None if self.trace.is_too_long() => Some(InputFile::Trace),
+            None => None,
         }
     }
 
     /// The trace.
     pub fn load_trace(&self, alloc: Global) -> Result<Trace, Refusal>
-        ensures ok { IfOk result (λ trace. AcceptsTrace self.now trace.batches) }
-        ensures refused { result ≡ Err Refusal.Trace → ¬ HasTrace self.now.trace }
-        ensures only { IfErr result (λ refusal. (refusal ≡ Refusal.Trace) ⊎ (refusal ≡ Refusal.Memory)) }
+        ensures read { IfOk result (IsTrace (content_bytes self.now.trace)) }
+        ensures refused { IfErr result (IsTraceCause self.now) }
     {
         match read_trace(alloc, self.trace.as_slice()) {
             Ok(trace) => Ok(trace),
-            Err(TraceRefusal::Form) => Err(Refusal::Trace),
+            Err(TraceRefusal::Line(line)) => Err(Refusal::Trace(line)),
             Err(TraceRefusal::Memory) => Err(Refusal::Memory),
         }
     }
 }
 
 impl Input {
-    /// Reads the files of `check`.
-    fn read_check<F: Files>(
-        alloc: Global,
-        files: &mut F,
-        names: CheckNames<'_>,
-    ) -> Result<Input, ReadStop>
-        ensures input { IfOk result
-            (IsInputOf (F.held files.old) (Checks names.entry.page.now names.entry.app.now)) }
-        ensures asked { Asked result (names.entry.page.now ∷ names.entry.app.now ∷ []) (F.asked files.old) (F.asked files.new) }
-        ensures counted { CountsReading result (F.count files.old) (F.count files.new) }
-    {
-        match CheckInput::read(alloc, files, names.page, names.app) {
-            Ok(input) => Ok(Input::Check(input)),
-            Err(stop) => Err(stop),
-        }
-    }
-
-    /// Reads the files of `replay`.
-    fn read_replay<F: Files>(
-        alloc: Global,
-        files: &mut F,
-        names: ReplayNames<'_>,
-    ) -> Result<Input, ReadStop>
-        ensures input { IfOk result
-            (IsInputOf (F.held files.old) (Replays names.entry.page.now names.entry.app.now names.entry.trace.now)) }
-        ensures asked { Asked result
-            (names.entry.page.now ∷ names.entry.app.now ∷ names.entry.trace.now ∷ []) (F.asked files.old) (F.asked files.new) }
-        ensures counted { CountsReading result (F.count files.old) (F.count files.new) }
-    {
-        match ReplayInput::read(alloc, files, names.page, names.app, names.trace) {
-            Ok(input) => Ok(Input::Replay(input)),
-            Err(stop) => Err(stop),
-        }
-    }
-
     /// Reads the files that a command names, in order.
     pub fn read<F: Files>(
         alloc: Global,
         files: &mut F,
         command: &Command<'_>,
     ) -> Result<Input, ReadStop>
+        requires { IsOffered (task_of command.now) }
         ensures input { IfOk result (IsInputOf (F.held files.old) (task_of command.now)) }
-        ensures asked { Asked result (in_order (task_of command.now)) (F.asked files.old) (F.asked files.new) }
+        ensures asked { Asked result (in_order (task_of command.now))
+            (F.asked files.old) (F.asked files.new) }
         ensures counted { CountsReading result (F.count files.old) (F.count files.new) }
     {
-        match command {
-            Command::Check(names) => Input::read_check(alloc, files, *names),
-            Command::Replay(names) => Input::read_replay(alloc, files, *names),
+        match *command {
+            Command::Check { page, app } => match AppInput::read(alloc, files, page, app) {
+                Ok(files) => Ok(Input::Check(files)),
+                Err(stop) => Err(stop),
+            },
+            Command::Replay {
+                page,
+                app,
+                trace,
+                turns,
+            } => match ReplayInput::read(alloc, files, page, app, trace) {
+                Ok(files) => Ok(Input::Replay { files, turns }),
+                Err(stop) => Err(stop),
+            },
+            Command::Serve {
+                page,
+                app,
+                turns,
+                ..
+            } => match AppInput::read(alloc, files, page, app) {
+                Ok(files) => Ok(Input::Serve { files, turns }),
+                Err(stop) => Err(stop),
+            },
+            Command::Drive { .. } | Command::Generate(_) => unreachable!(),
         }
     }
 
@@ -268,8 +244,9 @@ impl Input {
         ensures { word_of result ≡ first_too_long (files_of self.now) }
     {
         match self {
-            Input::Check(input) => input.first_too_long(),
-            Input::Replay(input) => input.first_too_long(),
+            Input::Check(files) => files.first_too_long(),
+            Input::Replay { files, .. } => files.first_too_long(),
+            Input::Serve { files, .. } => files.first_too_long(),
         }
     }
 }

@@ -1,5 +1,5 @@
 ghost use Rattle.std.specs.Prelude.{◌≡◌, ◌++◌, IfOk, OnOk, codes, decimal};
-ghost use Rattle.rip_cli.specs.Lines.{count_line, early_word, lex_word, manifest_line, manifest_word, page_line, page_word, parse_word, script_line, too_long_line};
+ghost use Rattle.rip_cli.specs.Lines.{count_line, early_word, lex_word, manifest_line, manifest_word, page_line, page_word, parse_word, script_line, too_long_line, trace_line};
 
 use rip_early::EarlyKind;
 use rip_lexer::LexKind;
@@ -67,6 +67,17 @@ pub fn script_line(alloc: Global, number: u32, kind: &[u8], place: u32) -> Resul
     out.text(kind)?;
     out.text(b" ")?;
     out.number(u64::from(place))?;
+    out.text(b"\n")?;
+    Ok(out.into_bytes())
+}
+
+/// The line for a trace: its first line that is none, counted from 1.
+pub fn trace_line(alloc: Global, line: u64) -> Result<Bytes, NoMemory>
+    ensures { IfOk result (λ text. text ≡ trace_line line) }
+{
+    let mut out = Writer::new(alloc);
+    out.text(b"refused trace ")?;
+    out.number(line)?;
     out.text(b"\n")?;
     Ok(out.into_bytes())
 }

@@ -5,7 +5,7 @@ ghost use Rattle.rip_cli.specs.Steps.{refusal_line};
 use crate::input::InputFile;
 use crate::lines::{
     early_word, lex_word, manifest_line, manifest_word, page_line, page_word, parse_word,
-    script_line, too_long_line,
+    script_line, too_long_line, trace_line,
 };
 use rip_app::AppRefusal;
 use rip_values::{Bytes, NoMemory};
@@ -18,12 +18,8 @@ pub enum Refusal {
     TooLong(InputFile),
     /// The page and the manifest are no application.
     Application(AppRefusal),
-    /// The page is no list of calls.
-    Page,
-    /// The manifest is another.
-    App,
-    /// The trace is none of the form.
-    Trace,
+    /// This line, counted from 1, is the first that is none of a trace.
+    Trace(u64),
     /// Want of memory.
     Memory,
 }
@@ -63,9 +59,7 @@ impl Refusal {
         match self {
             Refusal::TooLong(file) => too_long_line(alloc, file.word()),
             Refusal::Application(cause) => app_line(alloc, cause),
-            Refusal::Page => Bytes::from_slice(alloc, b"refused page NotYet 0\n"),
-            Refusal::App => Bytes::from_slice(alloc, b"refused app NotYet\n"),
-            Refusal::Trace => Bytes::from_slice(alloc, b"refused trace NotYet\n"),
+            Refusal::Trace(line) => trace_line(alloc, line),
             Refusal::Memory => Err(NoMemory),
         }
     }

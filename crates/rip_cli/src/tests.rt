@@ -10,6 +10,9 @@ const PAGE: &[u8] =
 const OTHER_PAGE: &[u8] =
     b"<html><head></head><body><script>\"use strict\";ripley.call(\"f\",[1.5],null);</script></body></html>";
 
+const CLICKED_PAGE: &[u8] =
+    b"<html><head></head><body><button>A</button><script>\"use strict\";document.body.firstChild.addEventListener(\"click\",function(){while(true){}},false);</script></body></html>";
+
 const APP: &[u8] = b"{\"version\":1,\"functions\":{},\"limits\":{}}\n";
 
 const OTHER_APP: &[u8] = b"{\"version\":2,\"functions\":{},\"limits\":{}}";
@@ -20,7 +23,10 @@ const TRACE: &[u8] =
 const FALSE_TRACE: &[u8] =
     b"open 0\nsay 0 get\nsay 0 e 1 {\"batch\":1,\"items\":[[\"call\",1,\"f\",[1]],[\"call\",2,\"f\",[3]]]}";
 
-const OTHER_TRACE: &[u8] = b"open 0\nsay 0 get\nquiet\n";
+const OTHER_TRACE: &[u8] = b"open 0\nsay 0 get\nquit\n";
+
+const CLICKED_TRACE: &[u8] =
+    b"open 0\nsay 0 get\nsay 0 e 1 {\"batch\":1,\"items\":[[\"event\",\"click\",4]]}\n";
 
 const USAGE: &str = "usage: ripley check|replay|serve|drive|generate\n";
 
@@ -41,6 +47,12 @@ batch 3 1 1 [[\"call\",1,\"f\",[1]],[\"call\",2,\"f\",[3]]]
 serve 3 1 1 1 \"f\" [1] 0 {\"error\":\"unknown\"}
 done 3 1 1 mismatch 2 2 [\"f\",[3]] [\"f\",[2]]
 end 4 0
+";
+
+const CLICKED_LOG: &str = "open 2 1 00000000-0000-4001-8000-000000000002 3 0
+done 2 1 0 ok
+batch 3 1 1 [[\"event\",\"click\",4]]
+end 10 3
 ";
 
 /// Files of these names and contents.
@@ -82,24 +94,24 @@ fn run(
 
 #[test]
 fn answers_words_that_are_no_form(rt: HostRuntime) -> Result<(), Fail> {
-    let table: [&[&str]; 9] = [
+    let table: [&[&str]; 13] = [
         &[],
         &["replay"],
         &["replay", "p", "a"],
         &["replay", "p", "a", "t", "t"],
+        &["replay", "p", "a", "t", "--turns=0"],
+        &["replay", "p", "a", "t", "--turns=01"],
         &["Replay", "p", "a", "t"],
         &["check"],
         &["check", "p"],
         &["check", "p", "a", "t"],
-        &["Check", "p", "a"],
+        &["serve", "p", "a"],
+        &["drive", "p", "a", "t"],
+        &["generate", "7"],
     ];
+    let named = [("p", PAGE), ("a", APP), ("t", TRACE)];
     for words in table {
-        let (status, put) = run(
-            rt.alloc(),
-            words,
-            &[("p", PAGE), ("a", APP), ("t", TRACE)],
-            &[],
-        )?;
+        let (status, put) = run(rt.alloc(), words, &named, &[])?;
         assert_eq!(rt; status, Status::BadWords);
         assert!(rt; put.as_slice() == USAGE.as_bytes());
     }
@@ -111,58 +123,23 @@ fn answers_words_that_are_no_form(rt: HostRuntime) -> Result<(), Fail> {
 
 #[test]
 fn replays_a_trace(rt: HostRuntime) -> Result<(), Fail> {
-    let too_long = vec![in rt.alloc(); b'\n'; MAX_FILE + 1]?;
-    let table: [(&[u8], &[u8], &[u8], Status, &str); 10] = [
-        (PAGE, APP, TRACE, Status::Read, LOG),
-        (PAGE, APP, FALSE_TRACE, Status::Read, FALSE_LOG),
+    let table: [(&[u8], &[u8], Option<&str>, Status, &str); 4] = [
+        (PAGE, TRACE, None, Status::Read, LOG),
+        (PAGE, FALSE_TRACE, None, Status::Read, FALSE_LOG),
+        (PAGE, TRACE, Some("--turns=4"), Status::Read, LOG),
         (
-            OTHER_PAGE,
-            OTHER_APP,
-            OTHER_TRACE,
-            Status::BadInput,
-            "refused page NotYet 0\n",
-        ),
-        (
-            PAGE,
-            OTHER_APP,
-            OTHER_TRACE,
-            Status::BadInput,
-            "refused app NotYet\n",
-        ),
-        (
-            PAGE,
-            APP,
-            OTHER_TRACE,
-            Status::BadInput,
-            "refused trace NotYet\n",
-        ),
-        (b"", APP, TRACE, Status::BadInput, "refused page NotYet 0\n"),
-        (PAGE, APP, b"", Status::BadInput, "refused trace NotYet\n"),
-        (
-            &too_long,
-            &too_long,
-            TRACE,
-            Status::BadInput,
-            "refused page TooLong\n",
-        ),
-        (
-            OTHER_PAGE,
-            &too_long,
-            &too_long,
-            Status::BadInput,
-            "refused app TooLong\n",
-        ),
-        (
-            OTHER_PAGE,
-            OTHER_APP,
-            &too_long,
-            Status::BadInput,
-            "refused trace TooLong\n",
+            CLICKED_PAGE,
+            CLICKED_TRACE,
+            Some("--turns=10"),
+            Status::TurnsSpent,
+            CLICKED_LOG,
         ),
     ];
-    for (page, app, trace, expected, text) in table {
-        let named = [("p", page), ("a", app), ("t", trace)];
-        let (status, put) = run(rt.alloc(), &["replay", "p", "a", "t"], &named, &[])?;
+    for (page, trace, option, expected, text) in table {
+        let named = [("p", page), ("a", APP), ("t", trace)];
+        let words = ["replay", "p", "a", "t", option.unwrap_or("")];
+        let count = if option.is_some() { 5 } else { 4 };
+        let (status, put) = run(rt.alloc(), &words[..count], &named, &[])?;
         assert_eq!(rt; status, expected, "{text}");
         assert!(rt; put.as_slice() == text.as_bytes(), "{text}");
     }
@@ -170,12 +147,49 @@ fn replays_a_trace(rt: HostRuntime) -> Result<(), Fail> {
 }
 
 #[test]
+fn refuses_what_is_no_application_or_no_trace(rt: HostRuntime) -> Result<(), Fail> {
+    let too_long = vec![in rt.alloc(); b'\n'; MAX_FILE + 1]?;
+    let table: [(&[u8], &[u8], &[u8], &str); 7] = [
+        (
+            OTHER_PAGE,
+            OTHER_APP,
+            OTHER_TRACE,
+            "refused script 1 FractionLiteral 30\n",
+        ),
+        (PAGE, OTHER_APP, OTHER_TRACE, "refused app Version\n"),
+        (PAGE, APP, OTHER_TRACE, "refused trace 3\n"),
+        (b"", APP, TRACE, "refused page MissingPart 0\n"),
+        (&too_long, &too_long, TRACE, "refused page TooLong\n"),
+        (b"", &too_long, &too_long, "refused app TooLong\n"),
+        (b"", b"", &too_long, "refused trace TooLong\n"),
+    ];
+    for (page, app, trace, text) in table {
+        let named = [("p", page), ("a", app), ("t", trace)];
+        let (status, put) = run(rt.alloc(), &["replay", "p", "a", "t"], &named, &[])?;
+        assert_eq!(rt; status, Status::BadInput, "{text}");
+        assert!(rt; put.as_slice() == text.as_bytes(), "{text}");
+    }
+    Ok(())
+}
+
+#[test]
+fn serves_the_door_that_it_is_handed(rt: HostRuntime) -> Result<(), Fail> {
+    let named: [(&str, &[u8]); 2] = [("p", PAGE), ("a", APP)];
+    let (status, put) = run(rt.alloc(), &["serve", "p", "a", "nowhere"], &named, &[])?;
+    assert_eq!(rt; status, Status::Read);
+    assert!(rt; put.as_slice() == "end 1 0\n".as_bytes());
+    Ok(())
+}
+
+#[test]
 fn stops_where_the_outside_fails(rt: HostRuntime) -> Result<(), Fail> {
     let named: [(&str, &[u8]); 3] = [("p", PAGE), ("a", APP), ("t", TRACE)];
-    let table: [&[&str]; 3] = [
+    let table: [&[&str]; 5] = [
         &["replay", "none", "a", "t"],
         &["replay", "p", "none", "t"],
         &["replay", "p", "a", "none"],
+        &["serve", "none", "a", "t"],
+        &["serve", "p", "none", "t"],
     ];
     for words in table {
         let (status, put) = run(rt.alloc(), words, &named, &[])?;

@@ -1,16 +1,21 @@
-ghost use Rattle.std.specs.Prelude.{length, map, string_bytes, ◌≡◌};
-ghost use Rattle.rip_cli.specs.Laws.{AcceptedIsRead};
+ghost use Rattle.std.specs.Prelude.{◌≡◌, length, map, string_bytes};
+ghost use Rattle.rip_server.specs.Acts.{seen};
+ghost use Rattle.rip_turn.specs.Turning.{Outer, outer, source};
+ghost use Rattle.rip_cli.specs.Input.{FitsAll};
+ghost use Rattle.rip_cli.specs.Laws.{AcceptedIsDone};
 ghost use Rattle.rip_cli.specs.Lines.{count_line};
-ghost use Rattle.rip_cli.specs.Steps.{Settles, CountsStatus, FitsAll, PutsLine, PutsLineOf, IsLineStatus, refusal_line};
 ghost use Rattle.rip_cli.specs.Run.{Ran};
+ghost use Rattle.rip_cli.specs.Settling.{Counts, Settles, with_sink};
+ghost use Rattle.rip_cli.specs.Steps.{CountsStatus, IsLineStatus, IsServe, PutsLine, PutsLineOf, refusal_line};
+ghost use Rattle.rip_cli.specs.Words.{AskToServe};
 
-use crate::input::{CheckInput, Input, ReadStop, ReplayInput};
+use crate::input::{AppInput, Input, ReadStop, ReplayInput};
 use crate::lines::count_line;
 use crate::refusal::Refusal;
+use crate::serving::{replay, serve_app};
 use crate::status::Status;
-use crate::words::command_of;
+use crate::words::offered;
 use rip_app::App;
-use rip_listed_server::{Stop, courses_are_in_range, serve_trace};
 use rip_outer::{Clock, Door, Files, Sink, SinkError, Words};
 use std::alloc::Global;
 
@@ -32,7 +37,8 @@ fn put_line<S: Sink>(line: &[u8], status: Status, out: &mut S) -> Status
 
 /// Puts the line for a refusal.
 fn refuse<S: Sink>(alloc: Global, refusal: Refusal, out: &mut S) -> Status
-    ensures put { PutsLineOf Status.BadInput result (refusal_line refusal) (S.held out.old) (S.held out.new) }
+    ensures put { PutsLineOf Status.BadInput result (refusal_line refusal)
+        (S.held out.old) (S.held out.new) }
     ensures counted { CountsStatus result (S.count out.old) (S.count out.new) }
 {
     match refusal.line(alloc) {
@@ -43,7 +49,9 @@ fn refuse<S: Sink>(alloc: Global, refusal: Refusal, out: &mut S) -> Status
 
 /// Puts the line that says how many nodes and scripts the application's page has.
 fn put_count<S: Sink>(alloc: Global, app: &App, out: &mut S) -> Status
-    ensures put { PutsLine Status.Read result (count_line (length app.now.page.nodes) (length app.now.program.grove.roots)) (S.held out.old) (S.held out.new) }
+    ensures put { PutsLine Status.Read result
+        (count_line (length app.now.page.nodes) (length app.now.program.grove.roots))
+        (S.held out.old) (S.held out.new) }
     ensures counted { CountsStatus result (S.count out.old) (S.count out.new) }
 {
     match count_line(alloc, app.node_count(), app.program().scripts()) {
@@ -52,59 +60,126 @@ fn put_count<S: Sink>(alloc: Global, app: &App, out: &mut S) -> Status
     }
 }
 
-/// Puts what `check` says of the input, of which no file is too long.
-fn settle_check<S: Sink>(alloc: Global, input: &CheckInput, out: &mut S) -> Status
-    requires { FitsAll (Input.Check input.now) }
-    ensures settles { Settles result (Input.Check input.now) (S.held out.old) (S.held out.new) }
+/// Puts what `check` says of the files, none of which is too long.
+fn settle_check<S: Sink>(alloc: Global, files: &AppInput, out: &mut S) -> Status
+    requires { FitsAll (Input.Check files.now) }
+    ensures settles { (rest : Outer) → Settles result (Input.Check files.now)
+        (with_sink rest (S.held out.old) (S.count out.old))
+        (with_sink rest (S.held out.new) (S.count out.new)) }
     ensures counted { CountsStatus result (S.count out.old) (S.count out.new) }
 {
-    match input.load(alloc) {
+    match files.load(alloc) {
         Ok(app) => put_count(alloc, &app, out),
-        Err(cause) => refuse(alloc, Refusal::Application(cause), out),
+        Err(refusal) => refuse(alloc, refusal, out),
     }
 }
 
-/// Puts the log of the input, of which no file is too long, or the line that says why it is refused.
-fn settle_replay<S: Sink>(alloc: Global, input: &ReplayInput, out: &mut S) -> Status
-    requires { FitsAll (Input.Replay input.now) }
-    ensures settles { Settles result (Input.Replay input.now) (S.held out.old) (S.held out.new) }
+/// Serves the trace of the files, none of which is too long, or puts the line that says why they are refused.
+fn settle_replay<S: Sink>(alloc: Global, files: &ReplayInput, turns: u64, out: &mut S) -> Status
+    requires { FitsAll (Input.Replay files.now turns) }
+    ensures settles { (rest : Outer) → Settles result (Input.Replay files.now turns)
+        (with_sink rest (S.held out.old) (S.count out.old))
+        (with_sink rest (S.held out.new) (S.count out.new)) }
     ensures counted { CountsStatus result (S.count out.old) (S.count out.new) }
 {
-    let calls = match input.load_calls(alloc) {
-        Ok(calls) => calls,
+    let app = match files.app.load(alloc) {
+        Ok(app) => app,
         Err(refusal) => return refuse(alloc, refusal, out),
     };
-    let trace = match input.load_trace(alloc) {
+    let trace = match files.load_trace(alloc) {
         Ok(trace) => trace,
         Err(refusal) => return refuse(alloc, refusal, out),
     };
-    courses_are_in_range();
-    match serve_trace(alloc, calls.made(), trace.batches.as_slice(), out) {
-        Stop::Idle => Status::Read,
-        Stop::Outside => Status::Outside,
-        Stop::Memory => Status::NoMemory,
+    match replay(alloc, &app, &trace, turns, out) {
+        Ok(how) => Status::of_stop(how),
+        Err(_) => Status::NoMemory,
     }
 }
 
-/// Puts the answer to the input, or the line that says why it is refused.
-fn settle<S: Sink>(alloc: Global, input: &Input, out: &mut S) -> Status
-    ensures settles { Settles result input.now (S.held out.old) (S.held out.new) }
-    ensures counted { CountsStatus result (S.count out.old) (S.count out.new) }
+/// Serves at the door the application of the files, none of which is too long, or puts the line that says why they are
+/// refused.
+fn settle_serve<D: Door, C: Clock, W: Words, S: Sink>(
+    alloc: Global,
+    files: &AppInput,
+    turns: u64,
+    door: &mut D,
+    clock: &mut C,
+    random: &mut W,
+    out: &mut S,
+) -> Status
+    requires { FitsAll (Input.Serve files.now turns) }
+    ensures settles { Settles result (Input.Serve files.now turns)
+        (outer (seen (D.sent door.old) (D.knocks door.old) (D.shuts door.old) (D.asked door.old)
+        (S.held out.old)) (source (C.told clock.old) (C.coming clock.old))
+        (source (W.told random.old) (W.coming random.old)) (D.count door.old) (S.count out.old))
+        (outer (seen (D.sent door.new) (D.knocks door.new) (D.shuts door.new) (D.asked door.new)
+        (S.held out.new)) (source (C.told clock.new) (C.coming clock.new))
+        (source (W.told random.new) (W.coming random.new)) (D.count door.new) (S.count out.new)) }
+    ensures counted { Counts result
+        (outer (seen (D.sent door.old) (D.knocks door.old) (D.shuts door.old) (D.asked door.old)
+        (S.held out.old)) (source (C.told clock.old) (C.coming clock.old))
+        (source (W.told random.old) (W.coming random.old)) (D.count door.old) (S.count out.old))
+        (outer (seen (D.sent door.new) (D.knocks door.new) (D.shuts door.new) (D.asked door.new)
+        (S.held out.new)) (source (C.told clock.new) (C.coming clock.new))
+        (source (W.told random.new) (W.coming random.new)) (D.count door.new) (S.count out.new)) }
+{
+    let app = match files.load(alloc) {
+        Ok(app) => app,
+        Err(refusal) => return refuse(alloc, refusal, out),
+    };
+    match serve_app(alloc, &app, turns, door, clock, random, out) {
+        Ok(how) => Status::of_stop(how),
+        Err(_) => Status::NoMemory,
+    }
+}
+
+/// Does what the input asks for, or puts the line that says why it is refused.
+fn settle<D: Door, C: Clock, W: Words, S: Sink>(
+    alloc: Global,
+    input: &Input,
+    door: &mut D,
+    clock: &mut C,
+    random: &mut W,
+    out: &mut S,
+) -> Status
+    ensures settles { Settles result input.now
+        (outer (seen (D.sent door.old) (D.knocks door.old) (D.shuts door.old) (D.asked door.old)
+        (S.held out.old)) (source (C.told clock.old) (C.coming clock.old))
+        (source (W.told random.old) (W.coming random.old)) (D.count door.old) (S.count out.old))
+        (outer (seen (D.sent door.new) (D.knocks door.new) (D.shuts door.new) (D.asked door.new)
+        (S.held out.new)) (source (C.told clock.new) (C.coming clock.new))
+        (source (W.told random.new) (W.coming random.new)) (D.count door.new) (S.count out.new)) }
+    ensures counted { Counts result
+        (outer (seen (D.sent door.old) (D.knocks door.old) (D.shuts door.old) (D.asked door.old)
+        (S.held out.old)) (source (C.told clock.old) (C.coming clock.old))
+        (source (W.told random.old) (W.coming random.old)) (D.count door.old) (S.count out.old))
+        (outer (seen (D.sent door.new) (D.knocks door.new) (D.shuts door.new) (D.asked door.new)
+        (S.held out.new)) (source (C.told clock.new) (C.coming clock.new))
+        (source (W.told random.new) (W.coming random.new)) (D.count door.new) (S.count out.new)) }
+    ensures alone { (¬ IsServe input.now)
+        → (door.new ≡ door.old) × (clock.new ≡ clock.old) × (random.new ≡ random.old) }
 {
     if let Some(file) = input.first_too_long() {
         return refuse(alloc, Refusal::TooLong(file), out);
     }
     match input {
-        Input::Check(input) => settle_check(alloc, input, out),
-        Input::Replay(input) => settle_replay(alloc, input, out),
+        Input::Check(files) => settle_check(alloc, files, out),
+        Input::Replay { files, turns } => settle_replay(alloc, files, *turns, out),
+        Input::Serve { files, turns } => {
+            settle_serve(alloc, files, *turns, door, clock, random, out)
+        }
     }
 }
 
-/// Does what the words say, over these files and this sink.
+/// Does what the words say, over these files, this door, this clock, these random words and this sink.
 ///
-/// The words are `check PAGE APP`: what is put says that the page and the manifest are an application, or why they are
-/// none. Or they are `replay PAGE APP TRACE`: the log of the trace is put, served by an application of this page and this
-/// manifest. The door, the clock and the random words are not used.
+/// | words | what is done | what is put |
+/// |---|---|---|
+/// | `check PAGE APP` | the application is loaded | how many nodes and scripts it has |
+/// | `replay PAGE APP TRACE [--turns=N]` | the trace is served from memory | the log |
+/// | `serve PAGE APP ADDRESS [--turns=N]` | the door is served, whatever the address | the log |
+///
+/// Words other than `serve` leave door, clock and random words as they are.
 pub fn ripley<F: Files, D: Door, C: Clock, W: Words, S: Sink>(
     alloc: Global,
     words: &[String],
@@ -115,23 +190,41 @@ pub fn ripley<F: Files, D: Door, C: Clock, W: Words, S: Sink>(
     out: &mut S,
 ) -> Status
     ensures ran { Ran result (map string_bytes words.now)
-        (record { held = F.held files.old; asked = F.asked files.old; put = S.held out.old; reads_failed = F.count files.old; puts_failed = S.count out.old })
-        (record { held = F.held files.new; asked = F.asked files.new; put = S.held out.new; reads_failed = F.count files.new; puts_failed = S.count out.new }) }
-    ensures door { door.new ≡ door.old }
-    ensures clock { clock.new ≡ clock.old }
-    ensures random { random.new ≡ random.old }
+        (record {
+          held = F.held files.old;
+          asked = F.asked files.old;
+          reads_failed = F.count files.old;
+          outer =
+              outer (seen (D.sent door.old) (D.knocks door.old) (D.shuts door.old)
+              (D.asked door.old) (S.held out.old)) (source (C.told clock.old) (C.coming clock.old))
+              (source (W.told random.old) (W.coming random.old))
+              (D.count door.old) (S.count out.old);
+        })
+        (record {
+          held = F.held files.new;
+          asked = F.asked files.new;
+          reads_failed = F.count files.new;
+          outer =
+              outer (seen (D.sent door.new) (D.knocks door.new) (D.shuts door.new)
+              (D.asked door.new) (S.held out.new)) (source (C.told clock.new) (C.coming clock.new))
+              (source (W.told random.new) (W.coming random.new))
+              (D.count door.new) (S.count out.new);
+        }) }
+    ensures alone { (¬ AskToServe (map string_bytes words.now))
+        → (door.new ≡ door.old) × (clock.new ≡ clock.old) × (random.new ≡ random.old) }
 {
-    let Some(command) = command_of(words) else {
+    let Some(command) = offered(words) else {
         return put_line(USAGE, Status::BadWords, out);
     };
     match Input::read(alloc, files, &command) {
-        Ok(input) => settle(alloc, &input, out),
+        Ok(input) => settle(alloc, &input, door, clock, random, out),
         Err(ReadStop::Failed) => Status::Outside,
         Err(ReadStop::Memory) => Status::NoMemory,
     }
 }
 
-/// `check` of a page and a manifest that are an application ends with status 0, unless a call fails or memory runs out.
-pub fn accepted_files_are_read()
-    ensures { AcceptedIsRead }
+/// A run whose files are an application, and a trace where the words name one, does what the words ask for, up to a call that
+/// fails or want of memory.
+pub fn accepted_files_are_served()
+    ensures { AcceptedIsDone }
 {}

@@ -10,4 +10,5 @@ pub mod Owners
 pub mod Replies
 pub mod Ripley
 pub mod Stays
+pub mod Trees
 pub mod Visit

@@ -14,7 +14,7 @@
 //! | [`EventMember`], [`bubbles`], [`can_be_cancelled`] | `EventMembers` |
 //! | `ripley.call`, `ripley.now`, `ripley.random` | `Answers.called`, `Ripley.ripley_call`, `Ripley.random_call` |
 //! | [`Browser::serve`] | `Replies.call_served`: the call that is next is taken, and its reply waits if it has a callback |
-//! | [`Undelivered`] | contracts see the list of replies; [`Undelivered::due`] and [`Undelivered::take_due`] `Replies.due`, `Replies.without_due` |
+//! | [`Undelivered`] | contracts see the list of replies, of each its tree ([`KeptReply`]); [`Undelivered::due`] and [`Undelivered::take_due`] `Replies.due`, `Replies.without_due` |
 //! | [`Browser::make`] | `Opening.Begins` |
 //! | [`Browser::open_event`], [`Browser::event_at`], [`Browser::stopped`], [`Browser::prevented`] | `Flow.event_opened`, `Flow.reached`, `Flow.is_stopped`, `Flow.is_prevented` |
 //! | the flow of an event as a plan | `Flow.flow`; what is left of one under way, `Flow.flow_left` |
@@ -51,4 +51,4 @@ pub use flow::{begin_flow, next_call};
 pub use form_members::FormMember;
 pub use listening::Handler;
 pub use owner::Owner;
-pub use replies::{Undelivered, WaitingReply};
+pub use replies::{KeptReply, Undelivered, WaitingReply};

@@ -3,6 +3,7 @@ ghost use Rattle.rip_values.specs.declared.value.Value.TheVariants.{Object};
 ghost use Rattle.rip_heap.specs.Growth.{Belongs};
 ghost use Rattle.rip_heap.specs.World.{World};
 ghost use Rattle.rip_calls.specs.Calls.{front_callback, waiting};
+ghost use Rattle.rip_data.specs.Datum.{tree_of};
 ghost use Rattle.rip_host.specs.Replies.{call_served, due, is_due, most_replies, without_due};
 ghost use Rattle.rip_host.specs.Visit.{Fits};
 
@@ -12,6 +13,37 @@ use rip_values::{MOST_REPLIES, NoMemory, Whole};
 use std::alloc::Global;
 use std::marker::Model;
 
+/// A reply as it waits. Contracts see the tree that its datum stands for.
+#[derive(Drop)]
+pub struct KeptReply {
+    datum: Datum,
+}
+
+impl Model for KeptReply {
+    ghost use Rattle.rip_data.specs.Datum.{Tree, tree_of};
+    ghost use Rattle.rip_host.specs.Trees.{tree_code};
+
+    ghost Value = { Tree };
+
+    ghost coded = { tree_code };
+
+    ghost view = { λ r. tree_of r.datum };
+}
+
+impl KeptReply {
+    pub fn new(datum: Datum) -> KeptReply
+        ensures { result ≡ tree_of datum }
+    {
+        KeptReply { datum }
+    }
+
+    pub fn datum(&self) -> &Datum
+        ensures { tree_of result.now ≡ self.now }
+    {
+        &self.datum
+    }
+}
+
 /// The reply to a call that was served and has a callback: the call's number, the batch in which it was served, its
 /// callback, and the moment at which it was served.
 #[derive(Drop)]
@@ -20,7 +52,7 @@ pub struct WaitingReply {
     pub batch: u64,
     pub callback: u32,
     pub time: Whole,
-    pub reply: Datum,
+    pub reply: KeptReply,
 }
 
 /// The replies that are not delivered, in the order of their calls. The room for all is taken at once.
@@ -32,12 +64,12 @@ pub struct Undelivered {
 impl Model for Undelivered {
     ghost use Rattle.std.specs.Prelude.{◌≤◌, List, length, vec_capacity};
     ghost use Rattle.std.specs.Coded.{codes};
-    ghost use Rattle.rip_data.specs.contracts.datum.Datum as datum;
+    ghost use Rattle.rip_host.specs.Trees.{tree_code};
     ghost use Rattle.rip_host.specs.declared.replies.WaitingReply.{WaitingReply};
 
     ghost Value = { List WaitingReply };
 
-    ghost coded = { Prim.hlevel (codes, datum.the_row.coded) };
+    ghost coded = { Prim.hlevel (codes, tree_code) };
 
     ghost view = { λ u. u.replies.items };
 
@@ -112,7 +144,7 @@ impl Browser {
         requires waits { waiting self.old.calls ≢ [] }
         requires room { front_callback self.old.calls ≢ None → length self.old.undelivered < most_replies }
         requires number { self.old.calls.taken + 1 < 2 ^ 64 }
-        ensures served { self.new ≡ call_served self.old batch time reply }
+        ensures served { self.new ≡ call_served self.old batch time (tree_of reply) }
         ensures fits { (w : World) → Fits self.old w → Fits self.new w }
     {
         let callback = self.calls.front_callback();
@@ -124,7 +156,7 @@ impl Browser {
                 batch,
                 callback,
                 time,
-                reply,
+                reply: KeptReply::new(reply),
             }),
             None => {}
         }

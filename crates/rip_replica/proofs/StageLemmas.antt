@@ -49,7 +49,7 @@ le_false a b less = grind (arith, less)
 -- THE NEXT PART
 
 -- the next part, if there is one, is of this batch
-HeadsBatch : ℕ → List Part → Type 0
+unfoldable pub HeadsBatch : ℕ → List Part → Type 0
 HeadsBatch batch [] = Unit {0}
 HeadsBatch batch (p ∷ ps) = p.batch ≡ batch
 
@@ -70,7 +70,7 @@ unfolding HeadsBatch
 items_head d batch all n cost [] gs w s next = refl
 items_head d batch all n cost (a ∷ items) gs w s next = after_heads d batch all n cost a (whole_item d batch a n w s (first_given gs)) _
 
-left_heads : {M A S : Type 0} (e : Evaluation M S) (d : Doing A S) (batch : ℕ) (next : Behind S) (at : Spot M A S) (place : Place) (base spent : ℕ) (ahead : Ahead) → Left e d batch next at place base spent ahead
+pub left_heads : {M A S : Type 0} (e : Evaluation M S) (d : Doing A S) (batch : ℕ) (next : Behind S) (at : Spot M A S) (place : Place) (base spent : ℕ) (ahead : Ahead) → Left e d batch next at place base spent ahead
     → (bs : List Contents) (gs : List Given) → HeadsBatch batch (ahead bs gs)
 left_heads e d batch next at First base spent ahead left bs gs =
     let H : List Part → Type 0 = λ ps. HeadsBatch batch ps in
@@ -166,7 +166,7 @@ spent_append b (p ∷ ps) qs base = spent_append b ps qs (if p.batch == b then p
 -- A STAGE
 
 -- what has come at a stage where so much is behind and this is ahead
-parts_of_stage : {A S : Type 0} (doing : ℕ → ℕ → Doing A S) (st : Stage) (number : ℕ) (earlier rest : List Part) → st.lacking ≡ None
+pub parts_of_stage : {A S : Type 0} (doing : ℕ → ℕ → Doing A S) (st : Stage) (number : ℕ) (earlier rest : List Part) → st.lacking ≡ None
     → session_parts (doing st.seed st.time) (st.batches ++ []) (st.given ++ []) ≡ earlier ++ rest
     → AreBehind (length st.batches) number st.units earlier → HeadsBatch (length st.batches) rest → CostsMore st.units rest → parts_at (meaning_of doing) st ≡ earlier
 parts_of_stage doing st number earlier rest none whole behind heads above =

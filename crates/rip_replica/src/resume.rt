@@ -60,6 +60,7 @@ impl<E, I, T, H> Replica<E, I, T, H> {
         requires { H.fits self.old.host self.old.heap }
         ensures fits { H.fits self.new.host self.new.heap }
         ensures grows { Grows self.old.heap self.new.heap }
+        ensures number { self.new.number ≡ self.old.number }
         ensures slice { SlicedSo (E.evaluation program.now) I.fact I.served I.ending I.may_serve self.old.number
             (spot I.item_plan I.under_way self.old) (spot I.item_plan I.under_way self.new)
             slice.now.units slice.now made.old made.new result (V.replies_as service.old) (V.replies_as service.new) }
@@ -90,6 +91,7 @@ impl<E, I, T, H> Replica<E, I, T, H> {
         requires { H.fits self.old.host self.old.heap }
         ensures fits { H.fits self.new.host self.new.heap }
         ensures grows { Grows self.old.heap self.new.heap }
+        ensures number { self.new.number ≡ self.old.number }
         ensures slice { SlicedSo (E.evaluation program.now) I.fact I.served I.ending I.may_serve self.old.number
             (spot I.item_plan I.under_way self.old) (spot I.item_plan I.under_way self.new)
             slice.now.units slice.now made.old made.new result (V.replies_as service.old) (V.replies_as service.new) }
@@ -182,6 +184,7 @@ impl<E, I, T, H> Replica<E, I, T, H> {
         ensures ends { (result ≡ Progress.Finished (Some (I.ending self.old.runner.planner.batch.items close self.old.host)))
             ⊎ (result ≡ Progress.Finished (Some (Ends.Memory self.old.runner.planner.begun))) }
         ensures kept { (self.new.runner ≡ self.old.runner) × (self.new.heap ≡ self.old.heap) × (self.new.host ≡ self.old.host) }
+        ensures number { self.new.number ≡ self.old.number }
     {
         let planner = &self.runner.planner;
         match I::ending(alloc, &planner.batch, close, &self.host) {
@@ -194,6 +197,7 @@ impl<E, I, T, H> Replica<E, I, T, H> {
     fn lack(&mut self) -> Progress
         ensures lacks { result ≡ Progress.Finished (Some (Ends.Memory self.old.runner.planner.begun)) }
         ensures kept { (self.new.runner ≡ self.old.runner) × (self.new.heap ≡ self.old.heap) × (self.new.host ≡ self.old.host) }
+        ensures number { self.new.number ≡ self.old.number }
     {
         self.place = Place::Idle;
         Progress::Finished(Some(Ending::Memory {

@@ -1,7 +1,7 @@
-mod ActLemmas
-mod LinkLemmas
-mod OwedLemmas
-mod PieceLemmas
-mod PlaceLemmas
-mod PutLemmas
-mod SendLemmas
+pub mod ActLemmas
+pub mod LinkLemmas
+pub mod OwedLemmas
+pub mod PieceLemmas
+pub mod PlaceLemmas
+pub mod PutLemmas
+pub mod SendLemmas

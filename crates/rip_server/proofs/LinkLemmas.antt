@@ -60,7 +60,7 @@ all-without P Q n f (c ∷ cs) all = by_test (eqb c.number n) refl (all-without 
     by_test true is rest = rest
     by_test false is rest = (f c.number (eqb-false c.number n is) all.0, rest)
 
-rising-without : (n high : ℕ) (cs : List Link) → AreRising cs high → AreRising (without n cs) high
+pub rising-without : (n high : ℕ) (cs : List Link) → AreRising cs high → AreRising (without n cs) high
 rising-without n high [] rising = tt
 rising-without n high (c ∷ cs) rising = by_test (eqb c.number n) refl (rising-without n high cs rising.2)
   where
@@ -122,7 +122,7 @@ changed-above n f (c ∷ cs) above =
     ap (λ (b : Bool). cond b (f c) c ∷ changed n f cs) other ∙ ap (λ (t : List Link). c ∷ t) (changed-above n f cs above.1)
 
 -- a change at the place of a connection is one of its number
-set-changed : (cs : List Link) (high place : ℕ) (d : Link) (f : Link → Link) → AreRising cs high → slice_get cs place ≡ Some d
+pub set-changed : (cs : List Link) (high place : ℕ) (d : Link) (f : Link → Link) → AreRising cs high → slice_get cs place ≡ Some d
     → slice_set cs place (f d) ≡ changed d.number f cs
 set-changed [] high place d f rising e = cc
 set-changed (c ∷ cs) high zero d f rising e =
@@ -137,7 +137,7 @@ set-changed (c ∷ cs) high (suc place) d f rising e =
     ap (λ (t : List Link). c ∷ t) (set-changed cs high place d f rising.2 e)
     ∙ sym (ap (λ (b : Bool). cond b (f c) c ∷ changed d.number f cs) other)
 
-there-set : (cs : List Connection) (place : ℕ) (d : Connection) → there_of (slice_set cs place d) ≡ slice_set (there_of cs) place (link_of d)
+pub there-set : (cs : List Connection) (place : ℕ) (d : Connection) → there_of (slice_set cs place d) ≡ slice_set (there_of cs) place (link_of d)
 there-set [] zero d = refl
 there-set [] (suc place) d = refl
 there-set (c ∷ cs) zero d = refl

@@ -25,7 +25,7 @@ all-changed : (P : ℕ → Type 0) (n : ℕ) (f : Link → Link) → ((c : Link)
 all-changed P n f keeps [] all = tt
 all-changed P n f keeps (c ∷ cs) all = (subst P (sym (kept n f keeps c (eqb c.number n))) all.0, all-changed P n f keeps cs all.1)
 
-rising-changed : (n high : ℕ) (f : Link → Link) → ((c : Link) → (f c).number ≡ c.number) → (cs : List Link) → AreRising cs high → AreRising (changed n f cs) high
+pub rising-changed : (n high : ℕ) (f : Link → Link) → ((c : Link) → (f c).number ≡ c.number) → (cs : List Link) → AreRising cs high → AreRising (changed n f cs) high
 rising-changed n high f keeps [] rising = tt
 rising-changed n high f keeps (c ∷ cs) rising = (
   subst (λ (m : ℕ). m < high) (sym (kept n f keeps c (eqb c.number n))) rising.0,

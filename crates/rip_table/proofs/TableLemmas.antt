@@ -1,11 +1,12 @@
 -- Where an identifier stands, and what a table keeps when a session ends.
-use Rattle.std.proofs.Common.{◌≡◌, ◌+◌, ◌-◌, ◌≤◌, ℕ, zero, suc, Bool, true, false, not, cond, nat_lt, List, [], ◌∷◌, length, position, slice_get, slice_set, count_by, Option, Some, None, IsSome, option_and_then, unwrap_or, refl, sym, ◌∙◌, subst, arith}
+use Rattle.std.proofs.Common.{◌≡◌, ◌+◌, ◌-◌, ◌≤◌, ℕ, zero, suc, Bool, true, false, not, cond, eqb, nat_lt, List, [], ◌∷◌, length, position, slice_get, slice_set, count_by, Option, Some, None, IsSome, option_and_then, unwrap_or, refl, sym, ◌∙◌, subst, arith}
 use Rattle.std.specs.List.{position_or_len}
 use Rattle.std.specs.Vec.{with_item}
+use Rattle.std.proofs.lemmas.Bool.{eqb-false}
 use Rattle.std.proofs.lemmas.List.Sums.{sum_by-cons}
 use Rattle.std.proofs.Math.ListN.{length-set}
 use Rattle.rip_table.specs.declared.table.Table.{Table}
-use Rattle.rip_table.specs.Table.{IsTable, is_live_at, live_value, ended, place_of, with_value}
+use Rattle.rip_table.specs.Table.{IsTable, at_ordinal, is_live_at, live_value, ended, place_of, with_value}
 
 -- the place that was found is that of the first
 pub position_is : {X : Type 0} (p : X → Bool) (xs : List X) (place : ℕ) → Some place ≡ position p xs → position_or_len p xs ≡ place
@@ -19,6 +20,17 @@ position_is p xs place found = by (nat_lt (position_or_len p xs) (length xs)) (p
 pub live_here : {X : Type 0} (b : Bool) (o : Option X) → IsSome (cond b o None) → b ≡ true
 live_here true o some = refl
 live_here false o some = absurd (cc)
+
+-- what stands at an ordinal stands at the place before it
+some-past : {X : Type 0} (b : Bool) (o : Option X) → IsSome (cond b None o) → (b ≡ false) × IsSome o
+some-past true o some = absurd (cc)
+some-past false o some = (refl, some)
+
+pub some_ordinal : {X : Type 0} (f : ℕ → Option X) (n : ℕ) → IsSome (at_ordinal f n) → (1 ≤ n) × IsSome (f (n - 1))
+some_ordinal f n some =
+    let past = some-past (eqb n 0) (f (n - 1)) some in
+    let ne : n ≡ 0 → ⊥ = eqb-false n 0 past.0 in
+    (omega (arith, ne), past.1)
 
 -- what a session counts among the live ones
 abbrev counted : Bool → ℕ

@@ -7,10 +7,10 @@
 //! |---|---|
 //! | [`Table`] | `Table.ids`, `Table.values`, `Table.ended`: three lists of one length; `Table.IsTable` is what each keeps |
 //! | [`Table::insert`] | `Table.Opens`; refused as [`InsertRefused`] says, in that order, and the value comes back |
-//! | [`Table::get`], [`Table::at`] | `Table.live_session`, `Table.live_value` |
+//! | [`Table::get`], [`Table::at`], [`Table::any_at`] | `Table.live_session`, `Table.live_value`, `Table.values` |
 //! | [`Table::get_mut`], [`Table::at_mut`] | the same, and `Lending.LendsSession`, `Lending.LendsPlace` |
 //! | [`Table::any`], [`Table::ordinal`], [`Table::id`] | `Table.any_session`, `Table.place_of`, `Table.at_ordinal` |
-//! | [`Table::end`] | `Table.Ends` |
+//! | [`Table::end`], [`Table::end_at`] | `Table.Ends` |
 //!
 //! A layer above may rest on this: no ordinal and no identifier is used twice; a refused session changes nothing; no
 //! call but `insert` takes memory, and none takes longer where there are more sessions, but for the copy when a list

@@ -1,4 +1,4 @@
-ghost use Rattle.std.specs.Prelude.{◌≡◌, ◌↔◌, ◌+◌, ◌-◌, ◌<◌, ◌≤◌, [], ◌∷◌, ◌++◌, false, length, IsSome, IfOk, IfErr, OnOk, OnErr, option_map, slice_get, nat_eq, vec_len, vec_capacity};
+ghost use Rattle.std.specs.Prelude.{◌≡◌, ◌↔◌, ◌+◌, ◌-◌, ◌<◌, ◌≤◌, [], ◌∷◌, ◌++◌, true, false, length, IsSome, IfOk, IfErr, OnOk, OnErr, option_map, slice_get, nat_eq, vec_len, vec_capacity};
 ghost use Rattle.std.specs.HashSet.{IsUnique, contains};
 ghost use Rattle.std.specs.Option.{option_copied, option_copied_mut};
 ghost use Rattle.std.specs.List.{position_or_len};
@@ -23,7 +23,7 @@ pub struct Table<T> {
 }
 
 impl<T: Drop> Table<T> {
-    ghost use Rattle.rip_table.specs.Table.{IsTable, ids, most_live, live_count, place_of, at_ordinal, is_live_at, live_value, any_session, live_session, Opens, Ends, IsSame, value_of};
+    ghost use Rattle.rip_table.specs.Table.{IsTable, ids, values, most_live, live_count, place_of, at_ordinal, is_live_at, live_value, any_session, live_session, Opens, Ends, IsSame, value_of};
     ghost use Rattle.rip_table.specs.Lending.{LendsPlace, LendsSession};
 
     /// A table in which so many sessions may be live.
@@ -80,6 +80,14 @@ impl<T: Drop> Table<T> {
         ensures { option_copied result ≡ any_session self.now id }
     {
         let place = self.ids.get_index_of(&id)?;
+        self.values.get(place)
+    }
+
+    /// The value of a session, live or ended.
+    pub fn any_at(&self, ordinal: u32) -> Option<&T>
+        ensures { option_copied result ≡ at_ordinal (slice_get (values self.now)) ordinal }
+    {
+        let place = (ordinal as usize).checked_sub(1)?;
         self.values.get(place)
     }
 
@@ -187,9 +195,28 @@ impl<T: Drop> Table<T> {
         ensures ends { Ends self.old self.new (position_or_len (nat_eq id) (ids self.old)) }
     {
         if let Some(place) = self.ids.get_index_of(&id) {
-            self.ended[place] = true;
-            self.live -= 1;
+            self.end_place(place);
         }
+    }
+
+    /// Ends a live session, by its ordinal. Its value stays.
+    pub fn end_at(&mut self, ordinal: u32)
+        requires table { IsTable self.old }
+        requires live { IsSome (at_ordinal (live_value self.old) ordinal) }
+        ensures table { IsTable self.new }
+        ensures ends { Ends self.old self.new (ordinal - 1) }
+    {
+        self.end_place(ordinal as usize - 1);
+    }
+
+    fn end_place(&mut self, place: usize)
+        requires table { IsTable self.old }
+        requires live { is_live_at self.old place ≡ true }
+        ensures table { IsTable self.new }
+        ensures ends { Ends self.old self.new place }
+    {
+        self.ended[place] = true;
+        self.live -= 1;
     }
 }
 

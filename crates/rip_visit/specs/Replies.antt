@@ -3,7 +3,6 @@
 use Rattle.std.specs.Prelude.{ℕ, Option, None, Some, Ok, Err}
 use Rattle.rip_values.specs.declared.value.Value.{Value}
 use Rattle.rip_heap.specs.World.{World}
-use Rattle.rip_data.specs.Datum.{tree_of}
 use Rattle.rip_convert.specs.Values.{Made, made_value}
 use Rattle.rip_host.specs.declared.browser.Browser.{Browser}
 use Rattle.rip_host.specs.declared.replies.WaitingReply.{WaitingReply}
@@ -29,7 +28,7 @@ handed callback (Err limit, w) s = ReplyPasses limit w s
 
 abbrev pub delivery : Option WaitingReply → Browser → World → ℕ → ℕ → Delivered Browser
 delivery None s w batch number = NotDue
-delivery (Some r) s w batch number = handed r.callback (made_value (tree_of r.reply) w) (taken_out number batch r s)
+delivery (Some r) s w batch number = handed r.callback (made_value r.reply w) (taken_out number batch r s)
 
 -- the delivery of the reply to the call of this number, in this batch
 abbrev pub delivered : Browser → World → ℕ → ℕ → Delivered Browser

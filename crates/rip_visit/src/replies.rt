@@ -54,7 +54,7 @@ pub(crate) fn deliver(
         None => return Err(ReplyRefused::NotDue),
         Some(waiting) => (
             waiting.callback,
-            value_of_datum(alloc, heap, &waiting.reply),
+            value_of_datum(alloc, heap, waiting.reply.datum()),
         ),
     };
     match made {

@@ -1,9 +1,10 @@
-//! The program `ripley`: the words of the command line, real files and standard output, handed to the top call.
+//! The program `ripley`: the words of the command line, real files, standard output, and, where the words ask to serve, a
+//! TCP door, handed to the top call.
 #![tactic(auto)]
 
 use rip_cli::{Status, ripley};
-use rip_outer::{NoClock, NoDoor, NoWords};
-use rip_real::{HostFiles, HostSink};
+use rip_real::{HostFiles, HostSink, RealOutside, real_outside};
+use rip_words::{Command, command_of};
 use std::alloc::Global;
 use std::process::ExitCode;
 use std::rt::Env;
@@ -18,6 +19,14 @@ fn words(rt: &(impl Env + AllocGlobal), alloc: Global) -> io::Result<Vec<String>
     Ok(words)
 }
 
+/// The address at which the words ask to serve.
+fn address(words: &[String]) -> Option<&str> {
+    match command_of(words)? {
+        Command::Serve { address, .. } => Some(address),
+        _ => None,
+    }
+}
+
 /// Words that are no text are answered as other words are; want of memory for them ends the run.
 fn main(rt: HostRuntime) -> ExitCode {
     let alloc = rt.alloc();
@@ -30,13 +39,18 @@ fn main(rt: HostRuntime) -> ExitCode {
     };
     let mut files = HostFiles::new(&rt);
     let mut sink = HostSink::new(io::writer(&rt));
+    let RealOutside {
+        mut door,
+        mut clock,
+        words: mut random,
+    } = real_outside(&rt, alloc, address(words.as_slice()));
     let status = ripley(
         alloc,
         words.as_slice(),
         &mut files,
-        &mut NoDoor,
-        &mut NoClock,
-        &mut NoWords,
+        &mut door,
+        &mut clock,
+        &mut random,
         &mut sink,
     );
     ExitCode::from(status as u8)

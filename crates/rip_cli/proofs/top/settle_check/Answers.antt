@@ -1,12 +1,13 @@
 use Rattle.rip_cli.specs.declared.input.Input.TheVariants.{Check}
-use Rattle.rip_cli.specs.declared.refusal.Refusal.TheVariants.{Application}
+use Rattle.rip_cli.proofs.FileLemmas.{app_cause}
 use Rattle.rip_cli.proofs.SettleLemmas.{count_settles, refusal_settles}
 use Rattle.rip_cli.proofs.top.settle_check.Goals as goal
 
 pub returns-in-Ok-clause-settles : goal.returns-in-Ok-clause-settles
-returns-in-Ok-clause-settles g c =
-    count_settles c.put_count.result c.args.input.now c.in-Ok.app _ _ c.requires c.in-Ok.ensures.loaded c.put_count.ensures.put
+returns-in-Ok-clause-settles g c = λ rest.
+    count_settles c.args.files.now rest _ _ _ _ c.put_count.result c.in-Ok.app c.requires c.in-Ok.ensures.loaded c.put_count.ensures.put c.put_count.ensures.counted
 
 pub returns-in-Err-clause-settles : goal.returns-in-Err-clause-settles
-returns-in-Err-clause-settles g c =
-    refusal_settles c.refuse.result (Check c.args.input.now) (Application c.in-Err.cause) _ _ (c.requires, c.in-Err.ensures.refused) c.refuse.ensures.put
+returns-in-Err-clause-settles g c = λ rest.
+    refusal_settles (Check c.args.files.now) rest _ _ _ _ c.refuse.result c.in-Err.refusal
+    (app_cause (Check c.args.files.now) c.in-Err.refusal c.requires c.in-Err.ensures.refused) c.refuse.ensures.put c.refuse.ensures.counted

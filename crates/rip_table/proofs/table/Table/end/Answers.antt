@@ -1,13 +1,16 @@
--- One live session less.
-use Rattle.rip_table.proofs.TableLemmas.{live_at_place, some_live, ended_table}
+-- The session stands at the place that was found.
+use Rattle.std.proofs.Common.{nat_eq, sym, subst}
+use Rattle.rip_table.specs.Table.{ids, Ends}
+use Rattle.rip_table.proofs.TableLemmas.{position_is, live_at_place}
 use Rattle.rip_table.proofs.table.Table.end.Goals as goal
 
-pub overflow_sub-self : goal.overflow_sub-self
-overflow_sub-self g c =
-    some_live c.args.self.now c.in-Some.place c.requires.table
-    (live_at_place c.args.self.now c.args.id c.in-Some.place c.in-Some.ensures.index c.requires.live)
+pub end_place-requires : goal.end_place-requires
+end_place-requires g c = record {
+  table = c.requires.table;
+  live = live_at_place c.args.self.now c.args.id c.in-Some.place c.in-Some.ensures.index c.requires.live;
+}
 
-pub returns-in-Some-clause-table : goal.returns-in-Some-clause-table
-returns-in-Some-clause-table g c =
-    ended_table c.args.self.now c.in-Some.place c.requires.table
-    (live_at_place c.args.self.now c.args.id c.in-Some.place c.in-Some.ensures.index c.requires.live)
+pub returns-in-Some-clause-ends : goal.returns-in-Some-clause-ends
+returns-in-Some-clause-ends g c =
+    subst (λ place. Ends c.args.self.now c.end_place.new.self place)
+    (sym (position_is (nat_eq c.args.id) (ids c.args.self.now) c.in-Some.place c.in-Some.ensures.index)) c.end_place.ensures.ends

@@ -1,0 +1,123 @@
+-- What files that are not too long say of the application and the trace.
+use Rattle.std.proofs.Common.{◌≡◌, ◌∷◌, ℕ, List, [], Option, Some, None, codes, length, refl, inl, inr}
+use Rattle.rip_app.specs.App.{Loaded, AppOf, IsAppRefusal}
+use Rattle.rip_app.specs.declared.refusal.AppRefusal.{AppRefusal}
+use Rattle.rip_trace.specs.Traces.{Given, IsTrace, IsRefusedAt}
+use Rattle.rip_cli.specs.Content.{content_bytes}
+use Rattle.rip_cli.specs.Lines.{app_line, trace_line}
+use Rattle.rip_cli.specs.Input.{IsApp, HasTrace, Refuses, RefusesApp, RefusesTrace, FitsAll, app_files, first_too_long}
+use Rattle.rip_cli.specs.Steps.{IsAppCause, IsTraceCause, IsRefusedBy, app_input, file_word, refusal_line}
+use Rattle.rip_cli.specs.declared.input.Content.{Content}
+use Rattle.rip_cli.specs.declared.input.Content.TheVariants.{Bytes, TooLong}
+use Rattle.rip_cli.specs.declared.input.AppInput.{AppInput}
+use Rattle.rip_cli.specs.declared.input.ReplayInput.{ReplayInput}
+use Rattle.rip_cli.specs.declared.input.Input.{Input}
+use Rattle.rip_cli.specs.declared.input.Input.TheVariants.{Check, Replay, Serve}
+use Rattle.rip_cli.specs.declared.refusal.Refusal.{Refusal}
+use Rattle.rip_cli.specs.declared.refusal.Refusal.TheVariants as refusal
+
+-- the contents of files that are not too long
+page_fits : (page manifest : Content) → first_too_long ((codes "page", page) ∷ (codes "app", manifest) ∷ []) ≡ None → page ≡ Bytes (content_bytes page)
+page_fits (Bytes content) manifest fits = refl
+page_fits TooLong manifest fits = cc
+
+manifest_fits : (page manifest : Content) → first_too_long ((codes "page", page) ∷ (codes "app", manifest) ∷ []) ≡ None → manifest ≡ Bytes (content_bytes manifest)
+manifest_fits (Bytes content) (Bytes more) fits = refl
+manifest_fits (Bytes content) TooLong fits = cc
+manifest_fits TooLong manifest fits = cc
+
+front_fits : (page manifest trace : Content) → first_too_long ((codes "page", page) ∷ (codes "app", manifest) ∷ (codes "trace", trace) ∷ []) ≡ None
+    → first_too_long ((codes "page", page) ∷ (codes "app", manifest) ∷ []) ≡ None
+front_fits (Bytes content) (Bytes more) trace fits = refl
+front_fits (Bytes content) TooLong trace fits = cc
+front_fits TooLong manifest trace fits = cc
+
+last_fits : (page manifest trace : Content) → first_too_long ((codes "page", page) ∷ (codes "app", manifest) ∷ (codes "trace", trace) ∷ []) ≡ None
+    → trace ≡ Bytes (content_bytes trace)
+last_fits (Bytes content) (Bytes more) (Bytes last) fits = refl
+last_fits (Bytes content) (Bytes more) TooLong fits = cc
+last_fits (Bytes content) TooLong trace fits = cc
+last_fits TooLong manifest trace fits = cc
+
+-- page and manifest of input that is not too long
+app_fits : (i : Input) → FitsAll i → first_too_long (app_files (app_input i)) ≡ None
+app_fits (Check i) fits = fits
+app_fits (Replay i turns) fits = front_fits i.app.page i.app.manifest i.trace fits
+app_fits (Serve i turns) fits = fits
+
+-- they are the application that was loaded
+pub is_app : (i : Input) (app : Loaded) → FitsAll i
+    → AppOf (content_bytes (app_input i).page) (content_bytes (app_input i).manifest) app → IsApp (app_input i) app
+is_app i app fits application =
+    let files = app_input i in
+    record {
+      page = content_bytes files.page;
+      manifest = content_bytes files.manifest;
+      is_page = page_fits files.page files.manifest (app_fits i fits);
+      is_manifest = manifest_fits files.page files.manifest (app_fits i fits);
+      application = application;
+    }
+
+-- or are refused
+refuses_app : (i : Input) (cause : AppRefusal) (line : List ℕ) → FitsAll i
+    → IsAppRefusal (content_bytes (app_input i).page) (content_bytes (app_input i).manifest) cause → app_line cause ≡ Some line
+    → RefusesApp (app_input i) line
+refuses_app i cause line fits refused text =
+    let files = app_input i in
+    record {
+      page = content_bytes files.page;
+      manifest = content_bytes files.manifest;
+      is_page = page_fits files.page files.manifest (app_fits i fits);
+      is_manifest = manifest_fits files.page files.manifest (app_fits i fits);
+      refusal = cause;
+      refused = refused;
+      text = text;
+    }
+
+-- the trace that was read
+pub has_trace : (i : ReplayInput) (turns : ℕ) (given : Given) → FitsAll (Replay i turns) → IsTrace (content_bytes i.trace) given → HasTrace i given
+has_trace i turns given fits gives =
+    record { trace = content_bytes i.trace; is_trace = last_fits i.app.page i.app.manifest i.trace fits; gives = gives }
+
+same_line : (line other : List ℕ) → Some line ≡ Some other → other ≡ line
+same_line line other e = cc
+
+app_refuses : (i : Input) (line : List ℕ) → FitsAll i → RefusesApp (app_input i) line → Refuses i line
+app_refuses (Check i) line fits refused = inr (fits, refused)
+app_refuses (Replay i turns) line fits refused = inr (fits, inl refused)
+app_refuses (Serve i turns) line fits refused = inr (fits, refused)
+
+-- the cause of a refusal refuses the input by its line
+pub refuses_by : (i : Input) (r : Refusal) (line : List ℕ) → IsRefusedBy i r → refusal_line r ≡ Some line → Refuses i line
+refuses_by i (refusal.TooLong file) line cause e = inl (file_word file, cause, same_line _ line e)
+refuses_by i (refusal.Application cause) line because e = app_refuses i line because.0 (refuses_app i cause line because.0 because.1 e)
+refuses_by (Check i) (refusal.Trace number) line cause e = absurd cause
+refuses_by (Serve i turns) (refusal.Trace number) line cause e = absurd cause
+refuses_by (Replay i turns) (refusal.Trace number) line because e = inr (
+  because.0,
+  inr (record {
+    app = because.1.0;
+    is_app = because.1.1;
+    trace = content_bytes i.trace;
+    is_trace = last_fits i.app.page i.app.manifest i.trace because.0;
+    number = number;
+    refused = because.2;
+    text = same_line _ line e;
+  }),
+)
+refuses_by i refusal.Memory line cause e = cc
+
+-- why the application is refused is why the input is
+pub app_cause : (i : Input) (r : Refusal) → FitsAll i → IsAppCause (app_input i) r → IsRefusedBy i r
+app_cause i (refusal.TooLong file) fits cause = absurd cause
+app_cause i (refusal.Application cause') fits cause = (fits, cause)
+app_cause i (refusal.Trace line) fits cause = absurd cause
+app_cause i refusal.Memory fits cause = tt
+
+-- and why the trace is, where there is an application
+pub trace_cause : (i : ReplayInput) (turns : ℕ) (app : Loaded) (r : Refusal) → FitsAll (Replay i turns) → IsApp i.app app → IsTraceCause i r
+    → IsRefusedBy (Replay i turns) r
+trace_cause i turns app (refusal.TooLong file) fits is cause = absurd cause
+trace_cause i turns app (refusal.Application cause') fits is cause = absurd cause
+trace_cause i turns app (refusal.Trace line) fits is cause = (fits, (app, is), cause)
+trace_cause i turns app refusal.Memory fits is cause = tt

@@ -1,5 +1,0 @@
-use Rattle.rip_cli.proofs.Accepting.{accepted_is_read}
-use Rattle.rip_cli.proofs.top.accepted_files_are_read.Goals as goal
-
-pub returns : goal.returns
-returns c = accepted_is_read

@@ -1,0 +1,101 @@
+-- What is done for input that is accepted: an application is checked, or served, to a trace or at a door.
+use Rattle.std.specs.Prelude.{◌≡◌, ◌⊎◌, ℕ, List, [], Option, Some, None}
+use Rattle.rip_outer.specs.Moments.{new_clock, moment_at, new_words, word_at}
+use Rattle.rip_outer.specs.Outside.{Front, also}
+use Rattle.rip_app.specs.App.{Loaded}
+use Rattle.rip_trace.specs.Traces.{Given}
+use Rattle.rip_course.specs.Run.{Site}
+use Rattle.rip_course.specs.Services.{service_of}
+use Rattle.rip_server.specs.Acts.{seen}
+use Rattle.rip_turn.specs.Turning.{Outer, outer, source, site_of}
+use Rattle.rip_serve.specs.Serving.{Serves}
+use Rattle.rip_serve.specs.Legal.{IsLegal}
+use Rattle.rip_serve.specs.declared.serving.Stop.{Stop}
+use Rattle.rip_serve.specs.declared.serving.Stop.TheVariants as stop
+use Rattle.rip_session.specs.Application.{meaning_of_app}
+use Rattle.rip_cli.specs.Input.{IsApp, HasTrace, IsCount}
+use Rattle.rip_cli.specs.declared.input.AppInput.{AppInput}
+use Rattle.rip_cli.specs.declared.input.ReplayInput.{ReplayInput}
+use Rattle.rip_cli.specs.declared.input.Input.{Input}
+use Rattle.rip_cli.specs.declared.input.Input.TheVariants.{Check, Replay, Serve}
+use Rattle.rip_cli.specs.declared.status.Status.{Status}
+use Rattle.rip_cli.specs.declared.status.Status.TheVariants.{Read, BadWords, BadInput, TurnsSpent, Outside, NoMemory}
+
+-- ---- serving
+
+-- what is served of an application: its sessions do what its scripts do, its functions reply, and so many may live as its
+-- limits say
+abbrev pub site_of_app : Loaded → Site
+site_of_app app = site_of (meaning_of_app app) (service_of app.manifest.functions) app.manifest.limits.sessions app.bytes
+
+-- it is served within so many turns, and what is put is the log of a legal course, or a front of one
+pub record ServesApp (app : Loaded) (most : ℕ) (how : Stop) (old new : Outer) : Type 0 where
+  pub serves : Serves (site_of_app app) most how old new
+  pub legal : IsLegal (site_of_app app) most how old new
+
+-- how serving stops with a status
+abbrev pub IsStop : Status → Stop → Type 0
+IsStop Read how = how ≡ stop.Idle
+IsStop BadWords how = ⊥
+IsStop BadInput how = ⊥
+IsStop TurnsSpent how = how ≡ stop.TurnsSpent
+IsStop Outside how = how ≡ stop.Outside
+IsStop NoMemory how = how ≡ stop.Memory
+
+-- ---- serve
+
+-- the application of the files was served at the door that was handed in
+pub record ServesDoor (i : AppInput) (most : ℕ) (status : Status) (old new : Outer) : Type 0 where
+  pub app : Loaded
+  pub is_app : IsApp i app
+  pub how : Stop
+  pub stops : IsStop status how
+  pub served : ServesApp app most how old new
+
+-- ---- replay
+
+-- what a trace brings to a sink that holds this: its knocks come at a door that tells what is left, and never fails; its moments
+-- and words come in turn; the last moment stands, and behind the last word j comes j
+abbrev pub brought : Given → Option (List ℕ) → ℕ → Outer
+brought given held faults =
+    outer (seen (λ c. None) (record { told = None; left = Some given.knocks }) None None held)
+    (source None (λ j. Some (moment_at (new_clock given.moments) j)))
+    (source None (λ j. Some (word_at (new_words given.words) j)))
+    0 faults
+
+-- the application was served to what the trace brings; of all that only the sink is seen, and how often it failed
+pub record Replayed (app : Loaded) (given : Given) (most : ℕ) (how : Stop) (held held_new : Option (List ℕ)) (faults faults_new : ℕ) : Type 0 where
+  pub end : Outer
+  pub served : ServesApp app most how (brought given held faults) end
+  pub put : held_new ≡ end.seen.held
+  pub counted : faults_new ≡ end.sink_faults
+  pub never_fails : end.door_faults ≡ 0
+
+-- the application of the files was served to what their trace brings
+pub record ServesTrace (i : ReplayInput) (most : ℕ) (status : Status) (old new : Outer) : Type 0 where
+  pub app : Loaded
+  pub is_app : IsApp i.app app
+  pub given : Given
+  pub gives : HasTrace i given
+  pub how : Stop
+  pub stops : IsStop status how
+  pub served : Replayed app given most how old.seen.held new.seen.held old.sink_faults new.sink_faults
+
+-- ---- check
+
+-- the line of `check` was put, or a front of it, or nothing
+abbrev pub PutsCount : AppInput → Status → Option (List ℕ) → Option (List ℕ) → Type 0
+PutsCount i Read old new = (line : List ℕ) × IsCount i line × (new ≡ also line old)
+PutsCount i BadWords old new = ⊥
+PutsCount i BadInput old new = ⊥
+PutsCount i TurnsSpent old new = ⊥
+PutsCount i Outside old new = (line : List ℕ) × IsCount i line × Front line old new
+PutsCount i NoMemory old new = (line : List ℕ) × IsCount i line × Front line old new
+
+-- ---- any
+
+-- what was done for input that is accepted, up to how the run ended
+abbrev pub Does : Input → Status → Outer → Outer → Type 0
+Does (Check i) status old new = PutsCount i status old.seen.held new.seen.held
+Does (Replay i most) status old new = ServesTrace i most status old new
+Does (Serve i most) status old new = ServesDoor i most status old new

@@ -1,0 +1,2 @@
+pub mod AppItems
+pub mod NextCalls

@@ -1,0 +1,7 @@
+pub mod Admitted
+pub mod Begun
+pub mod Done
+pub mod InTurn
+pub mod Lawful
+pub mod Resting
+pub mod Staging

@@ -1,0 +1,25 @@
+use Rattle.std.proofs.Common.{◌∙◌, ap, sym, refl, subst}
+use Rattle.rip_runner.specs.declared.runner.Runner.{Runner}
+use Rattle.rip_course.specs.Stages.{begun}
+use Rattle.rip_replica.specs.declared.replica.Place.TheVariants.{First}
+use Rattle.rip_lawful.specs.AtStage.{IsAtStage}
+use Rattle.rip_lawful.proofs.Staging.{only_one, open_stands, sound_by}
+use Rattle.rip_lawful.proofs.going.open.Goals as goal
+
+pub returns-clause-begun : goal.returns-clause-begun
+returns-clause-begun g c = λ program doing seed time by run full opening world page.
+    let w = g.I.Works in
+    let e = g.E.Evaluator.evaluation program in
+    let R : Runner _ _ → Type 0 = λ q.
+    IsAtStage e doing g.I.Items.item_plan g.I.Items.under_way w.may_serve (record { runner = q; place = First; number = 0; heap = c.args.heap; host = c.args.host }) (begun seed time) in
+    subst R (sym c.new.ensures) (open_stands e doing g.I.Items.item_plan g.I.Items.under_way w.may_serve _ seed time
+    (sound_by doing w.plans w.fact w.served w.ending w.may_serve by g.met.I.Works.shapes) refl (record {
+      run = sym run;
+      full = sym full;
+      plan = c.enter.ensures ∙ ap (λ p. p 0) (sym (by.planned seed time));
+      all = only_one c.push.new.self.items c.new-batch.result.items c.args.opening (doing seed time).opening c.in_ok-push.ensures.items c.new-batch.ensures.items opening;
+      begun = refl;
+      place = refl;
+      world = sym world;
+      page = sym page;
+    }))

@@ -1,0 +1,32 @@
+-- What holds of all sessions, whatever their items and pages are.
+use Rattle.std.specs.Prelude.{◌≡◌, ℕ, Bool, false}
+use Rattle.rip_wire.specs.Batches.{Contents}
+use Rattle.rip_runs.specs.Evaluation.{Evaluation}
+use Rattle.rip_course.specs.Parts.{IsLawful}
+use Rattle.rip_course.specs.Stages.{MayAdmit, Stage, begun, is_done, with_batch}
+use Rattle.rip_replica.specs.Parts.{Doing, meaning_of}
+use Rattle.rip_replica.specs.Sessions.{IsAt, IsBusy}
+use Rattle.rip_replica.specs.Standing.{Spot}
+use Rattle.rip_lawful.specs.Sound.{HaveShapes, IsSound}
+use Rattle.rip_lawful.specs.Spots.{IsAdmitted, IsOpened}
+
+-- the batches of a session and what it is given make what it does in their order, where items have their shapes
+abbrev pub MeaningsAreLawful : Type 0 → Type 0 → Type 0
+MeaningsAreLawful A S = (doing : ℕ → ℕ → Doing A S) (may : S → Bool) → HaveShapes doing may → IsLawful (meaning_of doing)
+
+-- a session that was opened is at the stage of its opening
+abbrev pub OpenedAreBegun : Type 0 → Type 0 → Type 0 → Type 0
+OpenedAreBegun M A S = (e : Evaluation M S) (doing : ℕ → ℕ → Doing A S) (may : S → Bool) (at : Spot M A S) (seed time : ℕ)
+    → IsSound doing may → IsOpened e (doing seed time) at → IsAt e doing may at (begun seed time)
+
+-- one that was admitted a batch is at the stage with that batch
+abbrev pub AdmittedAreNext : Type 0 → Type 0 → Type 0 → Type 0
+AdmittedAreNext M A S = (e : Evaluation M S) (doing : ℕ → ℕ → Doing A S) (may : S → Bool) (at to : Spot M A S) (st : Stage) (b : Contents)
+    → IsSound doing may → IsAt e doing may at st → MayAdmit (meaning_of doing) st b → IsAdmitted (doing st.seed st.time) b at to
+    → IsAt e doing may to (with_batch b st)
+
+-- a session is busy exactly where its last batch is not done
+abbrev pub BusyAreNotDone : Type 0 → Type 0 → Type 0 → Type 0
+BusyAreNotDone M A S = (e : Evaluation M S) (doing : ℕ → ℕ → Doing A S) (may : S → Bool) (at : Spot M A S) (st : Stage)
+    → (IsAt e doing may at st → is_done (meaning_of doing) st ≡ false → IsBusy e (doing st.seed st.time) may at st)
+    × (IsBusy e (doing st.seed st.time) may at st → is_done (meaning_of doing) st ≡ false)

@@ -1,0 +1,4 @@
+pub mod AtStage
+pub mod Laws
+pub mod Sound
+pub mod Spots

@@ -1,0 +1,93 @@
+ghost use Rattle.std.specs.Prelude.{◌≡◌, ◌<◌, ◌^◌, ℕ, false, length, List, IfOk};
+ghost use Rattle.rip_heap.specs.Growth.{Grows};
+ghost use Rattle.rip_wire.specs.Batches.{Contents};
+ghost use Rattle.rip_course.specs.Services.{Called, Service as Meant};
+ghost use Rattle.rip_course.specs.Stages.{MayAdmit, Resumed, Stage, begun, is_done, with_batch};
+ghost use Rattle.rip_replica.specs.Parts.{Doing, meaning_of};
+ghost use Rattle.rip_lawful.specs.AtStage.{AreDoneBy, IsAtStage};
+
+use rip_course::{Made, Progress, Service, Slice};
+use rip_heap::{Heap, Host};
+use rip_replica::{AtItem, Place, Replica, Works};
+use rip_runner::Runner;
+use rip_runs::Evaluator;
+use rip_values::NoMemory;
+use std::alloc::Global;
+
+/// A session before the first unit of its opening, with so much fuel for an item.
+pub fn open<E: Evaluator<H> + Drop, I: Works<H, T> + Drop, T: Drop, H: Host + Drop>(
+    alloc: Global,
+    evaluator: E,
+    mut items: I,
+    opening: T,
+    full: u64,
+    heap: Heap,
+    host: H,
+) -> Result<Replica<E, I, T, H>, NoMemory>
+    ensures world { IfOk result (λ r. (r.heap ≡ heap) × (r.host ≡ host)) }
+    ensures begun { IfOk result (λ r. (program : E.Program) (doing : ℕ → ℕ → Doing T H) (seed time : ℕ)
+        → AreDoneBy doing I.plans I.fact I.served I.ending
+        → (doing seed time).run ≡ (E.evaluation program).run evaluator → (doing seed time).full ≡ full
+        → (doing seed time).opening ≡ opening → (doing seed time).world ≡ heap → (doing seed time).page ≡ host
+        → IsAtStage (E.evaluation program) doing I.item_plan I.under_way I.may_serve r (begun seed time)) }
+{
+    let mut batch = Vec::new(alloc);
+    batch.push(opening)?;
+    items.enter(0);
+    let planner = AtItem {
+        items,
+        batch,
+        begun: 0,
+    };
+    Ok(Replica {
+        runner: Runner::new(evaluator, planner, full),
+        place: Place::First,
+        number: 0,
+        heap,
+        host,
+    })
+}
+
+/// Admits the items of a batch to a session.
+pub fn admit<E: Evaluator<H>, I: Works<H, T>, T: Drop, H: Host>(
+    replica: &mut Replica<E, I, T, H>,
+    number: u64,
+    batch: Vec<T>,
+)
+    requires { length batch.items < 2 ^ 32 }
+    ensures world { (replica.new.heap ≡ replica.old.heap) × (replica.new.host ≡ replica.old.host) }
+    ensures next { (program : E.Program) (doing : ℕ → ℕ → Doing T H) (st : Stage) (b : Contents)
+        → AreDoneBy doing I.plans I.fact I.served I.ending
+        → number ≡ b.number → batch.items ≡ (doing st.seed st.time).items b
+        → IsAtStage (E.evaluation program) doing I.item_plan I.under_way I.may_serve replica.old st
+        → MayAdmit (meaning_of doing) st b
+        → IsAtStage (E.evaluation program) doing I.item_plan I.under_way I.may_serve replica.new (with_batch b st) }
+{
+    replica.admit(number, batch);
+}
+
+/// Goes on with a session whose batch is not done for the units of a slice, which may be none: then all stays.
+pub fn resume<E: Evaluator<H>, I: Works<H, T>, T, H: Host, V: Service>(
+    replica: &mut Replica<E, I, T, H>,
+    alloc: Global,
+    program: &E::Program,
+    service: &mut V,
+    slice: &Slice,
+    made: &mut Made,
+) -> Progress
+    requires { H.fits replica.old.host replica.old.heap }
+    ensures fits { H.fits replica.new.host replica.new.heap }
+    ensures grows { Grows replica.old.heap replica.new.heap }
+    ensures resumed { (doing : ℕ → ℕ → Doing T H) (st : Stage) (meant : Meant) (calls : List Called)
+        → AreDoneBy doing I.plans I.fact I.served I.ending
+        → IsAtStage (E.evaluation program.now) doing I.item_plan I.under_way I.may_serve replica.old st
+        → is_done (meaning_of doing) st ≡ false → V.replies_as service.old meant calls
+        → Resumed (meaning_of doing) st meant calls slice.now made.old made.new result
+        (IsAtStage (E.evaluation program.now) doing I.item_plan I.under_way I.may_serve replica.new)
+        (V.replies_as service.new meant) }
+{
+    if slice.units == 0 {
+        return Progress::Busy;
+    }
+    replica.resume(alloc, program, service, slice, made)
+}

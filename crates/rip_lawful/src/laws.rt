@@ -1,0 +1,21 @@
+ghost use Rattle.rip_lawful.specs.Laws.{AdmittedAreNext, BusyAreNotDone, MeaningsAreLawful, OpenedAreBegun};
+
+/// A law, and no work: what sessions do is made in the order of their batches and of what they are given.
+pub fn meanings_are_lawful<A, S>()
+    ensures { MeaningsAreLawful A S }
+{}
+
+/// A law, and no work: a session that was opened is at the stage of its opening.
+pub fn opened_are_begun<M, A, S>()
+    ensures { OpenedAreBegun M A S }
+{}
+
+/// A law, and no work: a session that was admitted a batch is at the stage with that batch.
+pub fn admitted_are_next<M, A, S>()
+    ensures { AdmittedAreNext M A S }
+{}
+
+/// A law, and no work: a session is busy exactly where its last batch is not done.
+pub fn busy_are_not_done<M, A, S>()
+    ensures { BusyAreNotDone M A S }
+{}

@@ -1,4 +1,0 @@
-mod Lines
-mod Calls
-mod Endings
-mod Entries

@@ -1,0 +1,13 @@
+pub mod BusyLemmas
+pub mod CallLemmas
+pub mod CountLemmas
+pub mod ListLemmas
+pub mod NameLemmas
+pub mod OwnLemmas
+pub mod ResultLemmas
+pub mod RiseLemmas
+pub mod RollLemmas
+pub mod SeatLemmas
+pub mod SliceLemmas
+pub mod StageLemmas
+pub mod TellLemmas

@@ -1,0 +1,120 @@
+-- What a roll answers of its sessions.
+use Rattle.std.proofs.Common.{◌≡◌, ℕ, zero, suc, ◌+◌, ◌<◌, ◌≤◌, Bool, false, cond, nat_eq, leb, List, [], length, map, Option, Some, None, refl, sym, ap, ◌∙◌, subst, arith}
+use Rattle.std.specs.Prelude.{slice_get, option_map, position, is_some}
+use Rattle.std.proofs.lemmas.Bool.{le-leb, lt-leb}
+use Rattle.std.proofs.lemmas.List.{nil_from_length}
+use Rattle.rip_wire.specs.Answers.{served_of}
+use Rattle.rip_log.specs.Entries.{Recorded}
+use Rattle.rip_table.specs.Table.{IsTable, ids, ended, most_live, place_of, at_ordinal, live_count as counted_live}
+use Rattle.rip_course.specs.Answering.{opening_told}
+use Rattle.rip_course.specs.Requests.{identifiers_in, session_named, was_opened, served_in, live_count}
+use Rattle.rip_course.specs.Standings.{standing_of}
+use Rattle.rip_course.specs.declared.standing.Standing.{Standing}
+use Rattle.rip_roll.specs.Ordinals.{get_at}
+use Rattle.rip_roll.specs.Rolls.{seats, room_in, IsKept}
+use Rattle.rip_roll.specs.Seats.{IsSeat, IsKeptAt, has_ended}
+use Rattle.rip_roll.specs.Walks.{all_in}
+use Rattle.rip_roll.specs.declared.roll.Roll.{Roll}
+use Rattle.rip_roll.specs.declared.roll.Room.TheVariants.{Free, Full, Spent}
+use Rattle.rip_roll.specs.declared.seat.Seat.{Seat}
+use Rattle.rip_roll.proofs.ListLemmas.{none_some}
+use Rattle.rip_roll.proofs.NameLemmas.{named_place, opened_place}
+use Rattle.rip_roll.proofs.OwnLemmas.{tell_same}
+use Rattle.rip_roll.proofs.RollLemmas.{ordinal_is, no_standing, kept_live}
+
+module _ {T : Type 0} where
+  -- ---- by identifier
+
+  pub named_told : (limit : ℕ) (roll : Roll T) (h : List Recorded) (id : ℕ) → IsKept limit roll h
+      → option_map (λ (p : ℕ). p + 1) (place_of roll.table id) ≡ session_named id h
+  named_told limit roll h id k =
+      ap (λ (xs : List ℕ). option_map (λ (p : ℕ). p + 1) (position (nat_eq id) xs)) k.identifiers ∙ sym (named_place id h k.ordinals)
+
+  pub opened_told : (limit : ℕ) (roll : Roll T) (h : List Recorded) (id : ℕ) → IsKept limit roll h
+      → is_some (option_map (λ (p : ℕ). p + 1) (place_of roll.table id)) ≡ was_opened id h
+  opened_told limit roll h id k =
+      ap (λ (xs : List ℕ). is_some (option_map (λ (p : ℕ). p + 1) (position (nat_eq id) xs))) k.identifiers ∙ sym (opened_place id h)
+
+  -- ---- by ordinal
+
+  kept-here : (limit : ℕ) (roll : Roll T) (h : List Recorded) (n : ℕ) (o : Option (Seat T)) → IsKept limit roll h
+      → o ≡ at_ordinal (slice_get (seats roll)) n → IsKeptAt h n o
+  kept-here limit roll h n o k e = subst (λ (x : Option (Seat T)). IsKeptAt h n x) (sym (e ∙ ordinal_is (seats roll) n)) (k.each n)
+
+  standing-by : (h : List Recorded) (n : ℕ) (o : Option (Seat T)) → IsKeptAt h n o → option_map (λ (s : Seat T). s.standing) o ≡ standing_of n h
+  standing-by h n None k = sym (no_standing n h k)
+  standing-by h n (Some seat) k = sym k.standing
+
+  opening-by : (h : List Recorded) (n : ℕ) (o : Option (Seat T)) → IsKeptAt h n o → option_map (λ (s : Seat T). s.opening) o ≡ opening_told n h
+  opening-by h n None k = let same = tell_same n h [] k in sym same.opening
+  opening-by h n (Some seat) k = sym k.opening
+
+  pub standing_told : (limit : ℕ) (roll : Roll T) (h : List Recorded) (n : ℕ) (o : Option (Seat T)) → o ≡ at_ordinal (slice_get (seats roll)) n
+      → IsKept limit roll h → option_map (λ (s : Seat T). s.standing) o ≡ standing_of n h
+  standing_told limit roll h n o e k = standing-by h n o (kept-here limit roll h n o k e)
+
+  pub opening_is_told : (limit : ℕ) (roll : Roll T) (h : List Recorded) (n : ℕ) (o : Option (Seat T)) → o ≡ at_ordinal (slice_get (seats roll)) n
+      → IsKept limit roll h → option_map (λ (s : Seat T). s.opening) o ≡ opening_told n h
+  opening_is_told limit roll h n o e k = opening-by h n o (kept-here limit roll h n o k e)
+
+  pub served_told : (limit number : ℕ) (roll : Roll T) (h : List Recorded) (n : ℕ) (seat : Seat T) (s : Standing)
+      → Some seat ≡ at_ordinal (slice_get (seats roll)) n → IsKept limit roll h → standing_of n h ≡ Some s → s.done ≡ Some number
+      → map served_of seat.told.items ≡ served_in n number h
+  served_told limit number roll h n seat s e k stands done =
+      let kept : IsSeat h n seat = kept-here limit roll h n (Some seat) k e in
+      let same : seat.standing ≡ s = cc (kept.standing, stands) in
+      kept.told number (ap (λ (x : Standing). x.done) same ∙ done)
+
+  pub served_none : (limit : ℕ) (roll : Roll T) (h : List Recorded) (n : ℕ) (s : Standing)
+      → None ≡ at_ordinal (slice_get (seats roll)) n → IsKept limit roll h → standing_of n h ≡ Some s → ⊥
+  served_none limit roll h n s e k stands = none_some s (sym (no_standing n h (kept-here limit roll h n None k e)) ∙ stands)
+
+  -- ---- room
+
+  pub room_full : (limit live : ℕ) (roll : Roll T) (h : List Recorded) → IsTable roll.table → live ≡ counted_live roll.table → roll.limit ≤ live
+      → IsKept limit roll h → Full ≡ room_in limit h
+  room_full limit live roll h table is le k =
+      let counted : live_count h ≡ live = kept_live limit roll h table k ∙ table.live ∙ sym is in
+      sym (ap (λ (b : Bool). cond b Full (cond (leb 1000000 (length (identifiers_in h))) Spent Free))
+      (le-leb limit (live_count h) (omega (arith, counted, le, k.bound))))
+
+  less : (limit live : ℕ) (roll : Roll T) (h : List Recorded) → IsTable roll.table → live ≡ counted_live roll.table → live < roll.limit
+      → IsKept limit roll h → leb limit (live_count h) ≡ false
+  less limit live roll h table is lt k =
+      let counted : live_count h ≡ live = kept_live limit roll h table k ∙ table.live ∙ sym is in
+      lt-leb limit (live_count h) (omega (arith, counted, lt, k.bound))
+
+  pub room_spent : (limit live count : ℕ) (roll : Roll T) (h : List Recorded) → IsTable roll.table → live ≡ counted_live roll.table → live < roll.limit
+      → count ≡ length (ids roll.table) → 1000000 ≤ count → IsKept limit roll h → Spent ≡ room_in limit h
+  room_spent limit live count roll h table is lt size le k =
+      let all : count ≡ length (identifiers_in h) = size ∙ ap length k.identifiers in
+      sym (ap (λ (b : Bool). cond b Full (cond (leb 1000000 (length (identifiers_in h))) Spent Free)) (less limit live roll h table is lt k)
+      ∙ ap (λ (b : Bool). cond b Spent Free) (le-leb 1000000 (length (identifiers_in h)) (omega (arith, all, le))))
+
+  pub room_free : (limit live count : ℕ) (roll : Roll T) (h : List Recorded) → IsTable roll.table → live ≡ counted_live roll.table → live < roll.limit
+      → count ≡ length (ids roll.table) → count < 1000000 → IsKept limit roll h → Free ≡ room_in limit h
+  room_free limit live count roll h table is lt size few k =
+      let all : count ≡ length (identifiers_in h) = size ∙ ap length k.identifiers in
+      sym (ap (λ (b : Bool). cond b Full (cond (leb 1000000 (length (identifiers_in h))) Spent Free)) (less limit live roll h table is lt k)
+      ∙ ap (λ (b : Bool). cond b Spent Free) (lt-leb 1000000 (length (identifiers_in h)) (omega (arith, all, few))))
+
+  -- ---- no session yet
+
+  nothing-at : (n : ℕ) (xs : List (Seat T)) → xs ≡ [] → get_at n xs ≡ None
+  nothing-at zero xs e = refl
+  nothing-at (suc i) xs e = ap (λ (ys : List (Seat T)). slice_get ys i) e
+
+  pub new_kept : (limit : ℕ) (roll : Roll T) → IsTable roll.table → ids roll.table ≡ [] → most_live roll.table ≡ limit → roll.limit ≡ limit
+      → all_in roll.busy ≡ [] → IsKept limit roll []
+  new_kept limit roll table none most bound idle =
+      let size : length (ids roll.table) ≡ 0 = ap length none in
+      let no_values : seats roll ≡ [] = nil_from_length (seats roll) (table.values_each ∙ size) in
+      record {
+        bound = bound;
+        most = most;
+        identifiers = none;
+        ordinals = refl;
+        each = λ n. subst (λ (o : Option (Seat T)). IsKeptAt [] n o) (sym (nothing-at n (seats roll) no_values)) refl;
+        ended = nil_from_length (ended roll.table) (table.ended_each ∙ size) ∙ ap (map has_ended) (sym no_values);
+        busy = idle;
+      }

@@ -1,0 +1,4 @@
+pub mod Ordinals
+pub mod Rolls
+pub mod Seats
+pub mod Walks

@@ -1,0 +1,4 @@
+pub mod LegalLemmas
+pub mod RunLemmas
+pub mod TellLemmas
+pub mod TurnLemmas

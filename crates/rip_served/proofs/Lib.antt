@@ -1,0 +1,5 @@
+pub mod CountLemmas
+pub mod KeepsAnswers
+pub mod KeepsPlans
+pub mod KeepsRuns
+pub mod ServedLemmas

@@ -1,0 +1,9 @@
+use Rattle.std.proofs.Common.{refl}
+use Rattle.rip_wire.specs.Batches.{contents_of}
+use Rattle.rip_session.specs.Application.{doing_of}
+use Rattle.rip_session.proofs.SessionLemmas.{done_by}
+use Rattle.rip_session.proofs.application.ApplicationSessions.admit.Goals as goal
+
+pub returns-in-Ok-clause-admitted : goal.returns-in-Ok-clause-admitted
+returns-in-Ok-clause-admitted c = λ st at may.
+    c.admit.ensures.next c.args.self.now.app.now.program (doing_of c.args.self.now.app.now) st (contents_of c.args.batch) (done_by c.args.self.now.app.now) refl c.in-Ok.ensures at may

@@ -1,0 +1,46 @@
+-- What the sessions of an application do.
+use Rattle.std.specs.Prelude.{ℕ}
+use Rattle.rip_app.specs.App.{Loaded}
+use Rattle.rip_course.specs.Parts.{Meaning}
+use Rattle.rip_course.specs.Stages.{Stage}
+use Rattle.rip_runs.specs.Evaluation.{Evaluation}
+use Rattle.rip_machine.specs.Law.{Standing}
+use Rattle.rip_machine.specs.Plans.{evaluation}
+use Rattle.rip_replica.specs.declared.replica.Replica.{Replica}
+use Rattle.rip_replica.specs.Parts.{Doing, meaning_of}
+use Rattle.rip_host.specs.Answers.{answers}
+use Rattle.rip_host.specs.declared.browser.Browser.{Browser}
+use Rattle.rip_lawful.specs.AtStage.{IsAtStage}
+use Rattle.rip_work.specs.declared.items.PageItems.{PageItems}
+use Rattle.rip_work.specs.Endings.{ending_of}
+use Rattle.rip_work.specs.Plans.{left_of_work, work_plan}
+use Rattle.rip_work.specs.Serving.{may_serve, moment_of, served}
+use Rattle.rip_work.specs.Tasks.{Task, opens, fact_of, tasks_of}
+use Rattle.rip_session.specs.Opening.{opened_of}
+
+-- what runs of its program mean over a browser
+abbrev pub runs_of : Loaded → Evaluation Standing Browser
+runs_of app = evaluation answers app.program
+
+-- what is done in a session from this seed and at this moment
+abbrev pub doing_of : Loaded → ℕ → ℕ → Doing Task Browser
+doing_of app seed time = record {
+  run = (runs_of app).run (opened_of app seed (moment_of time)).machine;
+  full = app.manifest.limits.fuel;
+  world = (opened_of app seed (moment_of time)).heap;
+  page = (opened_of app seed (moment_of time)).browser;
+  opening = opens (opened_of app seed (moment_of time)).start;
+  items = tasks_of;
+  plan = work_plan;
+  fact = fact_of;
+  serve = served;
+  ending = ending_of;
+}
+
+-- what its sessions do
+abbrev pub meaning_of_app : Loaded → Meaning
+meaning_of_app app = meaning_of (doing_of app)
+
+-- a session of it stands at a stage
+abbrev pub StandsAt : Loaded → Replica Standing PageItems Task Browser → Stage → Type 0
+StandsAt app r st = IsAtStage (runs_of app) (doing_of app) (λ items. work_plan items.batches.batch) left_of_work may_serve r st

@@ -1,0 +1,4 @@
+pub mod Application
+pub mod Kept
+pub mod Lawful
+pub mod Opening

@@ -1,0 +1,92 @@
+ghost use Rattle.std.specs.Prelude.{◌≡◌};
+ghost use Rattle.std.proofs.Props.{props};
+ghost use Rattle.rip_session.specs.Kept.{GoesWith};
+
+use crate::opening::{Opened, open};
+use rip_app::App;
+use rip_course::{Made, Progress, Service, Sessions, Slice};
+use rip_host::Browser;
+use rip_machine::Machine;
+use rip_replica::Replica;
+use rip_values::NoMemory;
+use rip_wire::Batch;
+use rip_work::{PageItems, Work, moment_of, works_of};
+use std::alloc::Global;
+
+/// An application, as sessions go by it.
+#[derive(Clone, Copy)]
+pub struct Application<'a> {
+    app: &'a App,
+}
+
+/// A session of an application: its replica, whose browser goes with its heap.
+#[derive(Drop)]
+pub struct Session {
+    pub replica: Replica<Machine, PageItems, Work, Browser>,
+    ghost goes: { GoesWith replica.host replica.heap } by { Prim.hlevel props },
+}
+
+impl<'a> Application<'a> {
+    /// The sessions of this application.
+    pub fn of(app: &'a App) -> Application<'a>
+        ensures { result.app.now ≡ app.now }
+    {
+        Application { app }
+    }
+
+    pub fn app(&self) -> &'a App
+        ensures { result.now ≡ self.now.app.now }
+    {
+        self.app
+    }
+}
+
+impl<'a> Sessions for Application<'a> {
+    ghost use Rattle.rip_session.specs.Application.{StandsAt, meaning_of_app};
+    ghost use Rattle.rip_session.specs.Lawful.{app_is_lawful};
+
+    type Session = Session;
+
+    ghost meaning = { λ sessions. meaning_of_app sessions.app.now };
+
+    ghost lawful = { λ sessions. app_is_lawful sessions.app.now };
+
+    ghost stands = { λ sessions session st. StandsAt sessions.app.now session.replica st };
+
+    fn begin(&self, alloc: Global, seed: u32, time: u64) -> Result<Session, NoMemory> {
+        let Opened {
+            heap,
+            machine,
+            browser,
+            start,
+        } = open(alloc, self.app, seed, moment_of(time))?;
+        let limits = self.app.limits();
+        let items = PageItems::make(alloc, limits.nodes)?;
+        let opening = Work::opens(start);
+        Ok(Session {
+            replica: rip_lawful::open(alloc, machine, items, opening, limits.fuel, heap, browser)?,
+        })
+    }
+
+    fn admit(&self, alloc: Global, session: &mut Session, batch: Batch) -> Result<(), Batch> {
+        match works_of(alloc, &batch) {
+            Ok(works) => {
+                rip_lawful::admit(&mut session.replica, batch.number, works);
+                Ok(())
+            }
+            Err(NoMemory) => Err(batch),
+        }
+    }
+
+    fn resume<V: Service>(
+        &self,
+        alloc: Global,
+        session: &mut Session,
+        service: &mut V,
+        slice: &Slice,
+        made: &mut Made,
+    ) -> Progress {
+        let program = self.app.program();
+        rip_lawful::resume(&mut session.replica, alloc, program, service, slice, made)
+    }
+}

@@ -1,0 +1,3 @@
+pub mod Honest
+pub mod Seats
+pub mod Told

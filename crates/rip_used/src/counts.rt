@@ -1,0 +1,58 @@
+ghost use Rattle.std.specs.Prelude.{◌≡◌, ◌≤◌};
+ghost use Rattle.rip_used.specs.Within.{IsWithin, used_in};
+
+use rip_heap::Heap;
+use rip_host::Browser;
+use rip_machine::Machine;
+use rip_replica::Replica;
+
+/// What a session has taken of its limits.
+#[derive(Clone, Copy, Debug, PartialEq, Eq)]
+pub struct Used {
+    /// Cells of the heap.
+    pub cells: u32,
+    /// Units of its texts.
+    pub units: u32,
+    /// Nodes and attributes of the document.
+    pub nodes: u32,
+    /// Nodes of the program that are entered and not ended, and functions that are running.
+    pub depth: u32,
+    /// Bytes of the calls that wait to be reported.
+    pub waiting: u32,
+    /// Replies that are not delivered.
+    pub replies: u32,
+}
+
+/// The cells that were charged.
+fn cells(heap: &Heap) -> u32
+    ensures used { result ≡ heap.now.cells }
+    ensures within { result ≤ heap.now.limit }
+{
+    // What the heap tells of the cells that are left says that its limit is not passed.
+    let _ = heap.free_cells();
+    heap.used_cells()
+}
+
+/// The units that were charged.
+fn units(heap: &Heap) -> u32
+    ensures used { result ≡ heap.now.pool.used }
+    ensures within { result ≤ heap.now.pool.limit }
+{
+    let pool = heap.pool();
+    pool.limit() - pool.free()
+}
+
+/// What a session has taken, wherever it stands: no count passes its limit.
+pub fn used_by<I, T>(replica: &Replica<Machine, I, T, Browser>) -> Used
+    ensures used { result ≡ used_in replica.now.heap replica.now.runner.evaluator replica.now.host }
+    ensures within { IsWithin result replica.now.heap replica.now.runner.evaluator replica.now.host }
+{
+    Used {
+        cells: cells(&replica.heap),
+        units: units(&replica.heap),
+        nodes: replica.host.dom.used(),
+        depth: replica.runner.evaluator.depth(),
+        waiting: replica.host.calls.used(),
+        replies: replica.host.undelivered.count(),
+    }
+}

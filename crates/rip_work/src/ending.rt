@@ -1,0 +1,57 @@
+ghost use Rattle.std.specs.Prelude.{◌≡◌, IfOk};
+ghost use Rattle.rip_work.specs.Endings.{ending_of, mismatch, stopped};
+
+use crate::work::Work;
+use rip_host::Browser;
+use rip_runs::{Close, Stop};
+use rip_values::{Bytes, NoMemory};
+use rip_wire::Ending;
+use std::alloc::Global;
+
+/// How an item of this batch that closed so, and left this browser, ends the session.
+pub(crate) fn ending_of(
+    alloc: Global,
+    batch: &Vec<Work>,
+    close: Close,
+    browser: &Browser,
+) -> Result<Ending, NoMemory>
+    ensures { IfOk result (λ e. e ≡ ending_of batch.now.items close browser.now) }
+{
+    match close {
+        Close::Fine => Ok(Ending::Closed),
+        Close::Refused { item, kind } => Ok(Ending::BadReport { item, kind }),
+        Close::Mismatch { item } => mismatch(alloc, batch, item, browser),
+        Close::Stopped { item, stop } => Ok(stopped(item, stop)),
+    }
+}
+
+/// An item met a fault or a limit.
+fn stopped(item: u32, stop: Stop) -> Ending
+    ensures { result ≡ stopped item stop }
+{
+    match stop {
+        Stop::Fault(fault) => Ending::Fault { item, fault },
+        Stop::Limit(limit) => Ending::Limit { item, limit },
+    }
+}
+
+/// The item of this number reports another call than the one that the script made, if it made one.
+fn mismatch(
+    alloc: Global,
+    batch: &Vec<Work>,
+    item: u32,
+    browser: &Browser,
+) -> Result<Ending, NoMemory>
+    ensures { IfOk result (λ e. e ≡ mismatch batch.now.items item browser.now) }
+{
+    let (number, reported) = match batch.get(item.saturating_sub(1) as usize) {
+        Some(work) => work.reported(alloc)?,
+        None => (0, Bytes::new(alloc)),
+    };
+    Ok(Ending::Mismatch {
+        item,
+        number,
+        reported,
+        made: browser.calls.front(alloc)?,
+    })
+}

@@ -1,0 +1,231 @@
+#!/usr/bin/env node
+// The three examples in a browser: nginx before `ripley serve` on loopback, and a headless Chromium with real mouse and
+// key events.
+//
+//   apt-get install nginx haproxy chromium nodejs openssl
+//   tools/browser/run.mjs RIPLEY [--visits=50] [--seed=1] [--parts=visits,hazards,lies,..] [--into=FOLDER]
+//
+// RIPLEY is the program. The servers' ports are counted from RIPLEY_PORT, or from 18000. Visit N of a page draws its
+// gestures from the seed `SEED + N`. Pictures of the pages and the logs of the servers are left in FOLDER. The status
+// is 0 only where page and log agreed in each visit, each lie was refused with the due line, and no other session ended
+// but by its own closing. It is no part of the gate.
+import { mkdtempSync } from "node:fs";
+import { tmpdir } from "node:os";
+import { join } from "node:path";
+import { Browser, pause, until } from "./chromium.mjs";
+import { lies, refusals, tell } from "./lies.mjs";
+import { Stack, itemsOf, ports, servedOf, site } from "./stack.mjs";
+import { Draw, Visit, examples, hazards, shop } from "./visits.mjs";
+
+const words = Object.fromEntries(process.argv.slice(3).map((word) => word.slice(2).split("=", 2)));
+const ripley = process.argv[2];
+const visits = Number(words.visits ?? 50);
+const seed = Number(words.seed ?? 1);
+const into = words.into ?? mkdtempSync(join(tmpdir(), "ripley-"));
+const wrong = [];
+
+function tellWrong(what, differences) {
+  for (const each of differences) {
+    wrong.push(each);
+    console.log(`WRONG ${what}: ${each}`);
+  }
+}
+
+// Opens a page on the example that a server serves.
+async function begin(browser, log, kind) {
+  const visit = new Visit(await browser.page(), log, kind);
+  await visit.open(site);
+  return visit;
+}
+
+async function withStack({ folder }, use) {
+  const stack = new Stack(ripley, into);
+  try {
+    const log = await stack.serve(folder);
+    await use(stack, log, await stack.nginx(folder));
+  } finally {
+    await stack.close();
+  }
+}
+
+async function randomVisit(browser, log, kind, number) {
+  const visit = await begin(browser, log, kind);
+  const draw = new Draw(seed + number);
+  const gestures = 5 + draw.below(15);
+  for (let at = 0; at < gestures; at++) {
+    await kind.gesture(visit.page, draw);
+    await pause(draw.below(3) * 20);
+  }
+  tellWrong(`${kind.name}, visit ${number}, seed ${seed + number}`, await visit.compare());
+  const lines = visit.lines();
+  await visit.leave();
+  return { gestures, items: itemsOf(lines).length, served: servedOf(lines).length };
+}
+
+// Each page: its own visit with a picture, and then random ones.
+async function playAll(browser, kinds) {
+  for (const kind of kinds) {
+    await withStack(kind, async (stack, log) => {
+      const visit = await begin(browser, log, kind);
+      await kind.play(visit);
+      tellWrong(kind.name, await visit.compare());
+      await visit.page.picture(join(into, `${kind.name}.png`));
+      await visit.leave();
+      const sums = { gestures: 0, items: 0, served: 0 };
+      for (let number = 1; number <= visits; number++) {
+        const counts = await randomVisit(browser, log, kind, number);
+        for (const what of Object.keys(sums)) { sums[what] += counts[what]; }
+      }
+      const { gestures, items, served } = sums;
+      console.log(`${kind.name}: ${visits} visits, ${gestures} gestures, ${items} items, ${served} calls served`);
+    });
+  }
+}
+
+// What a visitor may try at the shop.
+async function playLies(browser) {
+  await withStack(shop, async (stack, log) => {
+    for (const row of lies) {
+      const visit = new Visit(await browser.page(), log, shop);
+      const told = await tell(row, visit, () => visit.open(site));
+      tellWrong(row.what, told.wrong);
+      console.log(`${row.what}: ${told.line}`);
+      if (row === lies[0]) { await visit.page.picture(join(into, "ended.png")); }
+    }
+    for (const { what, refuse } of refusals) {
+      const visit = await begin(browser, log, shop);
+      await shop.play(visit);
+      tellWrong(what, await refuse(visit));
+      tellWrong(what, await visit.compare());
+      await visit.leave();
+      console.log(`${what}: refused, without a line`);
+    }
+  });
+}
+
+// Two browsers at once, at one server.
+async function playPair() {
+  const pair = [new Browser(), new Browser()];
+  for (const kind of examples) {
+    await withStack(kind, async (stack, log) => {
+      await Promise.all(pair.map(async (browser, number) => {
+        for (let at = 0; at < 3; at++) { await randomVisit(browser, log, kind, 1000 + 10 * at + number); }
+      }));
+      console.log(`${kind.name}: two browsers at once`);
+    });
+  }
+  await Promise.all(pair.map((browser) => browser.close()));
+}
+
+// HAProxy before two servers: each session stays with its own.
+async function playSpread(browser) {
+  const stack = new Stack(ripley, into);
+  try {
+    const logs = [await stack.serve(shop.folder), await stack.serve(shop.folder, ports.second)];
+    const proxy = await stack.haproxy();
+    await stack.nginx(shop.folder, ports.proxy);
+    const both = { of: (session) => logs.map((log) => log.of(session)).find((lines) => lines !== null) ?? null };
+    for (let number = 1; number <= 6; number++) { await randomVisit(browser, both, shop, 2000 + number); }
+    const open = await Promise.all([1, 2, 3, 4].map(() => begin(browser, both, shop)));
+    await stack.reload(proxy);
+    for (const visit of open) {
+      await shop.play(visit);
+      tellWrong("two servers", await visit.compare());
+      await visit.leave();
+    }
+    const counts = logs.map((log) => log.lines().filter((line) => line.startsWith("open ")).length);
+    if (counts.includes(0)) { tellWrong("two servers", [`sessions by server: ${counts}`]); }
+    console.log(`two servers behind HAProxy: ${counts.join(" and ")} sessions`);
+  } finally {
+    await stack.close();
+  }
+}
+
+// The line is broken until the page says so, which its script doesn't see, and then until it doesn't.
+async function playBroken(browser) {
+  await withStack(hazards, async (stack, log) => {
+    const visit = await begin(browser, log, hazards);
+    const { page } = visit;
+    const line = { latency: 0, downloadThroughput: -1, uploadThroughput: -1 };
+    await page.ask("Network.emulateNetworkConditions", { ...line, offline: true });
+    await page.click("shape");
+    const notice = await until(() => page.notice(), "the notice of silence");
+    for (const place of ["shape", "make", "made1", "in1", "same", "shape"]) { await page.click(place); }
+    await page.ask("Network.emulateNetworkConditions", { ...line, offline: false });
+    await until(async () => (await page.notice()) === null, "the end of the notice");
+    tellWrong("a broken line", await visit.compare());
+    await visit.leave();
+    console.log(`a broken line: '${notice}', and then no notice`);
+  });
+}
+
+// Every third answer to a batch is lost on its way, and nginx is reloaded: each batch is done once, and the visit goes
+// on.
+async function playLost(browser) {
+  await withStack(shop, async (stack, log, nginx) => {
+    const visit = await begin(browser, log, shop);
+    let answers = 0;
+    let lost = 0;
+    await visit.page.ask("Fetch.enable", { patterns: [{ urlPattern: "*/e/*", requestStage: "Response" }] });
+    visit.page.hear(async (method, { requestId } = {}) => {
+      if (method !== "Fetch.requestPaused") { return; }
+      answers += 1;
+      if (answers % 3 === 0) {
+        lost += 1;
+        await visit.page.ask("Fetch.failRequest", { requestId, errorReason: "ConnectionReset" });
+      } else {
+        await visit.page.ask("Fetch.continueRequest", { requestId });
+      }
+    });
+    await shop.play(visit);
+    nginx.kill("SIGHUP");
+    await visit.page.type("cup", "12");
+    await pause(2000);
+    tellWrong("lost answers", await visit.compare());
+    const numbers = visit.lines().filter((line) => line.startsWith("batch ")).map((line) => Number(line.split(" ")[3]));
+    if (numbers.some((number, at) => number !== at + 1)) { tellWrong("lost answers", [`batches ${numbers}`]); }
+    await visit.leave();
+    console.log(`lost answers: ${lost} of ${answers}, ${numbers.length} batches, each done once`);
+  });
+}
+
+// The server is stopped and started: the page is told, and a new one opens.
+async function playRestart(browser) {
+  await withStack(shop, async (stack, log) => {
+    const visit = await begin(browser, log, shop);
+    await visit.page.type("tea", "1");
+    await visit.rest();
+    await stack.stop(log.process);
+    await visit.page.type("cup", "1");
+    const silent = await until(() => visit.page.notice(), "the notice of silence");
+    const after = await stack.serve(shop.folder);
+    const ended = await until(async () => {
+      const notice = await visit.page.notice();
+      return notice !== silent ? notice : null;
+    }, "the notice of the end");
+    console.log(`restart: '${silent}', then '${ended}'`);
+    await visit.page.picture(join(into, "restarted.png"));
+    const fresh = await begin(browser, after, shop);
+    await shop.play(fresh);
+    tellWrong("after the restart", await fresh.compare());
+    await fresh.leave();
+  });
+}
+
+const parts = {
+  visits: (browser) => playAll(browser, examples),
+  hazards: (browser) => playAll(browser, [hazards]),
+  lies: playLies,
+  pair: playPair,
+  spread: playSpread,
+  lost: playLost,
+  broken: playBroken,
+  restart: playRestart,
+};
+
+const browser = new Browser();
+console.log(`${await browser.version()}, seed ${seed}, into ${into}`);
+for (const part of (words.parts ?? Object.keys(parts).join(",")).split(",")) { await parts[part](browser); }
+await browser.close();
+console.log(wrong.length === 0 ? "all as due" : `${wrong.length} wrong`);
+process.exit(wrong.length === 0 ? 0 : 1);
