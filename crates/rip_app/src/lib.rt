@@ -13,10 +13,6 @@
 #![tactic(auto)]
 
 mod app;
-#[cfg(test)]
-mod early_rows;
-#[cfg(test)]
-mod load_tests;
 mod refusal;
 mod script;
 mod scripts;

@@ -44,8 +44,6 @@ mod own_properties;
 mod parse_int;
 mod receivers;
 mod search;
-#[cfg(test)]
-mod tests;
 mod text_search;
 mod texts;
 

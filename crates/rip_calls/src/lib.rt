@@ -21,7 +21,5 @@
 mod lines;
 mod past;
 mod queue;
-#[cfg(test)]
-mod tests;
 
 pub use queue::{Match, Queue};

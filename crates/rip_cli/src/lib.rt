@@ -22,8 +22,6 @@ mod lines;
 mod refusal;
 mod serving;
 mod status;
-#[cfg(test)]
-mod tests;
 mod top;
 mod trace_door;
 mod words;

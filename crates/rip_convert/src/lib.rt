@@ -20,8 +20,6 @@ mod judge;
 mod line;
 mod order;
 mod row;
-#[cfg(test)]
-mod tests;
 mod units;
 mod values;
 mod write;

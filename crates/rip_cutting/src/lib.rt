@@ -16,8 +16,6 @@
 mod batches;
 mod front;
 mod laws;
-#[cfg(test)]
-mod tests;
 
 pub use batches::{LARGEST_ITEM, MOST_BYTES, cut};
 pub use front::{empty_size, has_room, size_with};

@@ -21,8 +21,6 @@ mod laws;
 mod number;
 mod read;
 mod size;
-#[cfg(test)]
-mod tests;
 mod write;
 
 pub use datum::{Datum, DatumFields, DatumList};

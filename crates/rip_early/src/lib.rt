@@ -41,8 +41,6 @@ mod refusal;
 mod scopes;
 mod script;
 mod strict;
-#[cfg(test)]
-mod tests;
 mod uses;
 
 pub use program::{check, names_are_resolved, refusals_are_one};

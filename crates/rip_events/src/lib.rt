@@ -32,8 +32,6 @@ mod laws;
 mod listener;
 mod listeners;
 mod station;
-#[cfg(test)]
-mod tests;
 
 pub use cursor::Cursor;
 pub use laws::{

@@ -31,8 +31,6 @@ mod laws;
 mod options;
 mod report;
 mod state;
-#[cfg(test)]
-mod tests;
 mod value;
 mod words;
 

@@ -18,8 +18,6 @@ mod draws;
 mod gesture;
 mod laws;
 mod plans;
-#[cfg(test)]
-mod tests;
 
 pub use laws::plans_are_in_range;
 pub use plans::{GenPlan, ROUNDS, plan};

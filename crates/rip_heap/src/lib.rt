@@ -51,8 +51,6 @@ mod property;
 mod room;
 mod scopes;
 mod stored;
-#[cfg(test)]
-mod tests;
 mod texts;
 
 pub use class::Class;

@@ -28,8 +28,6 @@ mod reader;
 mod scripts;
 mod standing;
 mod tags;
-#[cfg(test)]
-mod tests;
 
 pub use reader::{exactly_one, read_page};
 pub use rip_markup::PageRefusal;

@@ -31,8 +31,6 @@ mod request;
 mod routes;
 mod stage;
 mod target;
-#[cfg(test)]
-mod tests;
 mod verdict;
 
 pub use answer::{HttpAnswer, Opening, answer_bytes};

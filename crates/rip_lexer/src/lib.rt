@@ -14,8 +14,6 @@ mod lexer;
 mod numeral;
 mod punctuator;
 mod refusal;
-#[cfg(test)]
-mod tests;
 mod text;
 mod token;
 mod units;

@@ -20,8 +20,6 @@ mod kinds;
 mod laws;
 mod parts;
 mod read;
-#[cfg(test)]
-mod tests;
 mod words;
 mod write;
 

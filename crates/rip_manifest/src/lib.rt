@@ -25,8 +25,6 @@ mod limits;
 mod manifest;
 mod name;
 mod refusal;
-#[cfg(test)]
-mod tests;
 
 pub use function::{Function, Functions, Operation};
 pub use functions::MOST_FUNCTIONS;

@@ -28,8 +28,6 @@ mod reading;
 mod reference;
 mod refusal;
 mod tag;
-#[cfg(test)]
-mod tests;
 mod text;
 mod token;
 mod tokenizer;

@@ -28,8 +28,6 @@ mod keys;
 mod laws;
 mod outcome;
 mod reading;
-#[cfg(test)]
-mod tests;
 mod writing;
 
 pub use base::{Base, base_of};

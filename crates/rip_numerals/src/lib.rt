@@ -12,9 +12,6 @@ ghost use Rattle.std.specs.Prelude.{◌≡◌, ◌≢◌, ◌<◌, ◌^◌, ℕ,
 ghost use Rattle.std.specs.Char.{is_ascii_digit};
 ghost use Rattle.std.specs.List.{list_all};
 
-#[cfg(test)]
-mod tests;
-
 use std::str;
 
 /// The number below 2^64 whose numeral, without leading zeros, the word is.

@@ -34,8 +34,6 @@ mod members;
 mod numbers;
 mod operators;
 mod order;
-#[cfg(test)]
-mod tests;
 
 pub use addition::added;
 pub use arithmetic::{

@@ -20,8 +20,6 @@ mod moments;
 mod nothing;
 mod pieces;
 mod reading;
-#[cfg(test)]
-mod tests;
 mod text;
 mod writing;
 

@@ -44,8 +44,6 @@ mod reading;
 mod refusal;
 mod run;
 mod statements;
-#[cfg(test)]
-mod tests;
 
 pub use laws::{nodes_are_held_once, trees_are_one};
 pub use parser::parse;

@@ -54,8 +54,6 @@ mod run;
 mod stack;
 mod step;
 mod steps;
-#[cfg(test)]
-mod tests;
 
 pub use close::Close;
 pub use completion::{Completion, Stop};

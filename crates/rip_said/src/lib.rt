@@ -11,7 +11,5 @@
 #![tactic(auto)]
 
 mod said;
-#[cfg(test)]
-mod tests;
 
 pub use said::{write_batch_line, write_ended, write_opening, write_quiet};

@@ -23,8 +23,6 @@ mod outcome;
 mod places;
 mod refusal;
 mod store;
-#[cfg(test)]
-mod tests;
 
 pub use laws::{
     arguments_are_not_of_the_form, kept_is_found, others_stay, put_is_got, refusal_leaves,

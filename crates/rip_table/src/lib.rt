@@ -21,8 +21,6 @@
 mod laws;
 mod refused;
 mod table;
-#[cfg(test)]
-mod tests;
 
 pub use laws::lent_table_stays;
 pub use refused::InsertRefused;

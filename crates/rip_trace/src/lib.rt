@@ -24,8 +24,6 @@ mod line;
 mod read;
 mod request;
 mod say;
-#[cfg(test)]
-mod tests;
 mod text;
 mod trace;
 

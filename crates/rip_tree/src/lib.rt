@@ -24,8 +24,6 @@ mod maker;
 mod moving;
 mod node;
 mod program;
-#[cfg(test)]
-mod tests;
 mod tree;
 
 pub use form::{Form, FunctionHead, Key, TextLiteral};

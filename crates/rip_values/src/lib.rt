@@ -39,8 +39,6 @@ mod operator;
 mod page;
 mod pool;
 mod report;
-#[cfg(test)]
-mod tests;
 mod text;
 mod value;
 mod whole;

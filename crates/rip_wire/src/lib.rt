@@ -32,8 +32,6 @@ mod laws;
 mod name;
 mod parts;
 mod read;
-#[cfg(test)]
-mod tests;
 mod values;
 mod write;
 

@@ -21,8 +21,6 @@
 
 mod command;
 mod laws;
-#[cfg(test)]
-mod tests;
 
 pub use command::{Command, command_of};
 pub use laws::words_are_one;

@@ -1,5 +1,0 @@
-use Rattle.rip_table.specs.Table.{IsTable}
-use Rattle.rip_table.proofs.tests.opens_all.Given as goal
-
-abbrev pub invariant-loop-number : goal.invariant-loop-number
-invariant-loop-number l = IsTable l.table

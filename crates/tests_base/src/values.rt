@@ -1,0 +1,309 @@
+use rip_values::*;
+use std::test::Fail;
+
+/// What `number_of_text` answers, as a table of rows spells it.
+#[derive(Clone, Copy, Debug, PartialEq, Eq)]
+enum Row {
+    Number(i64),
+    NaN,
+    NotWhole,
+    Infinite,
+    OutOfRange,
+    Other,
+}
+
+fn row_of(answer: Result<Numeral, Fault>) -> Row {
+    match answer {
+        Ok(numeral) => row_of_numeral(numeral),
+        Err(Fault::NotWhole) => Row::NotWhole,
+        Err(Fault::Infinite) => Row::Infinite,
+        Err(Fault::OutOfRange) => Row::OutOfRange,
+        Err(_) => Row::Other,
+    }
+}
+
+fn row_of_numeral(numeral: Numeral) -> Row {
+    match numeral {
+        Numeral::Num(number) => Row::Number(number.get()),
+        Numeral::NaN => Row::NaN,
+    }
+}
+
+#[test]
+fn texts_are_read_as_numbers(rt: HostRuntime) -> Result<(), Fail> {
+    let rows = [
+        ("", Row::Number(0)),
+        (" ", Row::Number(0)),
+        (" 12 ", Row::Number(12)),
+        ("\u{feff}7\u{2029}", Row::Number(7)),
+        ("0x1f", Row::Number(31)),
+        ("0X1F", Row::Number(31)),
+        ("0x", Row::NaN),
+        ("-0x1", Row::NaN),
+        ("12", Row::Number(12)),
+        ("-12", Row::Number(-12)),
+        ("+12", Row::Number(12)),
+        ("00012", Row::Number(12)),
+        ("-0", Row::Number(0)),
+        ("--1", Row::NaN),
+        ("+", Row::NaN),
+        ("1 2", Row::NaN),
+        ("12px", Row::NaN),
+        ("abc", Row::NaN),
+        ("1.", Row::NotWhole),
+        (".5", Row::NotWhole),
+        ("1.5", Row::NotWhole),
+        ("1.0", Row::NotWhole),
+        (".", Row::NaN),
+        ("1e5", Row::NotWhole),
+        ("-1e+5", Row::NotWhole),
+        ("1e", Row::NaN),
+        ("e5", Row::NaN),
+        ("Infinity", Row::Infinite),
+        ("-Infinity", Row::Infinite),
+        ("+Infinity", Row::Infinite),
+        ("infinity", Row::NaN),
+        ("Infinity1", Row::NaN),
+        ("9007199254740991", Row::Number(9_007_199_254_740_991)),
+        ("9007199254740992", Row::OutOfRange),
+        ("-9007199254740991", Row::Number(-9_007_199_254_740_991)),
+        ("-9007199254740992", Row::OutOfRange),
+        ("0x1fffffffffffff", Row::Number(9_007_199_254_740_991)),
+        ("0x20000000000000", Row::OutOfRange),
+        ("1e400", Row::NotWhole),
+        ("\u{180e}1", Row::NaN),
+    ];
+    for (text, want) in &rows {
+        let units = Units::from_utf8(rt.alloc(), text.as_bytes())?;
+        assert_eq!(rt; row_of(number_of_text(units.as_slice())), *want, "{text:?}");
+    }
+    Ok(())
+}
+
+#[test]
+fn blanks_are_trimmed(rt: HostRuntime) {
+    let blanks = [
+        0x9, 0xA, 0xB, 0xC, 0xD, 0x20, 0xA0, 0x1680, 0x2000, 0x2001, 0x2002, 0x2003, 0x2004,
+        0x2005, 0x2006, 0x2007, 0x2008, 0x2009, 0x200A, 0x2028, 0x2029, 0x202F, 0x205F, 0x3000,
+        0xFEFF,
+    ];
+    for blank in &blanks {
+        let text = [*blank, *blank, 0x37, *blank];
+        assert_eq!(rt;
+            row_of(number_of_text(text.as_slice())),
+            Row::Number(7),
+            "{blank:x}"
+        );
+    }
+    let others = [
+        0x0, 0x8, 0xE, 0x1F, 0x21, 0x85, 0x9F, 0xA1, 0x180E, 0x1FFF, 0x200B, 0x202A, 0x2060, 0xFFFE,
+    ];
+    for other in &others {
+        let text = [*other, 0x37];
+        assert_eq!(rt;
+            row_of(number_of_text(text.as_slice())),
+            Row::NaN,
+            "{other:x}"
+        );
+    }
+}
+
+#[test]
+fn numerals_are_written_and_read_back(rt: HostRuntime) -> Result<(), Fail> {
+    let rows = [
+        (0, "0"),
+        (7, "7"),
+        (-7, "-7"),
+        (10, "10"),
+        (-120, "-120"),
+        (9_007_199_254_740_991, "9007199254740991"),
+        (-9_007_199_254_740_991, "-9007199254740991"),
+    ];
+    for (number, want) in &rows {
+        let mut room = [0x2A; 17];
+        let whole = Whole::new(*number).ok_or("out of range")?;
+        let count = text_of_whole(whole, &mut room);
+        let units = Units::from_utf8(rt.alloc(), want.as_bytes())?;
+        assert_eq!(rt; room.get(..count), Some(units.as_slice()), "{want}");
+        assert_eq!(rt;
+            row_of(number_of_text(units.as_slice())),
+            Row::Number(*number),
+            "{want}"
+        );
+    }
+    assert_eq!(rt; Whole::new(9_007_199_254_740_992), None);
+    assert_eq!(rt; Whole::new(-9_007_199_254_740_992), None);
+    Ok(())
+}
+
+#[test]
+fn edges_of_utf8(rt: HostRuntime) -> Result<(), Fail> {
+    // The first and the last character of each length, and those beside the surrogates.
+    let texts: [(&[u8], &[u16]); 11] = [
+        (b"", &[]),
+        (b"\x00", &[0x0]),
+        (b"\x7F", &[0x7F]),
+        (b"\xC2\x80", &[0x80]),
+        (b"\xDF\xBF", &[0x7FF]),
+        (b"\xE0\xA0\x80", &[0x800]),
+        (b"\xED\x9F\xBF", &[0xD7FF]),
+        (b"\xEE\x80\x80", &[0xE000]),
+        (b"\xEF\xBF\xBF", &[0xFFFF]),
+        (b"\xF0\x90\x80\x80", &[0xD800, 0xDC00]),
+        (b"\xF4\x8F\xBF\xBF", &[0xDBFF, 0xDFFF]),
+    ];
+    for (bytes, want) in &texts {
+        let units = Units::from_utf8(rt.alloc(), bytes)?;
+        assert_eq!(rt; units.as_slice(), *want);
+        assert_eq!(rt; units.to_utf8(rt.alloc())?.as_slice(), *bytes);
+    }
+    // A byte alone, overlong forms, surrogates, past U+10FFFF, and what is cut short.
+    let refused: [&[u8]; 16] = [
+        b"\x80",
+        b"\xBF",
+        b"\xC0\x80",
+        b"\xC1\xBF",
+        b"\xC2",
+        b"\xC2A",
+        b"\xE0\x9F\xBF",
+        b"\xE2\x82",
+        b"\xED\xA0\x80",
+        b"\xED\xBF\xBF",
+        b"\xF0\x8F\xBF\xBF",
+        b"\xF0\x90\x80",
+        b"\xF4\x90\x80\x80",
+        b"\xF5\x80\x80\x80",
+        b"\xFF",
+        b"a\xFE",
+    ];
+    for bytes in &refused {
+        match Units::from_utf8(rt.alloc(), bytes) {
+            Ok(_) => panic!(rt; "{bytes:?}"),
+            Err(e) => assert_eq!(rt; e, TextError::NotUtf8, "{bytes:?}"),
+        }
+    }
+    Ok(())
+}
+
+#[test]
+fn surrogates_need_their_partner(rt: HostRuntime) -> Result<(), Fail> {
+    let refused: [&[u16]; 9] = [
+        &[0xD800],
+        &[0xDBFF],
+        &[0xDC00],
+        &[0xDFFF],
+        &[0xD800, 0x41],
+        &[0x41, 0xDC00],
+        &[0xDC00, 0xD800],
+        &[0xD800, 0xD800, 0xDC00],
+        &[0xD800, 0xDC00, 0xDC00],
+    ];
+    for units in &refused {
+        match Units::from_slice(rt.alloc(), units)?.to_utf8(rt.alloc()) {
+            Ok(_) => panic!(rt; "{units:?}"),
+            Err(e) => assert_eq!(rt; e, TextError::LoneSurrogate, "{units:?}"),
+        }
+    }
+    Ok(())
+}
+
+#[test]
+fn long_texts(rt: HostRuntime) -> Result<(), Fail> {
+    let digits = Units::from_vec(vec![in rt.alloc(); 0x39; 1_000_000]?);
+    assert_eq!(rt; row_of(number_of_text(digits.as_slice())), Row::OutOfRange);
+    let bytes = digits.to_utf8(rt.alloc())?;
+    assert_eq!(rt; bytes.len(), 1_000_000);
+    let units = Units::from_utf8(rt.alloc(), bytes.as_slice())?;
+    assert!(rt; units == digits);
+    let blanks = Units::from_vec(vec![in rt.alloc(); 0x20; 1_000_000]?);
+    assert_eq!(rt; row_of(number_of_text(blanks.as_slice())), Row::Number(0));
+    Ok(())
+}
+
+#[test]
+fn texts_of_a_pool(rt: HostRuntime) -> Result<(), Fail> {
+    let mut pool = Pool::make(rt.alloc(), 5, 65_535)?;
+    assert_eq!(rt; pool.text_limit(), 65_535);
+    assert_eq!(rt; pool.limit(), 5);
+    for fixed in &FIXED_TEXTS {
+        let text = Units::from_utf8(rt.alloc(), fixed.text().as_bytes())?;
+        assert_eq!(rt;
+            pool.fixed(text.as_slice()),
+            Some(fixed.span()),
+            "{fixed:?}"
+        );
+        assert_eq!(rt; pool.get(fixed.span()), text.as_slice(), "{fixed:?}");
+    }
+    let other = Units::from_utf8(rt.alloc(), b"Length")?;
+    assert_eq!(rt; pool.fixed(other.as_slice()), None);
+
+    let name = pool.add_fixed(rt.alloc(), other.as_slice())?;
+    assert_eq!(rt; pool.used(), 0);
+    let three = pool.add(rt.alloc(), &[1, 2, 3])?;
+    assert_eq!(rt; pool.used(), 3);
+    match pool.add(rt.alloc(), &[4, 5, 6]) {
+        Ok(_) => panic!(rt; "six units of five"),
+        Err(e) => assert_eq!(rt; e, Refused::Limit(Limit::Units)),
+    }
+    assert_eq!(rt; pool.used(), 3);
+    let two = pool.add(rt.alloc(), &[7, 8])?;
+    let none = pool.add(rt.alloc(), &[])?;
+    assert_eq!(rt; pool.used(), 5);
+    assert_eq!(rt; pool.get(name), other.as_slice());
+    assert_eq!(rt; pool.get(three), [1, 2, 3].as_slice());
+    assert_eq!(rt; pool.get(two), [7, 8].as_slice());
+    assert_eq!(rt; pool.get(none).len(), 0);
+    let past = Span {
+        start: two.start,
+        count: 100,
+    };
+    assert_eq!(rt; pool.get(past), [7, 8].as_slice());
+    assert_eq!(rt; (pool.free(), pool.held(two)), (0, two));
+    assert_eq!(rt; pool.get(pool.held(past)), [7, 8].as_slice());
+
+    let mut pool = Pool::make(rt.alloc(), 7, 65_535)?;
+    let ab = pool.add(rt.alloc(), &[1, 2])?;
+    let abab = pool.add_joined(ab, ab).map_err(Refused::from)?;
+    assert_eq!(rt; pool.get(abab), [1, 2, 1, 2].as_slice());
+    assert_eq!(rt;
+        pool.add_joined(ab, FixedText::Empty.span()),
+        Err(Limit::Units)
+    );
+    assert_eq!(rt; pool.used(), 6);
+    Ok(())
+}
+
+#[test]
+fn built_ins_by_number(rt: HostRuntime) {
+    for builtin in &BUILTINS {
+        assert_eq!(rt;
+            Builtin::of(builtin.number()),
+            Some(*builtin),
+            "{builtin:?}"
+        );
+    }
+    assert_eq!(rt; Builtin::of(43), None);
+    assert_eq!(rt; Builtin::of(FIRST_HEAP_OBJECT), None);
+    assert_eq!(rt; Builtin::ArrayIndexOf.name(), "indexOf");
+    assert_eq!(rt; Builtin::ArrayIndexOf.home(), BuiltinHome::Array);
+    assert!(rt; Builtin::ParseInt.is_function() && !Builtin::Math.is_function());
+    assert!(rt; Limits::DEFAULT.are_in_range() && Limits::GREATEST.are_in_range());
+}
+
+#[test]
+fn globals_by_name(rt: HostRuntime) -> Result<(), Fail> {
+    for global in &GLOBALS {
+        let name = Units::from_utf8(rt.alloc(), global.name().as_bytes())?;
+        assert_eq!(rt; Global::named(name.as_slice()), Some(*global));
+    }
+    for name in ["window", "Infinity", "nan", "Mat", "Maths", ""] {
+        let name = Units::from_utf8(rt.alloc(), name.as_bytes())?;
+        assert_eq!(rt; Global::named(name.as_slice()), None);
+    }
+    assert_eq!(rt; Global::Document.value(), Value::Object(FIRST_NODE));
+    assert_eq!(rt; Global::Math.value(), Value::Object(0));
+    assert_eq!(rt; Global::RangeError.value(), Value::Object(8));
+    assert_eq!(rt; Global::Undefined.value(), Value::Undefined);
+    assert_eq!(rt; Global::NaN.value(), Value::NaN);
+    Ok(())
+}

@@ -1,0 +1,344 @@
+ghost use Rattle.rip_heap.specs.Growth.{Grows};
+
+use rip_heap::*;
+use rip_values::{Fault, FixedText, Limit, Numeral, Refused, Span, Value, Whole};
+use std::test::Fail;
+
+const LIMITS: HeapLimits = HeapLimits {
+    cells: 8,
+    units: 10,
+    text: 100,
+};
+
+/// Reads, writes and calls once each.
+fn ask_thrice<H: Host>(host: &mut H, heap: &mut Heap, object: u32, name: Span) -> HostDone
+    requires { H.fits host.old heap.old }
+    ensures fits { H.fits host.new heap.new }
+    ensures grows { Grows heap.old heap.new }
+{
+    let read = host.read(heap, object, name);
+    host.write(heap, object, name, Value::Null);
+    host.call(heap, 0, Value::Object(object), &[Value::Undefined]);
+    read
+}
+
+fn number(n: i64) -> Value {
+    match Whole::new(n) {
+        Some(whole) => Value::Num(whole),
+        None => Value::NaN,
+    }
+}
+
+fn numeral(n: i64) -> Numeral {
+    match Whole::new(n) {
+        Some(whole) => Numeral::Num(whole),
+        None => Numeral::NaN,
+    }
+}
+
+#[test]
+fn an_empty_host_is_outside_the_profile(rt: HostRuntime) -> Result<(), Fail> {
+    let mut heap = Heap::make(rt.alloc(), LIMITS)?;
+    let answer = ask_thrice(&mut EmptyHost, &mut heap, 0, FixedText::Name.span());
+    assert_eq!(rt; answer, HostDone::Fault(Fault::NotInProfile));
+    Ok(())
+}
+
+#[test]
+fn objects_and_properties_are_charged(rt: HostRuntime) -> Result<(), Fail> {
+    let alloc = rt.alloc();
+    let mut heap = Heap::make(alloc, LIMITS)?;
+    let object = heap.new_of(alloc, Class::TypeError)?;
+    heap.put(alloc, object, FixedText::Name.span(), Value::Null)?;
+    heap.put(alloc, object, FixedText::Name.span(), Value::NaN)?;
+    assert_eq!(rt; (object, heap.used_cells()), (128, 2));
+    Ok(())
+}
+
+#[test]
+fn arrays_are_charged(rt: HostRuntime) -> Result<(), Fail> {
+    let alloc = rt.alloc();
+    let mut heap = Heap::make(alloc, LIMITS)?;
+    let array = heap.new_array(alloc, &[Value::Null, Value::NaN])?;
+    heap.push_item(alloc, array, Value::Undefined)?;
+    heap.set_item(array, 1, Value::Null);
+    assert_eq!(rt; (heap.used_cells(), heap.count(array)), (4, 3));
+    assert_eq!(rt;
+        (heap.item(array, 1), heap.item(array, 3)),
+        (Some(Value::Null), None)
+    );
+    assert_eq!(rt; heap.pop_item(array), Some(Value::Undefined));
+    Ok(())
+}
+
+#[test]
+fn functions_and_scopes_are_charged(rt: HostRuntime) -> Result<(), Fail> {
+    let alloc = rt.alloc();
+    let mut heap = Heap::make(alloc, LIMITS)?;
+    let scope = heap.new_scope(alloc, None, 2)?;
+    assert_eq!(rt; heap.used_cells(), 3);
+    let function = heap.new_function(alloc, 5, scope)?;
+    assert_eq!(rt;
+        (heap.used_cells(), heap.objects(), heap.scopes()),
+        (7, 2, 1)
+    );
+    assert_eq!(rt;
+        (heap.class(function), heap.function(function)),
+        (Class::Function, Some((5, 0)))
+    );
+    let prototype = heap.own(function, FixedText::Prototype.span());
+    assert_eq!(rt; prototype, Some(Value::Object(function - 1)));
+    assert_eq!(rt; heap.class(function - 1), Class::Prototype);
+    Ok(())
+}
+
+#[test]
+fn the_last_cell_is_there(rt: HostRuntime) -> Result<(), Fail> {
+    let alloc = rt.alloc();
+    let mut heap = Heap::make(alloc, LIMITS)?;
+    heap.charge(7)?;
+    assert_eq!(rt;
+        heap.new_scope(alloc, None, 1),
+        Err(Refused::Limit(Limit::Cells))
+    );
+    let object = heap.new_object(alloc, None)?;
+    assert_eq!(rt; (object, heap.free_cells()), (128, 0));
+    Ok(())
+}
+
+#[test]
+fn properties_are_found_along_prototypes(rt: HostRuntime) -> Result<(), Fail> {
+    let alloc = rt.alloc();
+    let mut heap = Heap::make(alloc, LIMITS)?;
+    let above = heap.new_object(alloc, None)?;
+    let below = heap.new_object(alloc, Some(above))?;
+    let same = heap.pool_mut().add(alloc, &[0x69, 0x64])?;
+    heap.put(alloc, above, FixedText::Id.span(), Value::Null)?;
+    assert_eq!(rt;
+        (heap.own(below, same), heap.find(below, same)),
+        (None, Some(Value::Null))
+    );
+    assert_eq!(rt; heap.proto(below), Some(above));
+    Ok(())
+}
+
+#[test]
+fn properties_keep_their_order(rt: HostRuntime) -> Result<(), Fail> {
+    let alloc = rt.alloc();
+    let mut heap = Heap::make(alloc, LIMITS)?;
+    let object = heap.new_object(alloc, Some(7))?;
+    for name in [FixedText::Id, FixedText::Code, FixedText::Name] {
+        heap.put(alloc, object, name.span(), Value::Null)?;
+    }
+    assert!(rt; heap.remove(object, FixedText::Id.span()));
+    assert_eq!(rt;
+        heap.own_at(object, 0),
+        Some((FixedText::Code.span(), Value::Null))
+    );
+    assert_eq!(rt; heap.own_at(object, 2), None);
+    Ok(())
+}
+
+#[test]
+fn bindings_begin_without_a_value(rt: HostRuntime) -> Result<(), Fail> {
+    let alloc = rt.alloc();
+    let mut heap = Heap::make(alloc, LIMITS)?;
+    let top = heap.new_scope(alloc, Some(0), 1)?;
+    let inner = heap.new_scope(alloc, Some(top), 2)?;
+    heap.set_binding(inner, 1, Value::Null);
+    assert_eq!(rt;
+        (heap.scope_parent(top), heap.scope_parent(inner)),
+        (None, Some(top))
+    );
+    assert_eq!(rt;
+        (heap.binding(inner, 0), heap.binding(inner, 1)),
+        (None, Some(Value::Null))
+    );
+    assert_eq!(rt; heap.names(inner), 2);
+    Ok(())
+}
+
+#[test]
+fn texts_are_charged(rt: HostRuntime) -> Result<(), Fail> {
+    let alloc = rt.alloc();
+    let mut heap = Heap::make(alloc, LIMITS)?;
+    let minus_twelve = to_text(alloc, &mut heap, number(-12))?;
+    assert_eq!(rt;
+        heap.pool().get(minus_twelve),
+        [0x2D, 0x31, 0x32].as_slice()
+    );
+    let both = heap.concat(alloc, FixedText::Null.span(), minus_twelve)?;
+    assert_eq!(rt; (both.count, heap.pool().used()), (7, 10));
+    assert_eq!(rt;
+        to_text(alloc, &mut heap, number(7)),
+        Err(Halt::Limit(Limit::Units))
+    );
+    Ok(())
+}
+
+#[test]
+fn numerals_are_judged_against_the_limit_text(rt: HostRuntime) -> Result<(), Fail> {
+    let alloc = rt.alloc();
+    let too_long = Fault::TextTooLong;
+    let mut heap = Heap::make(
+        alloc,
+        HeapLimits {
+            cells: 4,
+            units: 10,
+            text: 1,
+        },
+    )?;
+    to_text(alloc, &mut heap, number(7))?;
+    let rows = [
+        (number(8), Ok(())),
+        (number(12), Err(Halt::Fault(too_long))),
+        (number(-1), Err(Halt::Fault(too_long))),
+    ];
+    for (v, room) in rows {
+        if let Value::Num(whole) = v {
+            assert_eq!(rt; room_for_numeral(&heap, whole), room, "{v:?}");
+        }
+    }
+    assert_eq!(rt;
+        to_text(alloc, &mut heap, number(12)),
+        Err(Halt::Fault(too_long))
+    );
+    let error = heap.new_error(alloc, Class::Error, number(12));
+    assert_eq!(rt; error, Err(Abrupt::Fault(too_long)));
+    assert_eq!(rt;
+        not_in_profile(&heap, number(12)),
+        Err(Abrupt::Fault(too_long))
+    );
+    assert_eq!(rt;
+        (heap.pool().used(), heap.pool().free(), heap.used_cells()),
+        (1, 9, 0)
+    );
+    Ok(())
+}
+
+#[test]
+fn errors_are_made_in_one_step(rt: HostRuntime) -> Result<(), Fail> {
+    let alloc = rt.alloc();
+    let mut heap = Heap::make(
+        alloc,
+        HeapLimits {
+            cells: 5,
+            units: 3,
+            text: 9,
+        },
+    )?;
+    let first = heap.new_error(alloc, Class::Error, Value::Null);
+    assert_eq!(rt; first, Ok(Value::Object(128)));
+    assert_eq!(rt;
+        heap.new_error(alloc, Class::RangeError, number(1_000)),
+        Err(Abrupt::Limit(Limit::Units))
+    );
+    let second = heap.new_error(alloc, Class::RangeError, number(-10));
+    assert_eq!(rt; second, Ok(Value::Object(129)));
+    let Some(Value::Text(message)) = heap.own(129, FixedText::Message.span()) else {
+        return Err(Fail::new("no message"));
+    };
+    assert_eq!(rt; heap.pool().get(message), [0x2D, 0x31, 0x30].as_slice());
+    assert_eq!(rt;
+        heap.new_error(alloc, Class::Error, Value::Null),
+        Err(Abrupt::Limit(Limit::Cells))
+    );
+    assert_eq!(rt; (heap.used_cells(), heap.objects()), (4, 2));
+    assert_eq!(rt; holder_of(&heap, 128), Holder::OtherObject);
+    Ok(())
+}
+
+#[test]
+fn elements_are_pushed_and_copied_together(rt: HostRuntime) -> Result<(), Fail> {
+    let alloc = rt.alloc();
+    let mut heap = Heap::make(alloc, LIMITS)?;
+    let array = heap.new_array(alloc, &[])?;
+    heap.push_items(alloc, array, &[Value::Null, Value::NaN, number(3)])?;
+    let piece = heap.new_piece(alloc, array, 1, 9)?;
+    assert_eq!(rt; (heap.count(array), heap.count(piece)), (3, 2));
+    assert_eq!(rt; heap.item(piece, 1), Some(number(3)));
+    assert_eq!(rt;
+        heap.push_items(alloc, piece, &[Value::Null, Value::Null]),
+        Err(Refused::Limit(Limit::Cells))
+    );
+    assert_eq!(rt; (heap.used_cells(), heap.count(piece)), (7, 2));
+    Ok(())
+}
+
+#[test]
+fn fixed_texts_cost_nothing(rt: HostRuntime) -> Result<(), Fail> {
+    let alloc = rt.alloc();
+    let mut heap = Heap::make(alloc, LIMITS)?;
+    let fault = Halt::Fault(Fault::ObjectToPrimitive);
+    let rows = [
+        (Value::Undefined, Ok(FixedText::Undefined.span())),
+        (Value::Null, Ok(FixedText::Null.span())),
+        (Value::Bool(true), Ok(FixedText::True.span())),
+        (Value::Bool(false), Ok(FixedText::False.span())),
+        (Value::NaN, Ok(FixedText::NaN.span())),
+        (Value::Object(0), Err(fault)),
+    ];
+    for (v, text) in rows {
+        assert_eq!(rt; to_text(alloc, &mut heap, v), text, "{v:?}");
+    }
+    assert_eq!(rt; heap.pool().used(), 0);
+    assert_eq!(rt;
+        Abrupt::from(fault),
+        Abrupt::Fault(Fault::ObjectToPrimitive)
+    );
+    Ok(())
+}
+
+#[test]
+fn numbers_of_32_bits(rt: HostRuntime) {
+    let rows = [
+        (numeral(0), 0, 0),
+        (Numeral::NaN, 0, 0),
+        (numeral(-1), 4_294_967_295, -1),
+        (numeral(2_147_483_647), 2_147_483_647, 2_147_483_647),
+        (numeral(2_147_483_648), 2_147_483_648, -2_147_483_648),
+        (numeral(-2_147_483_649), 2_147_483_647, 2_147_483_647),
+        (numeral(4_294_967_297), 1, 1),
+        (numeral(9_007_199_254_740_991), 4_294_967_295, -1),
+        (numeral(-9_007_199_254_740_991), 1, 1),
+    ];
+    for (n, unsigned, signed) in rows {
+        assert_eq!(rt; (to_uint32(n), to_int32(n)), (unsigned, signed), "{n:?}");
+    }
+    assert_eq!(rt;
+        (to_integer(numeral(-7)), to_integer(Numeral::NaN)),
+        (-7, 0)
+    );
+}
+
+#[test]
+fn values_are_converted(rt: HostRuntime) -> Result<(), Fail> {
+    let mut heap = Heap::make(rt.alloc(), LIMITS)?;
+    let seven = heap.pool_mut().add(rt.alloc(), &[0x20, 0x37])?;
+    let half = heap.pool_mut().add(rt.alloc(), &[0x2E, 0x35])?;
+    let rows = [
+        (Value::Undefined, false, Ok(Numeral::NaN)),
+        (Value::Null, false, Ok(numeral(0))),
+        (Value::Bool(false), false, Ok(numeral(0))),
+        (Value::Bool(true), true, Ok(numeral(1))),
+        (number(0), false, Ok(numeral(0))),
+        (number(-3), true, Ok(numeral(-3))),
+        (Value::NaN, false, Ok(Numeral::NaN)),
+        (Value::Text(FixedText::Empty.span()), false, Ok(numeral(0))),
+        (Value::Text(FixedText::On.span()), true, Ok(Numeral::NaN)),
+        (Value::Text(seven), true, Ok(numeral(7))),
+        (Value::Text(half), true, Err(Fault::NotWhole)),
+        (Value::Object(200), true, Err(Fault::ObjectToPrimitive)),
+    ];
+    for (v, boolean, number) in rows {
+        assert_eq!(rt;
+            (to_boolean(&heap, v), to_number(&heap, v)),
+            (boolean, number),
+            "{v:?}"
+        );
+        let same = !matches!(v, Value::NaN);
+        assert_eq!(rt; strictly_equal(&heap, v, v), same, "{v:?}");
+        assert!(rt; !strictly_equal(&heap, v, Value::Object(0)), "{v:?}");
+    }
+    Ok(())
+}
