@@ -1,0 +1,4 @@
+pub mod Actors
+pub mod Drivers
+pub mod Driving
+pub mod Openings

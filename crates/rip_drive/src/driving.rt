@@ -1,0 +1,44 @@
+ghost use Rattle.std.specs.Prelude.{[], All, IfErr, IfOk};
+ghost use Rattle.rip_client.specs.Sizes.{IsGesture};
+ghost use Rattle.rip_course.specs.Services.{RepliesAs, service_of};
+ghost use Rattle.rip_drive.specs.Driving.{IsRefusal, IsTrace};
+
+use crate::driver::{DriveRefusal, reason_of, tell_all};
+use crate::page_actor::PageActor;
+use rip_app::App;
+use rip_runs::Close;
+use rip_said::{write_ended, write_opening};
+use rip_store::Store;
+use rip_trace::Gestures;
+use rip_values::{Bytes, NoMemory, Writer};
+use std::alloc::Global;
+
+/// The random seed of the session.
+const SEED: u32 = 3;
+
+/// The trace of the gestures: the batches of a truthful client in a session of the application.
+pub fn drive(alloc: Global, app: App, gestures: &Gestures) -> Result<Bytes, DriveRefusal>
+    requires { All (λ lined. IsGesture lined.gesture) gestures.now }
+    ensures told { IfOk result (λ text. IsTrace app gestures.now text) }
+    ensures refused { IfErr result (λ why. IsRefusal app gestures.now why) }
+{
+    let mut store = store_of(alloc, &app)?;
+    let mut actor = PageActor::make(alloc, app, SEED)?;
+    let mut text = Writer::new(alloc);
+    write_opening(&mut text, 0)?;
+    match actor.open(alloc, &mut store)?.close {
+        Close::Fine => tell_all(alloc, actor, store, text, gestures.as_slice()),
+        Close::Stopped { stop, .. } => {
+            write_ended(&mut text, reason_of(stop), 0)?;
+            Ok(text.into_bytes())
+        }
+        Close::Refused { .. } | Close::Mismatch { .. } => Err(DriveRefusal::Memory),
+    }
+}
+
+/// The store of an application, before any call.
+fn store_of(alloc: Global, app: &App) -> Result<Store, NoMemory>
+    ensures { IfOk result (λ store. RepliesAs store (service_of app.now.manifest.functions) []) }
+{
+    Store::make(alloc, app.functions())
+}
