@@ -8,7 +8,7 @@ const fs = require("fs");
 const path = require("path");
 const { JSDOM } = require("jsdom");
 
-const text = fs.readFileSync(path.join(__dirname, "../crates/rip_forms/src/tests.rt"), "utf8");
+const text = fs.readFileSync(path.join(__dirname, "../crates/tests_document/src/forms.rt"), "utf8");
 
 function part(from, to) {
   const start = text.indexOf(from);

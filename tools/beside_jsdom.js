@@ -1,4 +1,4 @@
-// Compares the flows of events that rip_events has in its tests with the calls that jsdom makes for them.
+// Compares the flows of events that the tests of rip_events have with the calls that jsdom makes for them.
 //
 //   NODE_PATH=/usr/share/nodejs node tools/beside_jsdom.js
 //
@@ -9,7 +9,7 @@ const path = require("path");
 const { JSDOM } = require("jsdom");
 
 const NODES = 5;
-const text = fs.readFileSync(path.join(__dirname, "../crates/rip_events/src/tests.rt"), "utf8");
+const text = fs.readFileSync(path.join(__dirname, "../crates/tests_document/src/events.rt"), "utf8");
 
 function listenersOf(part) {
   const found = [...part.matchAll(/On\((\d+), (\d+), (true|false)\)/g)];

@@ -34,7 +34,7 @@ def text_of(path):
 
 
 def is_test(path):
-    return "tests" in os.path.relpath(path, TOP).split("/src/")[-1]
+    return "tests" in os.path.relpath(path, TOP)
 
 
 def sizes(crate):

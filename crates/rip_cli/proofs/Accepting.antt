@@ -1,5 +1,5 @@
 -- A run whose files are accepted does what the words ask for.
-use Rattle.std.proofs.Common.{◌≡◌, ◌≢◌, ℕ, ◌<◌, ◌≤◌, ◌⊎◌, inl, inr, List, [], ◌∷◌, length, Option, Some, None, refl, sym, ap, ◌∙◌, subst, arith, codes}
+use Rattle.std.proofs.Common.{◌≡◌, ℕ, ◌<◌, ◌≤◌, ◌⊎◌, inl, inr, List, [], ◌∷◌, length, Option, Some, None, refl, sym, ap, ◌∙◌, subst, arith, codes}
 use Rattle.std.specs.Prelude.{IsSomeAnd}
 use Rattle.rip_outer.specs.Reading.{contents_of}
 use Rattle.rip_outer.specs.declared.reading.NamedFile.{NamedFile}
@@ -8,21 +8,24 @@ use Rattle.rip_words.specs.Commands.{Task, checks, replays, serves, drives, gene
 use Rattle.rip_words.proofs.WordLemmas.{tasks}
 use Rattle.rip_app.specs.App.{Loaded, AppOf, IsAppRefusal}
 use Rattle.rip_app.specs.declared.refusal.AppRefusal.{AppRefusal}
-use Rattle.rip_app.proofs.Answering.{is_never_both}
-use Rattle.rip_trace.specs.Traces.{Given, IsTrace, IsRefusedAt}
+use Rattle.rip_app.proofs.Answering.{has_one_app, is_never_both}
+use Rattle.rip_trace.specs.Gestures.{AreGestures, HasNoLineAt}
+use Rattle.rip_trace.proofs.GestureTexts.{gestures_one}
+use Rattle.rip_drive.specs.Driving.{DrivesApp}
+use Rattle.rip_drive.specs.Driving as driving
+use Rattle.rip_trace.specs.Traces.{IsRefusedAt}
 use Rattle.rip_cli.specs.Run.{Told, Ran}
 use Rattle.rip_cli.specs.Words.{IsOffered}
 use Rattle.rip_cli.specs.Lines.{app_line}
-use Rattle.rip_cli.specs.Input.{IsContentOf, IsAppOf, IsReplayOf, IsInputOf, Refuses, RefusesApp, RefusesTrace, app_files, replay_files, first_too_long}
-use Rattle.rip_cli.specs.Laws.{HasBytes, HoldApp, HoldTrace, AreAccepted, AcceptedIsDone}
+use Rattle.rip_cli.specs.Input.{IsContentOf, IsAppOf, AreThreeOf, IsInputOf, AreRefusedAt, Refuses, RefusesApp, RefusesGestures, RefusesTrace, first_too_long}
+use Rattle.rip_cli.specs.Laws.{HasBytes, HoldApp, HoldGestures, HoldTrace, AreAccepted, AcceptedIsDone}
 use Rattle.rip_cli.specs.declared.input.Content.{Content}
 use Rattle.rip_cli.specs.declared.input.Content.TheVariants.{Bytes, TooLong}
 use Rattle.rip_cli.specs.declared.input.AppInput.{AppInput}
-use Rattle.rip_cli.specs.declared.input.ReplayInput.{ReplayInput}
+use Rattle.rip_cli.specs.declared.input.ThreeFiles.{ThreeFiles}
 use Rattle.rip_cli.specs.declared.input.Input.{Input}
-use Rattle.rip_cli.specs.declared.input.Input.TheVariants.{Check, Replay, Serve}
-use Rattle.rip_cli.specs.declared.status.Status.{Status}
-use Rattle.rip_cli.specs.declared.status.Status.TheVariants.{Read, BadWords, BadInput, TurnsSpent, Outside, NoMemory}
+use Rattle.rip_cli.specs.declared.input.Input.TheVariants.{Check, Replay, Serve, Drive}
+use Rattle.rip_cli.specs.declared.status.Status.TheVariants.{BadWords, BadInput}
 use Rattle.rip_trace.proofs.TraceLemmas.{refusals}
 
 -- what was read of a file is what it holds
@@ -51,12 +54,12 @@ none_long bytes more (Bytes x) (Bytes y) p m = refl
 none_long bytes more TooLong manifest p m = cc
 none_long bytes more page TooLong p m = cc
 
-none_longer : (bytes more last : List ℕ) (page manifest trace : Content) → page ≡ Bytes bytes → manifest ≡ Bytes more → trace ≡ Bytes last
-    → first_too_long ((codes "page", page) ∷ (codes "app", manifest) ∷ (codes "trace", trace) ∷ []) ≡ None
-none_longer bytes more last (Bytes x) (Bytes y) (Bytes z) p m t = refl
-none_longer bytes more last TooLong manifest trace p m t = cc
-none_longer bytes more last page TooLong trace p m t = cc
-none_longer bytes more last page manifest TooLong p m t = cc
+none_longer : (word bytes more last : List ℕ) (page manifest third : Content) → page ≡ Bytes bytes → manifest ≡ Bytes more → third ≡ Bytes last
+    → first_too_long ((codes "page", page) ∷ (codes "app", manifest) ∷ (word, third) ∷ []) ≡ None
+none_longer word bytes more last (Bytes x) (Bytes y) (Bytes z) p m t = refl
+none_longer word bytes more last TooLong manifest third p m t = cc
+none_longer word bytes more last page TooLong third p m t = cc
+none_longer word bytes more last page manifest TooLong p m t = cc
 
 some_long : (x : Option (List ℕ)) (word : List ℕ) → x ≡ None → x ≡ Some word → ⊥
 some_long x word none some = cc
@@ -75,17 +78,45 @@ module _ (files : List NamedFile) (page manifest : List ℕ) (hold : HoldApp fil
       no_line hold.page_bytes hold.manifest_bytes hold.app refused.refusal line hold.is
       (subst (λ m. IsAppRefusal hold.page_bytes m refused.refusal) two (subst (λ b. IsAppRefusal b refused.manifest refused.refusal) one refused.refused)) refused.text
 
-trace_stands : (files : List NamedFile) (trace : List ℕ) (hold : HoldTrace files trace) (i : ReplayInput) (line : List ℕ)
-    → i.trace ≡ Bytes hold.bytes → RefusesTrace i line → ⊥
+trace_stands : (files : List NamedFile) (trace : List ℕ) (hold : HoldTrace files trace) (i : ThreeFiles) (line : List ℕ)
+    → i.third ≡ Bytes hold.bytes → RefusesTrace i line → ⊥
 trace_stands files trace hold i line is refused =
-    let same = same_bytes i.trace hold.bytes refused.trace is refused.is_trace in
+    let same = same_bytes i.third hold.bytes refused.trace is refused.is_trace in
     refusals.no_trace hold.bytes refused.number hold.given hold.is (subst (λ b. IsRefusedAt b refused.number) same refused.refused)
 
-both_stand : (files : List NamedFile) (page manifest trace : List ℕ) (app : HoldApp files page manifest) (hold : HoldTrace files trace) (i : ReplayInput) (line : List ℕ)
-    → IsReplayOf (Some files) page manifest trace i → RefusesApp i.app line ⊎ RefusesTrace i line → ⊥
+both_stand : (files : List NamedFile) (page manifest trace : List ℕ) (app : HoldApp files page manifest) (hold : HoldTrace files trace) (i : ThreeFiles) (line : List ℕ)
+    → AreThreeOf (Some files) page manifest trace i → RefusesApp i.app line ⊎ RefusesTrace i line → ⊥
 both_stand files page manifest trace app hold i line contents (inl refused) = app_stands files page manifest app i.app contents.0 line refused
 both_stand files page manifest trace app hold i line contents (inr refused) =
-    trace_stands files trace hold i line (same_content files trace hold.bytes i.trace hold.has contents.1) refused
+    trace_stands files trace hold i line (same_content files trace hold.bytes i.third hold.has contents.1) refused
+
+-- gestures that are legal are not refused
+gestures_stand : (files : List NamedFile) (page manifest gestures : List ℕ) (app : HoldApp files page manifest) (hold : HoldGestures files app.app gestures) (i : ThreeFiles) (line : List ℕ)
+    → AreThreeOf (Some files) page manifest gestures i → RefusesApp i.app line ⊎ RefusesGestures i line → ⊥
+gestures_stand files page manifest gestures app hold i line contents (inl refused) = app_stands files page manifest app i.app contents.0 line refused
+gestures_stand files page manifest gestures app hold i line contents (inr refused) = by refused.refused_at
+  where
+    text_is : i.third ≡ Bytes hold.bytes
+    text_is = same_content files gestures hold.bytes i.third hold.has contents.1
+
+    loaded : AppOf app.page_bytes app.manifest_bytes refused.app
+    loaded =
+        let one = same_bytes i.app.page app.page_bytes refused.is_app.page (page_is files page manifest app i.app contents.0) refused.is_app.is_page in
+        let two = same_bytes i.app.manifest app.manifest_bytes refused.is_app.manifest (manifest_is files page manifest app i.app contents.0) refused.is_app.is_manifest in
+        subst (λ m. AppOf app.page_bytes m refused.app) two (subst (λ b. AppOf b refused.is_app.manifest refused.app) one refused.is_app.application)
+
+    same_app : refused.app ≡ app.app
+    same_app = has_one_app app.page_bytes app.manifest_bytes refused.app app.app loaded app.is
+
+    by : AreRefusedAt refused.app i refused.number → ⊥
+    by (inl none) =
+        let same = same_bytes i.third hold.bytes none.text text_is none.is_text in
+        gestures_one.either hold.bytes refused.number hold.gestures hold.are (subst (λ b. HasNoLineAt b refused.number) same none.none)
+    by (inr illegal) =
+        let same = same_bytes i.third hold.bytes illegal.has.text text_is illegal.has.is_text in
+        let one : illegal.gestures ≡ hold.gestures = gestures_one.gestures hold.bytes illegal.gestures hold.gestures (subst (λ b. AreGestures b illegal.gestures) same illegal.has.are) hold.are in
+        hold.legal illegal.batches refused.number
+        (subst (λ a. DrivesApp a hold.gestures illegal.batches (driving.refused refused.number)) same_app (subst (λ gs. DrivesApp refused.app gs illegal.batches (driving.refused refused.number)) one illegal.drives))
 
 not_refused : (files : List NamedFile) (task : Task) (input : Input) (line : List ℕ) → AreAccepted files task → IsInputOf (Some files) task input
     → Refuses input line → ⊥
@@ -94,27 +125,37 @@ not_refused files (checks page app) (Check i) line hold contents (inl long) =
 not_refused files (checks page app) (Check i) line hold contents (inr form) = app_stands files page app hold i contents line form.1
 not_refused files (checks page app) (Replay i most) line hold contents refuses = contents
 not_refused files (checks page app) (Serve i most) line hold contents refuses = contents
+not_refused files (checks page app) (Drive i) line hold contents refuses = contents
 not_refused files (replays page app trace turns) (Replay i most) line hold contents (inl long) =
-    some_long _ long.0 (none_longer hold.0.page_bytes hold.0.manifest_bytes hold.1.bytes i.app.page i.app.manifest i.trace
+    some_long _ long.0 (none_longer (codes "trace") hold.0.page_bytes hold.0.manifest_bytes hold.1.bytes i.app.page i.app.manifest i.third
     (page_is files page app hold.0 i.app contents.0.0) (manifest_is files page app hold.0 i.app contents.0.0)
-    (same_content files trace hold.1.bytes i.trace hold.1.has contents.0.1)) long.1
+    (same_content files trace hold.1.bytes i.third hold.1.has contents.0.1)) long.1
 not_refused files (replays page app trace turns) (Replay i most) line hold contents (inr form) =
     both_stand files page app trace hold.0 hold.1 i line contents.0 form.1
 not_refused files (replays page app trace turns) (Check i) line hold contents refuses = contents
 not_refused files (replays page app trace turns) (Serve i most) line hold contents refuses = contents
+not_refused files (replays page app trace turns) (Drive i) line hold contents refuses = contents
 not_refused files (serves page app address turns) (Serve i most) line hold contents (inl long) =
     some_long _ long.0 (none_long hold.page_bytes hold.manifest_bytes i.page i.manifest (page_is files page app hold i contents.0) (manifest_is files page app hold i contents.0)) long.1
 not_refused files (serves page app address turns) (Serve i most) line hold contents (inr form) = app_stands files page app hold i contents.0 line form.1
 not_refused files (serves page app address turns) (Check i) line hold contents refuses = contents
 not_refused files (serves page app address turns) (Replay i most) line hold contents refuses = contents
-not_refused files (drives page app gestures) input line hold contents refuses = hold
+not_refused files (serves page app address turns) (Drive i) line hold contents refuses = contents
+not_refused files (drives page app gestures) (Drive i) line hold contents (inl long) =
+    some_long _ long.0 (none_longer (codes "gestures") hold.0.page_bytes hold.0.manifest_bytes hold.1.bytes i.app.page i.app.manifest i.third
+    (page_is files page app hold.0 i.app contents.0) (manifest_is files page app hold.0 i.app contents.0)
+    (same_content files gestures hold.1.bytes i.third hold.1.has contents.1)) long.1
+not_refused files (drives page app gestures) (Drive i) line hold contents (inr form) = gestures_stand files page app gestures hold.0 hold.1 i line contents form.1
+not_refused files (drives page app gestures) (Check i) line hold contents refuses = contents
+not_refused files (drives page app gestures) (Replay i most) line hold contents refuses = contents
+not_refused files (drives page app gestures) (Serve i most) line hold contents refuses = contents
 not_refused files (generates n) input line hold contents refuses = hold
 
 offered_so : (files : List NamedFile) (task : Task) → AreAccepted files task → IsOffered task
 offered_so files (checks page app) hold = tt
 offered_so files (replays page app trace turns) hold = tt
 offered_so files (serves page app address turns) hold = tt
-offered_so files (drives page app gestures) hold = hold
+offered_so files (drives page app gestures) hold = tt
 offered_so files (generates n) hold = hold
 
 module _ (words : List (List ℕ)) (task : Task) (old new : Told) (files : List NamedFile) (held : old.held ≡ Some files) (is : IsTask words task) (hold : AreAccepted files task) where

@@ -1,8 +1,8 @@
 -- How the knocks of a trace come at their door.
-use Rattle.std.proofs.Common.{◌≡◌, ◌+◌, ◌<◌, ◌≤◌, ℕ, zero, suc, Bool, true, false, cond, List, [], ◌∷◌, ◌++◌, map, length, get_or, set, count_by, refl, sym, ap, ◌∙◌, subst, arith}
+use Rattle.std.proofs.Common.{◌≡◌, ◌+◌, ◌<◌, ◌≤◌, ℕ, zero, suc, Bool, true, false, cond, List, [], ◌∷◌, ◌++◌, map, length, get_or, count_by, refl, ap, ◌∙◌, subst, arith}
 use Rattle.std.specs.Prelude.{if◌then◌else◌, replicate}
 use Rattle.std.specs.List.{AllByRecursion}
-use Rattle.rip_outer.specs.Connections.{Told, knocked, is_opening, telling, CountsKnock}
+use Rattle.rip_outer.specs.Connections.{Told, knocked, is_opening}
 use Rattle.rip_outer.specs.KnockLists.{FitsPiece, EachFollows, AreKnocks}
 use Rattle.rip_outer.specs.MemoryDoor.{hushed_by}
 use Rattle.rip_outer.specs.declared.connections.TraceKnock.{TraceKnock}

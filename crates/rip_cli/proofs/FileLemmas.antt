@@ -1,18 +1,22 @@
--- What files that are not too long say of the application and the trace.
-use Rattle.std.proofs.Common.{◌≡◌, ◌∷◌, ℕ, List, [], Option, Some, None, codes, length, refl, inl, inr}
+-- What files that are not too long say of the application, the trace and the gestures.
+use Rattle.std.proofs.Common.{◌≡◌, ◌∷◌, ℕ, List, [], Some, None, codes, refl, inl, inr}
 use Rattle.rip_app.specs.App.{Loaded, AppOf, IsAppRefusal}
 use Rattle.rip_app.specs.declared.refusal.AppRefusal.{AppRefusal}
-use Rattle.rip_trace.specs.Traces.{Given, IsTrace, IsRefusedAt}
+use Rattle.rip_trace.specs.Gestures.{AreGestures}
+use Rattle.rip_trace.specs.Traces.{Given, IsTrace}
+use Rattle.rip_trace.specs.declared.gestures.LinedGesture.{LinedGesture}
+use Rattle.rip_wire.specs.Batches.{Contents}
+use Rattle.rip_drive.specs.Driving.{DrivesApp}
+use Rattle.rip_drive.specs.Driving as driving
 use Rattle.rip_cli.specs.Content.{content_bytes}
-use Rattle.rip_cli.specs.Lines.{app_line, trace_line}
-use Rattle.rip_cli.specs.Input.{IsApp, HasTrace, Refuses, RefusesApp, RefusesTrace, FitsAll, app_files, first_too_long}
-use Rattle.rip_cli.specs.Steps.{IsAppCause, IsTraceCause, IsRefusedBy, app_input, file_word, refusal_line}
+use Rattle.rip_cli.specs.Lines.{app_line}
+use Rattle.rip_cli.specs.Input.{IsApp, HasTrace, HasGestures, Refuses, RefusesApp, FitsAll, app_files, first_too_long}
+use Rattle.rip_cli.specs.Steps.{IsAppCause, IsTraceCause, IsGesturesCause, IsRefusedBy, app_input, file_word, refusal_line}
 use Rattle.rip_cli.specs.declared.input.Content.{Content}
 use Rattle.rip_cli.specs.declared.input.Content.TheVariants.{Bytes, TooLong}
-use Rattle.rip_cli.specs.declared.input.AppInput.{AppInput}
-use Rattle.rip_cli.specs.declared.input.ReplayInput.{ReplayInput}
+use Rattle.rip_cli.specs.declared.input.ThreeFiles.{ThreeFiles}
 use Rattle.rip_cli.specs.declared.input.Input.{Input}
-use Rattle.rip_cli.specs.declared.input.Input.TheVariants.{Check, Replay, Serve}
+use Rattle.rip_cli.specs.declared.input.Input.TheVariants.{Check, Replay, Serve, Drive}
 use Rattle.rip_cli.specs.declared.refusal.Refusal.{Refusal}
 use Rattle.rip_cli.specs.declared.refusal.Refusal.TheVariants as refusal
 
@@ -26,24 +30,25 @@ manifest_fits (Bytes content) (Bytes more) fits = refl
 manifest_fits (Bytes content) TooLong fits = cc
 manifest_fits TooLong manifest fits = cc
 
-front_fits : (page manifest trace : Content) → first_too_long ((codes "page", page) ∷ (codes "app", manifest) ∷ (codes "trace", trace) ∷ []) ≡ None
+front_fits : (word : List ℕ) (page manifest third : Content) → first_too_long ((codes "page", page) ∷ (codes "app", manifest) ∷ (word, third) ∷ []) ≡ None
     → first_too_long ((codes "page", page) ∷ (codes "app", manifest) ∷ []) ≡ None
-front_fits (Bytes content) (Bytes more) trace fits = refl
-front_fits (Bytes content) TooLong trace fits = cc
-front_fits TooLong manifest trace fits = cc
+front_fits word (Bytes content) (Bytes more) third fits = refl
+front_fits word (Bytes content) TooLong third fits = cc
+front_fits word TooLong manifest third fits = cc
 
-last_fits : (page manifest trace : Content) → first_too_long ((codes "page", page) ∷ (codes "app", manifest) ∷ (codes "trace", trace) ∷ []) ≡ None
-    → trace ≡ Bytes (content_bytes trace)
-last_fits (Bytes content) (Bytes more) (Bytes last) fits = refl
-last_fits (Bytes content) (Bytes more) TooLong fits = cc
-last_fits (Bytes content) TooLong trace fits = cc
-last_fits TooLong manifest trace fits = cc
+last_fits : (word : List ℕ) (page manifest third : Content) → first_too_long ((codes "page", page) ∷ (codes "app", manifest) ∷ (word, third) ∷ []) ≡ None
+    → third ≡ Bytes (content_bytes third)
+last_fits word (Bytes content) (Bytes more) (Bytes last) fits = refl
+last_fits word (Bytes content) (Bytes more) TooLong fits = cc
+last_fits word (Bytes content) TooLong third fits = cc
+last_fits word TooLong manifest third fits = cc
 
 -- page and manifest of input that is not too long
 app_fits : (i : Input) → FitsAll i → first_too_long (app_files (app_input i)) ≡ None
 app_fits (Check i) fits = fits
-app_fits (Replay i turns) fits = front_fits i.app.page i.app.manifest i.trace fits
+app_fits (Replay i turns) fits = front_fits (codes "trace") i.app.page i.app.manifest i.third fits
 app_fits (Serve i turns) fits = fits
+app_fits (Drive i) fits = front_fits (codes "gestures") i.app.page i.app.manifest i.third fits
 
 -- they are the application that was loaded
 pub is_app : (i : Input) (app : Loaded) → FitsAll i
@@ -75,9 +80,14 @@ refuses_app i cause line fits refused text =
     }
 
 -- the trace that was read
-pub has_trace : (i : ReplayInput) (turns : ℕ) (given : Given) → FitsAll (Replay i turns) → IsTrace (content_bytes i.trace) given → HasTrace i given
+pub has_trace : (i : ThreeFiles) (turns : ℕ) (given : Given) → FitsAll (Replay i turns) → IsTrace (content_bytes i.third) given → HasTrace i given
 has_trace i turns given fits gives =
-    record { trace = content_bytes i.trace; is_trace = last_fits i.app.page i.app.manifest i.trace fits; gives = gives }
+    record { trace = content_bytes i.third; is_trace = last_fits (codes "trace") i.app.page i.app.manifest i.third fits; gives = gives }
+
+-- the gestures that were read
+pub has_gestures : (i : ThreeFiles) (gestures : List LinedGesture) → FitsAll (Drive i) → AreGestures (content_bytes i.third) gestures → HasGestures i gestures
+has_gestures i gestures fits are =
+    record { text = content_bytes i.third; is_text = last_fits (codes "gestures") i.app.page i.app.manifest i.third fits; are = are }
 
 same_line : (line other : List ℕ) → Some line ≡ Some other → other ≡ line
 same_line line other e = cc
@@ -86,6 +96,7 @@ app_refuses : (i : Input) (line : List ℕ) → FitsAll i → RefusesApp (app_in
 app_refuses (Check i) line fits refused = inr (fits, refused)
 app_refuses (Replay i turns) line fits refused = inr (fits, inl refused)
 app_refuses (Serve i turns) line fits refused = inr (fits, refused)
+app_refuses (Drive i) line fits refused = inr (fits, inl refused)
 
 -- the cause of a refusal refuses the input by its line
 pub refuses_by : (i : Input) (r : Refusal) (line : List ℕ) → IsRefusedBy i r → refusal_line r ≡ Some line → Refuses i line
@@ -93,13 +104,21 @@ refuses_by i (refusal.TooLong file) line cause e = inl (file_word file, cause, s
 refuses_by i (refusal.Application cause) line because e = app_refuses i line because.0 (refuses_app i cause line because.0 because.1 e)
 refuses_by (Check i) (refusal.Trace number) line cause e = absurd cause
 refuses_by (Serve i turns) (refusal.Trace number) line cause e = absurd cause
+refuses_by (Drive i) (refusal.Trace number) line cause e = absurd cause
+refuses_by (Check i) (refusal.Gestures number) line cause e = absurd cause
+refuses_by (Replay i turns) (refusal.Gestures number) line cause e = absurd cause
+refuses_by (Serve i turns) (refusal.Gestures number) line cause e = absurd cause
+refuses_by (Drive i) (refusal.Gestures number) line because e = inr (
+  because.0,
+  inr (record { app = because.1.0; is_app = because.1.1; number = number; refused_at = because.1.2; text = same_line _ line e }),
+)
 refuses_by (Replay i turns) (refusal.Trace number) line because e = inr (
   because.0,
   inr (record {
     app = because.1.0;
     is_app = because.1.1;
-    trace = content_bytes i.trace;
-    is_trace = last_fits i.app.page i.app.manifest i.trace because.0;
+    trace = content_bytes i.third;
+    is_trace = last_fits (codes "trace") i.app.page i.app.manifest i.third because.0;
     number = number;
     refused = because.2;
     text = same_line _ line e;
@@ -112,12 +131,31 @@ pub app_cause : (i : Input) (r : Refusal) → FitsAll i → IsAppCause (app_inpu
 app_cause i (refusal.TooLong file) fits cause = absurd cause
 app_cause i (refusal.Application cause') fits cause = (fits, cause)
 app_cause i (refusal.Trace line) fits cause = absurd cause
+app_cause i (refusal.Gestures line) fits cause = absurd cause
 app_cause i refusal.Memory fits cause = tt
 
 -- and why the trace is, where there is an application
-pub trace_cause : (i : ReplayInput) (turns : ℕ) (app : Loaded) (r : Refusal) → FitsAll (Replay i turns) → IsApp i.app app → IsTraceCause i r
+pub trace_cause : (i : ThreeFiles) (turns : ℕ) (app : Loaded) (r : Refusal) → FitsAll (Replay i turns) → IsApp i.app app → IsTraceCause i r
     → IsRefusedBy (Replay i turns) r
 trace_cause i turns app (refusal.TooLong file) fits is cause = absurd cause
 trace_cause i turns app (refusal.Application cause') fits is cause = absurd cause
 trace_cause i turns app (refusal.Trace line) fits is cause = (fits, (app, is), cause)
+trace_cause i turns app (refusal.Gestures line) fits is cause = absurd cause
 trace_cause i turns app refusal.Memory fits is cause = tt
+
+-- and why the gestures are, in their spelling
+pub gestures_cause : (i : ThreeFiles) (app : Loaded) (r : Refusal) → FitsAll (Drive i) → IsApp i.app app → IsGesturesCause i r → IsRefusedBy (Drive i) r
+gestures_cause i app (refusal.TooLong file) fits is cause = absurd cause
+gestures_cause i app (refusal.Application cause') fits is cause = absurd cause
+gestures_cause i app (refusal.Trace line) fits is cause = absurd cause
+gestures_cause i app (refusal.Gestures line) fits is cause = (
+  fits,
+  (app, is, inl (record { text = content_bytes i.third; is_text = last_fits (codes "gestures") i.app.page i.app.manifest i.third fits; none = cause })),
+)
+gestures_cause i app refusal.Memory fits is cause = tt
+
+-- or as they are driven
+pub illegal_cause : (i : ThreeFiles) (app : Loaded) (gestures : List LinedGesture) (batches : List Contents) (line : ℕ) → FitsAll (Drive i) → IsApp i.app app
+    → AreGestures (content_bytes i.third) gestures → DrivesApp app gestures batches (driving.refused line) → IsRefusedBy (Drive i) (refusal.Gestures line)
+illegal_cause i app gestures batches line fits is are drives =
+    (fits, (app, is, inr (record { gestures = gestures; has = has_gestures i gestures fits are; batches = batches; drives = drives })))

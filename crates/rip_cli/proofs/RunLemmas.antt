@@ -1,5 +1,5 @@
 -- What the steps of a run say of the whole run.
-use Rattle.std.proofs.Common.{◌≡◌, ◌⊎◌, ℕ, List, [], Option, refl, sym, append-nil, inl, inr}
+use Rattle.std.proofs.Common.{◌≡◌, ℕ, List, [], Option, refl, sym, append-nil, inl, inr}
 use Rattle.rip_outer.proofs.Composing.{Front-none}
 use Rattle.rip_outer.specs.declared.reading.NamedFile.{NamedFile}
 use Rattle.rip_words.specs.Commands.{Task, IsTask}

@@ -1,5 +1,5 @@
 -- What serving says of what was done for the input.
-use Rattle.std.proofs.Common.{◌≡◌, ◌⊎◌, ◌+◌, ◌-◌, ◌^◌, min, ℕ, List, Option, Some, None, inl, inr, refl, sym, ap, ◌∙◌, subst, arith}
+use Rattle.std.proofs.Common.{◌≡◌, ℕ, List, Option, Some, None, inl, inr, refl, sym, ap, ◌∙◌, subst, arith}
 use Rattle.std.specs.Prelude.{Result, Ok, Err, IfOk}
 use Rattle.rip_outer.specs.Moments.{ClockState, WordsState, new_clock, moment_at, new_words, word_at}
 use Rattle.rip_outer.specs.Outside.{Rose}
@@ -12,17 +12,15 @@ use Rattle.rip_turn.specs.Turning.{Outer, outer, source, site_of}
 use Rattle.rip_serve.specs.Serving.{Serves, NoFaults, OneFault}
 use Rattle.rip_serve.specs.Legal.{IsLegal}
 use Rattle.rip_serve.specs.declared.serving.Stop.{Stop}
-use Rattle.rip_serve.specs.declared.serving.Stop.TheVariants as stop
 use Rattle.rip_session.specs.Application.{meaning_of_app}
 use Rattle.rip_cli.specs.Input.{IsApp, HasTrace}
-use Rattle.rip_cli.specs.Service.{IsStop, ServesApp, ServesDoor, ServesTrace, Replayed, site_of_app, brought}
+use Rattle.rip_cli.specs.Service.{IsStop, ServesApp, Replayed, site_of_app, brought}
 use Rattle.rip_cli.specs.Settling.{Settles, Counts, with_sink}
 use Rattle.rip_cli.specs.Steps.{CountsStatus}
 use Rattle.rip_cli.specs.TraceDoor.{Bringing, left_of}
 use Rattle.rip_cli.specs.declared.input.AppInput.{AppInput}
-use Rattle.rip_cli.specs.declared.input.ReplayInput.{ReplayInput}
-use Rattle.rip_cli.specs.declared.input.Input.{Input}
-use Rattle.rip_cli.specs.declared.input.Input.TheVariants.{Check, Replay, Serve}
+use Rattle.rip_cli.specs.declared.input.ThreeFiles.{ThreeFiles}
+use Rattle.rip_cli.specs.declared.input.Input.TheVariants.{Replay, Serve}
 use Rattle.rip_cli.specs.declared.status.Status.{Status}
 use Rattle.rip_cli.specs.declared.status.Status.TheVariants.{Read, BadWords, BadInput, TurnsSpent, Outside, NoMemory}
 
@@ -73,7 +71,7 @@ module _ (app : Loaded) (given : Given) (turns : ℕ) (how : Stop) (held held_ne
   replay_counts NoMemory stops served = let calm : NoFaults (brought given held faults) served.end = counts_at NoMemory stops served in served.counted ∙ calm.sink
 
   -- what was served to the trace settles the input
-  pub replay_settles : (s : Status) (i : ReplayInput) (rest : Outer) → IsApp i.app app → HasTrace i given → IsStop s how
+  pub replay_settles : (s : Status) (i : ThreeFiles) (rest : Outer) → IsApp i.app app → HasTrace i given → IsStop s how
       → Replayed app given turns how held held_new faults faults_new
       → Settles s (Replay i turns) (with_sink rest held faults) (with_sink rest held_new faults_new)
   replay_settles Read i rest is gives stops served =

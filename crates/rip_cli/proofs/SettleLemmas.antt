@@ -1,5 +1,5 @@
 -- What a line that was put, and a server that was run, say of what was done for the input.
-use Rattle.std.proofs.Common.{◌≡◌, ◌⊎◌, ℕ, List, Option, Some, None, inl, inr, length, refl, sym, ap, ◌∙◌}
+use Rattle.std.proofs.Common.{◌≡◌, ℕ, List, Option, Some, None, inl, inr, length, refl, ap, ◌∙◌}
 use Rattle.rip_app.specs.App.{Loaded, AppOf}
 use Rattle.rip_turn.specs.Turning.{Outer}
 use Rattle.rip_serve.specs.Serving.{OnlyPuts}
@@ -9,8 +9,10 @@ use Rattle.rip_cli.specs.Input.{IsCount, Refuses, FitsAll}
 use Rattle.rip_cli.specs.Steps.{IsRefusedBy, PutsLine, PutsLineOf, CountsStatus, refusal_line}
 use Rattle.rip_cli.specs.Settling.{Settles, Counts, with_sink}
 use Rattle.rip_cli.specs.declared.input.AppInput.{AppInput}
+use Rattle.rip_cli.specs.declared.input.ThreeFiles.{ThreeFiles}
+use Rattle.rip_cli.specs.Service.{IsTraceOf}
 use Rattle.rip_cli.specs.declared.input.Input.{Input}
-use Rattle.rip_cli.specs.declared.input.Input.TheVariants.{Check, Replay, Serve}
+use Rattle.rip_cli.specs.declared.input.Input.TheVariants.{Check, Drive}
 use Rattle.rip_cli.specs.declared.refusal.Refusal.{Refusal}
 use Rattle.rip_cli.specs.declared.status.Status.{Status}
 use Rattle.rip_cli.specs.declared.status.Status.TheVariants.{Read, BadWords, BadInput, TurnsSpent, Outside, NoMemory}
@@ -84,3 +86,14 @@ module _ (i : AppInput) (rest : Outer) (held held_new : Option (List ℕ)) (faul
   count_settles s app fits application puts counts =
       count_line_settles s (count_line (length app.page.nodes) (length app.program.grove.roots))
       (record { app = app; is_app = is_app (Check i) app fits application; text = refl }) puts counts
+
+module _ (i : ThreeFiles) (rest : Outer) (held held_new : Option (List ℕ)) (faults faults_new : ℕ) where
+  -- what was put of the trace of a client settles the input
+  pub trace_settles : (s : Status) (text : List ℕ) → IsTraceOf i text → PutsLine Read s text held held_new → CountsStatus s faults faults_new
+      → Settles s (Drive i) (with_sink rest held faults) (with_sink rest held_new faults_new)
+  trace_settles Read text is puts counts = (text, is, puts.1)
+  trace_settles BadWords text is puts counts = cc
+  trace_settles BadInput text is puts counts = cc
+  trace_settles TurnsSpent text is puts counts = absurd puts
+  trace_settles Outside text is puts counts = inr (text, is, puts)
+  trace_settles NoMemory text is puts counts = inl (same_sink rest held held_new faults faults_new puts counts)

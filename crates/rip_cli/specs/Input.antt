@@ -3,17 +3,21 @@ use Rattle.std.specs.Prelude.{◌≡◌, ◌≤◌, ◌∷◌, ◌⊎◌, ℕ, L
 use Rattle.rip_outer.specs.Reading.{IsContents, IsTooLong}
 use Rattle.rip_outer.specs.declared.reading.NamedFile.{NamedFile}
 use Rattle.rip_outer.specs.declared.reading.TheConstants.{MAX_FILE}
-use Rattle.rip_words.specs.Commands.{Task, checks, replays, serves}
+use Rattle.rip_words.specs.Commands.{Task, checks, replays, serves, drives}
 use Rattle.rip_app.specs.App.{Loaded, AppOf, IsAppRefusal}
 use Rattle.rip_app.specs.declared.refusal.AppRefusal.{AppRefusal}
+use Rattle.rip_trace.specs.Gestures.{AreGestures, HasNoLineAt}
 use Rattle.rip_trace.specs.Traces.{Given, IsTrace, IsRefusedAt}
-use Rattle.rip_cli.specs.Lines.{count_line, too_long_line, app_line, trace_line}
+use Rattle.rip_trace.specs.declared.gestures.LinedGesture.{LinedGesture}
+use Rattle.rip_wire.specs.Batches.{Contents}
+use Rattle.rip_drive.specs.Driving.{DrivesApp, refused}
+use Rattle.rip_cli.specs.Lines.{count_line, too_long_line, app_line, trace_line, gestures_line}
 use Rattle.rip_cli.specs.declared.input.Content.{Content}
 use Rattle.rip_cli.specs.declared.input.Content.TheVariants.{Bytes, TooLong}
 use Rattle.rip_cli.specs.declared.input.AppInput.{AppInput}
-use Rattle.rip_cli.specs.declared.input.ReplayInput.{ReplayInput}
+use Rattle.rip_cli.specs.declared.input.ThreeFiles.{ThreeFiles}
 use Rattle.rip_cli.specs.declared.input.Input.{Input}
-use Rattle.rip_cli.specs.declared.input.Input.TheVariants.{Check, Replay, Serve}
+use Rattle.rip_cli.specs.declared.input.Input.TheVariants.{Check, Replay, Serve, Drive}
 
 -- ---- files
 
@@ -26,15 +30,16 @@ IsContentOf held name TooLong = IsTooLong held name
 abbrev pub IsAppOf : Option (List NamedFile) → List ℕ → List ℕ → AppInput → Type 0
 IsAppOf held page manifest i = IsContentOf held page i.page × IsContentOf held manifest i.manifest
 
--- and of a trace
-abbrev pub IsReplayOf : Option (List NamedFile) → List ℕ → List ℕ → List ℕ → ReplayInput → Type 0
-IsReplayOf held page manifest trace i = IsAppOf held page manifest i.app × IsContentOf held trace i.trace
+-- and of a third file
+abbrev pub AreThreeOf : Option (List NamedFile) → List ℕ → List ℕ → List ℕ → ThreeFiles → Type 0
+AreThreeOf held page manifest third i = IsAppOf held page manifest i.app × IsContentOf held third i.third
 
 -- what the files that a task names hold, and the turns that it grants
 abbrev pub IsInputOf : Option (List NamedFile) → Task → Input → Type 0
 IsInputOf held (checks page app) (Check i) = IsAppOf held page app i
-IsInputOf held (replays page app trace turns) (Replay i most) = IsReplayOf held page app trace i × (most ≡ turns)
+IsInputOf held (replays page app trace turns) (Replay i most) = AreThreeOf held page app trace i × (most ≡ turns)
 IsInputOf held (serves page app address turns) (Serve i most) = IsAppOf held page app i × (most ≡ turns)
+IsInputOf held (drives page app gestures) (Drive i) = AreThreeOf held page app gestures i
 IsInputOf held task input = ⊥
 
 -- ---- lengths
@@ -43,13 +48,14 @@ IsInputOf held task input = ⊥
 abbrev pub app_files : AppInput → List (List ℕ × Content)
 app_files i = (codes "page", i.page) ∷ (codes "app", i.manifest) ∷ []
 
-abbrev pub replay_files : ReplayInput → List (List ℕ × Content)
-replay_files i = (codes "page", i.app.page) ∷ (codes "app", i.app.manifest) ∷ (codes "trace", i.trace) ∷ []
+abbrev pub three_files : List ℕ → ThreeFiles → List (List ℕ × Content)
+three_files third i = (codes "page", i.app.page) ∷ (codes "app", i.app.manifest) ∷ (third, i.third) ∷ []
 
 abbrev pub files_of : Input → List (List ℕ × Content)
 files_of (Check i) = app_files i
-files_of (Replay i turns) = replay_files i
+files_of (Replay i turns) = three_files (codes "trace") i
 files_of (Serve i turns) = app_files i
+files_of (Drive i) = three_files (codes "gestures") i
 
 -- the word, where its file is too long, and else another
 abbrev pub word_or : List ℕ → Content → Option (List ℕ) → Option (List ℕ)
@@ -65,7 +71,7 @@ first_too_long (file ∷ files) = word_or file.0 file.1 (first_too_long files)
 abbrev pub FitsAll : Input → Type 0
 FitsAll i = first_too_long (files_of i) ≡ None
 
--- ---- the application and the trace
+-- ---- the application, and the trace or the gestures
 
 -- the page and the manifest are this application
 pub record IsApp (i : AppInput) (app : Loaded) : Type 0 where
@@ -86,20 +92,51 @@ pub record RefusesApp (i : AppInput) (line : List ℕ) : Type 0 where
   pub text : app_line refusal ≡ Some line
 
 -- the trace gives these knocks, moments and words
-pub record HasTrace (i : ReplayInput) (given : Given) : Type 0 where
+pub record HasTrace (i : ThreeFiles) (given : Given) : Type 0 where
   pub trace : List ℕ
-  pub is_trace : i.trace ≡ Bytes trace
+  pub is_trace : i.third ≡ Bytes trace
   pub gives : IsTrace trace given
 
 -- or it is none, from the line on that is told, where there is an application
-pub record RefusesTrace (i : ReplayInput) (line : List ℕ) : Type 0 where
+pub record RefusesTrace (i : ThreeFiles) (line : List ℕ) : Type 0 where
   pub app : Loaded
   pub is_app : IsApp i.app app
   pub trace : List ℕ
-  pub is_trace : i.trace ≡ Bytes trace
+  pub is_trace : i.third ≡ Bytes trace
   pub number : ℕ
   pub refused : IsRefusedAt trace number
   pub text : line ≡ trace_line number
+
+-- the file of gestures has these
+pub record HasGestures (i : ThreeFiles) (gestures : List LinedGesture) : Type 0 where
+  pub text : List ℕ
+  pub is_text : i.third ≡ Bytes text
+  pub are : AreGestures text gestures
+
+-- its line of this number is the first that is none
+pub record HasNoGestureAt (i : ThreeFiles) (number : ℕ) : Type 0 where
+  pub text : List ℕ
+  pub is_text : i.third ≡ Bytes text
+  pub none : HasNoLineAt text number
+
+-- the gesture of this line is the first that is not legal at its place, where the application is driven
+pub record HasIllegalAt (app : Loaded) (i : ThreeFiles) (number : ℕ) : Type 0 where
+  pub gestures : List LinedGesture
+  pub has : HasGestures i gestures
+  pub batches : List Contents
+  pub drives : DrivesApp app gestures batches (refused number)
+
+-- the gestures are refused at this line: all lines are judged before the first gesture
+abbrev pub AreRefusedAt : Loaded → ThreeFiles → ℕ → Type 0
+AreRefusedAt app i number = HasNoGestureAt i number ⊎ HasIllegalAt app i number
+
+-- they are refused, at the line that is told, where there is an application
+pub record RefusesGestures (i : ThreeFiles) (line : List ℕ) : Type 0 where
+  pub app : Loaded
+  pub is_app : IsApp i.app app
+  pub number : ℕ
+  pub refused_at : AreRefusedAt app i number
+  pub text : line ≡ gestures_line number
 
 -- ---- refusals
 
@@ -108,6 +145,7 @@ abbrev pub RefusesForm : Input → List ℕ → Type 0
 RefusesForm (Check i) line = RefusesApp i line
 RefusesForm (Replay i turns) line = RefusesApp i.app line ⊎ RefusesTrace i line
 RefusesForm (Serve i turns) line = RefusesApp i line
+RefusesForm (Drive i) line = RefusesApp i.app line ⊎ RefusesGestures i line
 
 -- the line for input of which a file is too long: it names the first one
 abbrev pub RefusesLength : Input → List ℕ → Type 0

@@ -5,7 +5,11 @@ use Rattle.rip_outer.specs.declared.reading.NamedFile.{NamedFile}
 use Rattle.rip_outer.specs.declared.reading.TheConstants.{MAX_FILE}
 use Rattle.rip_words.specs.Commands.{Task, checks, replays, serves, drives, generates, IsTask}
 use Rattle.rip_app.specs.App.{Loaded, AppOf}
+use Rattle.rip_trace.specs.Gestures.{AreGestures}
 use Rattle.rip_trace.specs.Traces.{Given, IsTrace}
+use Rattle.rip_trace.specs.declared.gestures.LinedGesture.{LinedGesture}
+use Rattle.rip_wire.specs.Batches.{Contents}
+use Rattle.rip_drive.specs.Driving.{DrivesApp, refused}
 use Rattle.rip_cli.specs.Run.{Told, Ran}
 use Rattle.rip_cli.specs.declared.status.Status.{Status}
 use Rattle.rip_cli.specs.declared.status.Status.TheVariants.{BadWords, BadInput}
@@ -30,12 +34,20 @@ pub record HoldTrace (files : List NamedFile) (trace : List ℕ) : Type 0 where
   pub given : Given
   pub is : IsTrace bytes given
 
--- the files that a task names are an application, and a trace where it names one
+-- the file of this name has gestures, each of which is legal at its place where the application is driven
+pub record HoldGestures (files : List NamedFile) (app : Loaded) (name : List ℕ) : Type 0 where
+  pub bytes : List ℕ
+  pub has : HasBytes files name bytes
+  pub gestures : List LinedGesture
+  pub are : AreGestures bytes gestures
+  pub legal : (batches : List Contents) (line : ℕ) → ¬ DrivesApp app gestures batches (refused line)
+
+-- the files that a task names are an application, and a trace or legal gestures where it names them
 abbrev pub AreAccepted : List NamedFile → Task → Type 0
 AreAccepted files (checks page app) = HoldApp files page app
 AreAccepted files (replays page app trace turns) = HoldApp files page app × HoldTrace files trace
 AreAccepted files (serves page app address turns) = HoldApp files page app
-AreAccepted files (drives page app gestures) = ⊥
+AreAccepted files (drives page app gestures) = (hold : HoldApp files page app) × HoldGestures files hold.app gestures
 AreAccepted files (generates n) = ⊥
 
 -- a run whose files are accepted does what the words ask for: it refuses neither them nor the files

@@ -38,6 +38,10 @@ script_line number kind place =
 abbrev pub trace_line : ℕ → List ℕ
 trace_line line = codes "refused trace " ++ decimal line ++ codes "\n"
 
+-- the line for gestures: the first line that is none, or whose gesture is not legal at its place, counted from 1
+abbrev pub gestures_line : ℕ → List ℕ
+gestures_line line = codes "refused gestures " ++ decimal line ++ codes "\n"
+
 -- the words for what is wrong with a page
 abbrev pub page_word : PageKind → List ℕ
 page_word page.NotUtf8 = codes "NotUtf8"

@@ -1,9 +1,11 @@
--- What is done for input that is accepted: an application is checked, or served, to a trace or at a door.
-use Rattle.std.specs.Prelude.{◌≡◌, ◌⊎◌, ℕ, List, [], Option, Some, None}
+-- What is done for input that is accepted: an application is checked, or served, to a trace or at a door, or driven by gestures.
+use Rattle.std.specs.Prelude.{◌≡◌, ℕ, List, Option, Some, None}
 use Rattle.rip_outer.specs.Moments.{new_clock, moment_at, new_words, word_at}
 use Rattle.rip_outer.specs.Outside.{Front, also}
 use Rattle.rip_app.specs.App.{Loaded}
 use Rattle.rip_trace.specs.Traces.{Given}
+use Rattle.rip_trace.specs.declared.gestures.LinedGesture.{LinedGesture}
+use Rattle.rip_drive.specs.Driving as driving
 use Rattle.rip_course.specs.Run.{Site}
 use Rattle.rip_course.specs.Services.{service_of}
 use Rattle.rip_server.specs.Acts.{seen}
@@ -13,11 +15,11 @@ use Rattle.rip_serve.specs.Legal.{IsLegal}
 use Rattle.rip_serve.specs.declared.serving.Stop.{Stop}
 use Rattle.rip_serve.specs.declared.serving.Stop.TheVariants as stop
 use Rattle.rip_session.specs.Application.{meaning_of_app}
-use Rattle.rip_cli.specs.Input.{IsApp, HasTrace, IsCount}
+use Rattle.rip_cli.specs.Input.{IsApp, HasTrace, HasGestures, IsCount}
 use Rattle.rip_cli.specs.declared.input.AppInput.{AppInput}
-use Rattle.rip_cli.specs.declared.input.ReplayInput.{ReplayInput}
+use Rattle.rip_cli.specs.declared.input.ThreeFiles.{ThreeFiles}
 use Rattle.rip_cli.specs.declared.input.Input.{Input}
-use Rattle.rip_cli.specs.declared.input.Input.TheVariants.{Check, Replay, Serve}
+use Rattle.rip_cli.specs.declared.input.Input.TheVariants.{Check, Replay, Serve, Drive}
 use Rattle.rip_cli.specs.declared.status.Status.{Status}
 use Rattle.rip_cli.specs.declared.status.Status.TheVariants.{Read, BadWords, BadInput, TurnsSpent, Outside, NoMemory}
 
@@ -72,7 +74,7 @@ pub record Replayed (app : Loaded) (given : Given) (most : ℕ) (how : Stop) (he
   pub never_fails : end.door_faults ≡ 0
 
 -- the application of the files was served to what their trace brings
-pub record ServesTrace (i : ReplayInput) (most : ℕ) (status : Status) (old new : Outer) : Type 0 where
+pub record ServesTrace (i : ThreeFiles) (most : ℕ) (status : Status) (old new : Outer) : Type 0 where
   pub app : Loaded
   pub is_app : IsApp i.app app
   pub given : Given
@@ -92,6 +94,25 @@ PutsCount i TurnsSpent old new = ⊥
 PutsCount i Outside old new = (line : List ℕ) × IsCount i line × Front line old new
 PutsCount i NoMemory old new = (line : List ℕ) × IsCount i line × Front line old new
 
+-- ---- drive
+
+-- the trace of a truthful client of the application of the files, whose user does what the file of gestures says
+pub record IsTraceOf (i : ThreeFiles) (text : List ℕ) : Type 0 where
+  pub app : Loaded
+  pub is_app : IsApp i.app app
+  pub gestures : List LinedGesture
+  pub has : HasGestures i gestures
+  pub driven : driving.IsTrace app gestures text
+
+-- that trace was put, or a front of it, or nothing
+abbrev pub PutsDriven : ThreeFiles → Status → Option (List ℕ) → Option (List ℕ) → Type 0
+PutsDriven i Read old new = (text : List ℕ) × IsTraceOf i text × (new ≡ also text old)
+PutsDriven i BadWords old new = ⊥
+PutsDriven i BadInput old new = ⊥
+PutsDriven i TurnsSpent old new = ⊥
+PutsDriven i Outside old new = (text : List ℕ) × IsTraceOf i text × Front text old new
+PutsDriven i NoMemory old new = (text : List ℕ) × IsTraceOf i text × Front text old new
+
 -- ---- any
 
 -- what was done for input that is accepted, up to how the run ended
@@ -99,3 +120,4 @@ abbrev pub Does : Input → Status → Outer → Outer → Type 0
 Does (Check i) status old new = PutsCount i status old.seen.held new.seen.held
 Does (Replay i most) status old new = ServesTrace i most status old new
 Does (Serve i most) status old new = ServesDoor i most status old new
+Does (Drive i) status old new = PutsDriven i status old.seen.held new.seen.held

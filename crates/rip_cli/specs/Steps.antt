@@ -2,14 +2,15 @@
 use Rattle.std.specs.Prelude.{◌≡◌, ◌++◌, ℕ, List, Option, Some, None, Result, Ok, Err, codes}
 use Rattle.rip_outer.specs.Outside.{Rose, Front, also}
 use Rattle.rip_app.specs.App.{Loaded, IsAppRefusal}
+use Rattle.rip_trace.specs.Gestures.{HasNoLineAt}
 use Rattle.rip_trace.specs.Traces.{IsRefusedAt}
 use Rattle.rip_cli.specs.Content.{content_bytes}
-use Rattle.rip_cli.specs.Lines.{too_long_line, app_line, trace_line}
-use Rattle.rip_cli.specs.Input.{IsApp, FitsAll, files_of, first_too_long}
+use Rattle.rip_cli.specs.Lines.{too_long_line, app_line, trace_line, gestures_line}
+use Rattle.rip_cli.specs.Input.{IsApp, AreRefusedAt, FitsAll, files_of, first_too_long}
 use Rattle.rip_cli.specs.declared.input.AppInput.{AppInput}
-use Rattle.rip_cli.specs.declared.input.ReplayInput.{ReplayInput}
+use Rattle.rip_cli.specs.declared.input.ThreeFiles.{ThreeFiles}
 use Rattle.rip_cli.specs.declared.input.Input.{Input}
-use Rattle.rip_cli.specs.declared.input.Input.TheVariants.{Check, Replay, Serve}
+use Rattle.rip_cli.specs.declared.input.Input.TheVariants.{Check, Replay, Serve, Drive}
 use Rattle.rip_cli.specs.declared.input.InputFile.{InputFile}
 use Rattle.rip_cli.specs.declared.input.InputFile.TheVariants as part
 use Rattle.rip_cli.specs.declared.input.ReadStop.{ReadStop}
@@ -46,6 +47,7 @@ abbrev pub file_word : InputFile → List ℕ
 file_word part.Page = codes "page"
 file_word part.App = codes "app"
 file_word part.Trace = codes "trace"
+file_word part.Gestures = codes "gestures"
 
 -- the word of a file, if there is one
 abbrev pub word_of : Option InputFile → Option (List ℕ)
@@ -57,6 +59,7 @@ abbrev pub refusal_line : Refusal → Option (List ℕ)
 refusal_line (refusal.TooLong file) = Some (too_long_line (file_word file))
 refusal_line (refusal.Application cause) = app_line cause
 refusal_line (refusal.Trace line) = Some (trace_line line)
+refusal_line (refusal.Gestures line) = Some (gestures_line line)
 refusal_line refusal.Memory = None
 
 -- why a page and a manifest, neither of which is too long, are no application; want of memory has no cause
@@ -64,26 +67,38 @@ abbrev pub IsAppCause : AppInput → Refusal → Type 0
 IsAppCause i (refusal.Application cause) = IsAppRefusal (content_bytes i.page) (content_bytes i.manifest) cause
 IsAppCause i (refusal.TooLong file) = ⊥
 IsAppCause i (refusal.Trace line) = ⊥
+IsAppCause i (refusal.Gestures line) = ⊥
 IsAppCause i refusal.Memory = Unit {0}
 
 -- why a trace that is not too long is none
-abbrev pub IsTraceCause : ReplayInput → Refusal → Type 0
-IsTraceCause i (refusal.Trace line) = IsRefusedAt (content_bytes i.trace) line
+abbrev pub IsTraceCause : ThreeFiles → Refusal → Type 0
+IsTraceCause i (refusal.Trace line) = IsRefusedAt (content_bytes i.third) line
+IsTraceCause i (refusal.Gestures line) = ⊥
 IsTraceCause i (refusal.Application cause) = ⊥
 IsTraceCause i (refusal.TooLong file) = ⊥
 IsTraceCause i refusal.Memory = Unit {0}
+
+-- why gestures in a file that is not too long are none
+abbrev pub IsGesturesCause : ThreeFiles → Refusal → Type 0
+IsGesturesCause i (refusal.Gestures line) = HasNoLineAt (content_bytes i.third) line
+IsGesturesCause i (refusal.Trace line) = ⊥
+IsGesturesCause i (refusal.Application cause) = ⊥
+IsGesturesCause i (refusal.TooLong file) = ⊥
+IsGesturesCause i refusal.Memory = Unit {0}
 
 -- the application of the input, if it asks for one
 abbrev pub app_input : Input → AppInput
 app_input (Check i) = i
 app_input (Replay i turns) = i.app
 app_input (Serve i turns) = i
+app_input (Drive i) = i.app
 
 -- the input asks for service
 abbrev pub IsServe : Input → Type 0
 IsServe (Check i) = ⊥
 IsServe (Replay i turns) = ⊥
 IsServe (Serve i turns) = Unit {0}
+IsServe (Drive i) = ⊥
 
 -- why input is refused, the first cause that applies; want of memory has none
 abbrev pub IsRefusedBy : Input → Refusal → Type 0
@@ -93,6 +108,12 @@ IsRefusedBy (Replay i turns) (refusal.Trace line) =
     FitsAll (Replay i turns) × ((app : Loaded) × IsApp i.app app) × IsTraceCause i (refusal.Trace line)
 IsRefusedBy (Check i) (refusal.Trace line) = ⊥
 IsRefusedBy (Serve i turns) (refusal.Trace line) = ⊥
+IsRefusedBy (Drive i) (refusal.Trace line) = ⊥
+IsRefusedBy (Drive i) (refusal.Gestures line) =
+    FitsAll (Drive i) × ((app : Loaded) × IsApp i.app app × AreRefusedAt app i line)
+IsRefusedBy (Check i) (refusal.Gestures line) = ⊥
+IsRefusedBy (Replay i turns) (refusal.Gestures line) = ⊥
+IsRefusedBy (Serve i turns) (refusal.Gestures line) = ⊥
 IsRefusedBy i refusal.Memory = Unit {0}
 
 -- ---- putting a line

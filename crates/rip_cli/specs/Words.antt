@@ -7,7 +7,7 @@ abbrev pub IsOffered : Task → Type 0
 IsOffered (checks page app) = Unit {0}
 IsOffered (replays page app trace turns) = Unit {0}
 IsOffered (serves page app address turns) = Unit {0}
-IsOffered (drives page app gestures) = ⊥
+IsOffered (drives page app gestures) = Unit {0}
 IsOffered (generates n) = ⊥
 
 -- the words have a form, and the program does what they ask for

@@ -1,16 +1,17 @@
 ghost use Rattle.std.specs.Prelude.{◌≡◌, ◌∷◌, [], IfOk, IfErr};
 ghost use Rattle.rip_app.specs.App.{AppOf};
+ghost use Rattle.rip_trace.specs.Gestures.{AreGestures};
 ghost use Rattle.rip_trace.specs.Traces.{IsTrace};
 ghost use Rattle.rip_words.specs.Commands.{task_of};
 ghost use Rattle.rip_cli.specs.Content.{content_bytes, is_long};
-ghost use Rattle.rip_cli.specs.Input.{IsAppOf, IsContentOf, IsInputOf, IsReplayOf, app_files, files_of, first_too_long, replay_files};
-ghost use Rattle.rip_cli.specs.Steps.{Asked, CountsReading, IsAppCause, IsTraceCause, file_word, word_of};
+ghost use Rattle.rip_cli.specs.Input.{AreThreeOf, IsAppOf, IsContentOf, IsInputOf, app_files, files_of, first_too_long, three_files};
+ghost use Rattle.rip_cli.specs.Steps.{Asked, CountsReading, IsAppCause, IsGesturesCause, IsTraceCause, file_word, word_of};
 ghost use Rattle.rip_cli.specs.Words.{IsOffered, in_order};
 
 use crate::refusal::Refusal;
 use rip_app::{App, load};
 use rip_outer::{Files, FilesError};
-use rip_trace::{Trace, TraceRefusal, read_trace};
+use rip_trace::{Gestures, Trace, TraceRefusal, read_gestures, read_trace};
 use rip_values::Bytes;
 use rip_words::Command;
 use std::alloc::Global;
@@ -30,19 +31,20 @@ pub struct AppInput {
     pub manifest: Content,
 }
 
-/// The same, and that of the file of a trace.
+/// The same, and that of a third file: of a trace, or of gestures.
 #[derive(Debug, Drop)]
-pub struct ReplayInput {
+pub struct ThreeFiles {
     pub app: AppInput,
-    pub trace: Content,
+    pub third: Content,
 }
 
 /// What the words and the files that they name give; `turns` is how many turns may be made.
 #[derive(Debug, Drop)]
 pub enum Input {
     Check(AppInput),
-    Replay { files: ReplayInput, turns: u64 },
+    Replay { files: ThreeFiles, turns: u64 },
     Serve { files: AppInput, turns: u64 },
+    Drive(ThreeFiles),
 }
 
 /// A file of the input.
@@ -51,6 +53,7 @@ pub enum InputFile {
     Page,
     App,
     Trace,
+    Gestures,
 }
 
 /// Why reading stopped.
@@ -69,6 +72,7 @@ impl InputFile {
             InputFile::Page => b"page",
             InputFile::App => b"app",
             InputFile::Trace => b"trace",
+            InputFile::Gestures => b"gestures",
         }
     }
 }
@@ -155,45 +159,57 @@ impl AppInput {
     }
 }
 
-impl ReplayInput {
+impl ThreeFiles {
     /// Reads the three files, in order.
     fn read<F: Files>(
         alloc: Global,
         files: &mut F,
         page: &str,
         manifest: &str,
-        trace: &str,
-    ) -> Result<ReplayInput, ReadStop>
+        third: &str,
+    ) -> Result<ThreeFiles, ReadStop>
         ensures input { IfOk result
-            (IsReplayOf (F.held files.old) page.now manifest.now trace.now) }
-        ensures asked { Asked result (page.now ∷ manifest.now ∷ trace.now ∷ [])
+            (AreThreeOf (F.held files.old) page.now manifest.now third.now) }
+        ensures asked { Asked result (page.now ∷ manifest.now ∷ third.now ∷ [])
             (F.asked files.old) (F.asked files.new) }
         ensures counted { CountsReading result (F.count files.old) (F.count files.new) }
     {
         let app = AppInput::read(alloc, files, page, manifest)?;
-        let trace = read_content(alloc, files, trace)?;
-        Ok(ReplayInput { app, trace })
+        let third = read_content(alloc, files, third)?;
+        Ok(ThreeFiles { app, third })
     }
 
-    /// The first of the files that is too long.
-    fn first_too_long(&self) -> Option<InputFile>
-        ensures { word_of result ≡ first_too_long (replay_files self.now) }
+    /// The first of the files that is too long, where the third is this one.
+    fn first_too_long(&self, third: InputFile) -> Option<InputFile>
+        ensures { word_of result ≡ first_too_long (three_files (file_word third) self.now) }
     {
         match self.app.first_too_long() {
             Some(file) => Some(file),
-            None if self.trace.is_too_long() => Some(InputFile::Trace),
+            None if self.third.is_too_long() => Some(third),
             None => None,
         }
     }
 
     /// The trace.
     pub fn load_trace(&self, alloc: Global) -> Result<Trace, Refusal>
-        ensures read { IfOk result (IsTrace (content_bytes self.now.trace)) }
+        ensures read { IfOk result (IsTrace (content_bytes self.now.third)) }
         ensures refused { IfErr result (IsTraceCause self.now) }
     {
-        match read_trace(alloc, self.trace.as_slice()) {
+        match read_trace(alloc, self.third.as_slice()) {
             Ok(trace) => Ok(trace),
             Err(TraceRefusal::Line(line)) => Err(Refusal::Trace(line)),
+            Err(TraceRefusal::Memory) => Err(Refusal::Memory),
+        }
+    }
+
+    /// The gestures.
+    pub fn load_gestures(&self, alloc: Global) -> Result<Gestures, Refusal>
+        ensures read { IfOk result (AreGestures (content_bytes self.now.third)) }
+        ensures refused { IfErr result (IsGesturesCause self.now) }
+    {
+        match read_gestures(alloc, self.third.as_slice()) {
+            Ok(gestures) => Ok(gestures),
+            Err(TraceRefusal::Line(line)) => Err(Refusal::Gestures(line)),
             Err(TraceRefusal::Memory) => Err(Refusal::Memory),
         }
     }
@@ -222,7 +238,7 @@ impl Input {
                 app,
                 trace,
                 turns,
-            } => match ReplayInput::read(alloc, files, page, app, trace) {
+            } => match ThreeFiles::read(alloc, files, page, app, trace) {
                 Ok(files) => Ok(Input::Replay { files, turns }),
                 Err(stop) => Err(stop),
             },
@@ -235,7 +251,15 @@ impl Input {
                 Ok(files) => Ok(Input::Serve { files, turns }),
                 Err(stop) => Err(stop),
             },
-            Command::Drive { .. } | Command::Generate(_) => unreachable!(),
+            Command::Drive {
+                page,
+                app,
+                gestures,
+            } => match ThreeFiles::read(alloc, files, page, app, gestures) {
+                Ok(files) => Ok(Input::Drive(files)),
+                Err(stop) => Err(stop),
+            },
+            Command::Generate(_) => unreachable!(),
         }
     }
 
@@ -245,8 +269,9 @@ impl Input {
     {
         match self {
             Input::Check(files) => files.first_too_long(),
-            Input::Replay { files, .. } => files.first_too_long(),
+            Input::Replay { files, .. } => files.first_too_long(InputFile::Trace),
             Input::Serve { files, .. } => files.first_too_long(),
+            Input::Drive(files) => files.first_too_long(InputFile::Gestures),
         }
     }
 }

@@ -1,5 +1,5 @@
 ghost use Rattle.std.specs.Prelude.{◌≡◌, ◌++◌, IfOk, OnOk, codes, decimal};
-ghost use Rattle.rip_cli.specs.Lines.{count_line, early_word, lex_word, manifest_line, manifest_word, page_line, page_word, parse_word, script_line, too_long_line, trace_line};
+ghost use Rattle.rip_cli.specs.Lines.{count_line, early_word, gestures_line, lex_word, manifest_line, manifest_word, page_line, page_word, parse_word, script_line, too_long_line, trace_line};
 
 use rip_early::EarlyKind;
 use rip_lexer::LexKind;
@@ -77,6 +77,17 @@ pub fn trace_line(alloc: Global, line: u64) -> Result<Bytes, NoMemory>
 {
     let mut out = Writer::new(alloc);
     out.text(b"refused trace ")?;
+    out.number(line)?;
+    out.text(b"\n")?;
+    Ok(out.into_bytes())
+}
+
+/// The line for gestures: the first line that is none, or whose gesture is not legal at its place, counted from 1.
+pub fn gestures_line(alloc: Global, line: u64) -> Result<Bytes, NoMemory>
+    ensures { IfOk result (λ text. text ≡ gestures_line line) }
+{
+    let mut out = Writer::new(alloc);
+    out.text(b"refused gestures ")?;
     out.number(line)?;
     out.text(b"\n")?;
     Ok(out.into_bytes())

@@ -4,8 +4,8 @@ ghost use Rattle.rip_cli.specs.Steps.{refusal_line};
 
 use crate::input::InputFile;
 use crate::lines::{
-    early_word, lex_word, manifest_line, manifest_word, page_line, page_word, parse_word,
-    script_line, too_long_line, trace_line,
+    early_word, gestures_line, lex_word, manifest_line, manifest_word, page_line, page_word,
+    parse_word, script_line, too_long_line, trace_line,
 };
 use rip_app::AppRefusal;
 use rip_values::{Bytes, NoMemory};
@@ -20,6 +20,8 @@ pub enum Refusal {
     Application(AppRefusal),
     /// This line, counted from 1, is the first that is none of a trace.
     Trace(u64),
+    /// This line, counted from 1, is the first that is none of a file of gestures, or whose gesture is not legal at its place.
+    Gestures(u64),
     /// Want of memory.
     Memory,
 }
@@ -60,6 +62,7 @@ impl Refusal {
             Refusal::TooLong(file) => too_long_line(alloc, file.word()),
             Refusal::Application(cause) => app_line(alloc, cause),
             Refusal::Trace(line) => trace_line(alloc, line),
+            Refusal::Gestures(line) => gestures_line(alloc, line),
             Refusal::Memory => Err(NoMemory),
         }
     }

@@ -9,13 +9,14 @@ ghost use Rattle.rip_cli.specs.Settling.{Counts, Settles, with_sink};
 ghost use Rattle.rip_cli.specs.Steps.{CountsStatus, IsLineStatus, IsServe, PutsLine, PutsLineOf, refusal_line};
 ghost use Rattle.rip_cli.specs.Words.{AskToServe};
 
-use crate::input::{AppInput, Input, ReadStop, ReplayInput};
+use crate::input::{AppInput, Input, ReadStop, ThreeFiles};
 use crate::lines::count_line;
 use crate::refusal::Refusal;
 use crate::serving::{replay, serve_app};
 use crate::status::Status;
 use crate::words::offered;
 use rip_app::App;
+use rip_drive::{DriveRefusal, drive};
 use rip_outer::{Clock, Door, Files, Sink, SinkError, Words};
 use std::alloc::Global;
 
@@ -75,7 +76,7 @@ fn settle_check<S: Sink>(alloc: Global, files: &AppInput, out: &mut S) -> Status
 }
 
 /// Serves the trace of the files, none of which is too long, or puts the line that says why they are refused.
-fn settle_replay<S: Sink>(alloc: Global, files: &ReplayInput, turns: u64, out: &mut S) -> Status
+fn settle_replay<S: Sink>(alloc: Global, files: &ThreeFiles, turns: u64, out: &mut S) -> Status
     requires { FitsAll (Input.Replay files.now turns) }
     ensures settles { (rest : Outer) → Settles result (Input.Replay files.now turns)
         (with_sink rest (S.held out.old) (S.count out.old))
@@ -93,6 +94,30 @@ fn settle_replay<S: Sink>(alloc: Global, files: &ReplayInput, turns: u64, out: &
     match replay(alloc, &app, &trace, turns, out) {
         Ok(how) => Status::of_stop(how),
         Err(_) => Status::NoMemory,
+    }
+}
+
+/// Drives the application of the files, none of which is too long, by their gestures, and puts the trace, or the line that
+/// says why they are refused.
+fn settle_drive<S: Sink>(alloc: Global, files: &ThreeFiles, out: &mut S) -> Status
+    requires { FitsAll (Input.Drive files.now) }
+    ensures settles { (rest : Outer) → Settles result (Input.Drive files.now)
+        (with_sink rest (S.held out.old) (S.count out.old))
+        (with_sink rest (S.held out.new) (S.count out.new)) }
+    ensures counted { CountsStatus result (S.count out.old) (S.count out.new) }
+{
+    let app = match files.app.load(alloc) {
+        Ok(app) => app,
+        Err(refusal) => return refuse(alloc, refusal, out),
+    };
+    let gestures = match files.load_gestures(alloc) {
+        Ok(gestures) => gestures,
+        Err(refusal) => return refuse(alloc, refusal, out),
+    };
+    match drive(alloc, app, &gestures) {
+        Ok(trace) => put_line(trace.as_slice(), Status::Read, out),
+        Err(DriveRefusal::Line(line)) => refuse(alloc, Refusal::Gestures(line), out),
+        Err(DriveRefusal::Memory) => Status::NoMemory,
     }
 }
 
@@ -168,6 +193,7 @@ fn settle<D: Door, C: Clock, W: Words, S: Sink>(
         Input::Serve { files, turns } => {
             settle_serve(alloc, files, *turns, door, clock, random, out)
         }
+        Input::Drive(files) => settle_drive(alloc, files, out),
     }
 }
 
@@ -178,6 +204,7 @@ fn settle<D: Door, C: Clock, W: Words, S: Sink>(
 /// | `check PAGE APP` | the application is loaded | how many nodes and scripts it has |
 /// | `replay PAGE APP TRACE [--turns=N]` | the trace is served from memory | the log |
 /// | `serve PAGE APP ADDRESS [--turns=N]` | the door is served, whatever the address | the log |
+/// | `drive PAGE APP GESTURES` | a truthful client is driven by the gestures | its trace |
 ///
 /// Words other than `serve` leave door, clock and random words as they are.
 pub fn ripley<F: Files, D: Door, C: Clock, W: Words, S: Sink>(

@@ -11,7 +11,7 @@ pub fn offered(words: &[String]) -> Option<Command<'_>>
     ensures other { IsNone result → ¬ IsForm (map string_bytes words.now) }
 {
     match command_of(words)? {
-        Command::Drive { .. } | Command::Generate(_) => None,
+        Command::Generate(_) => None,
         command => Some(command),
     }
 }

@@ -1,7 +1,7 @@
 mod Drives
 pub mod Legal
 mod Lines
-mod Played
+pub mod Played
 mod NextCalls
-mod Simulation
+pub mod Simulation
 mod Traces

@@ -1,4 +1,3 @@
 pub mod Actors
 pub mod Drivers
 pub mod Driving
-pub mod Openings

@@ -14,6 +14,9 @@
 //! | [`drive`] answers a trace | `Driving.IsTrace`: the text is `Driving.trace_text` of these batches |
 //! | [`drive`] refuses the gesture of a line | `Driving.IsRefusal`: it is not legal at its place |
 //!
+//! A [`PageActor`] is one session of an application whose items are played whole at moment 0: `Actors.page_session`, which goes
+//! as `Driving.driven` does (`proofs/Played`).
+//!
 //! A layer above may rest on this: the batches of the trace are those that a truthful client of the application tells of
 //! these gestures, with the replies of a store that is called by this session alone. Of want of memory nothing is said.
 #![tactic(auto)]
@@ -25,3 +28,4 @@ mod page_actor;
 
 pub use driver::DriveRefusal;
 pub use driving::drive;
+pub use page_actor::PageActor;

@@ -1,31 +1,14 @@
-ghost use Rattle.std.specs.Prelude.{◌≡◌, ℕ, IfOk};
-ghost use Rattle.rip_heap.specs.World.{World};
-ghost use Rattle.rip_host.specs.Visit.{Fits};
+ghost use Rattle.std.specs.Prelude.{IfOk};
 ghost use Rattle.rip_session.specs.Application.{doing_of};
-ghost use Rattle.rip_session.specs.Opening.{IsBegun as HasScope};
 ghost use Rattle.rip_drive.specs.Actors.{IsBegun};
-ghost use Rattle.rip_drive.specs.Openings.{HasNoPage, HasPaged, HasScoped, OpensSo};
 
 use rip_app::App;
-use rip_heap::{Heap, HeapLimits};
-use rip_host::Browser;
-use rip_machine::Machine;
 use rip_replica::{AtItem, Place, Replica};
 use rip_runner::Runner;
-use rip_session::Session;
-use rip_values::{LONGEST_TEXT, Limit, List, NoMemory, Page, Refused, Whole};
-use rip_visit::Start;
+use rip_session::{Opened, Session, open};
+use rip_values::NoMemory;
 use rip_work::{PageItems, Work, moment_of};
 use std::alloc::Global;
-
-/// What a session has as it is opened, and what its first item is.
-#[derive(Drop)]
-pub(crate) struct Opened {
-    heap: Heap,
-    machine: Machine,
-    browser: Browser,
-    start: Start,
-}
 
 /// A session from this seed and at moment 0, before the one item of its opening.
 pub(crate) fn open_session(alloc: Global, app: &App, seed: u32) -> Result<Session, NoMemory>
@@ -54,126 +37,5 @@ pub(crate) fn open_session(alloc: Global, app: &App, seed: u32) -> Result<Sessio
             heap,
             host: browser,
         },
-    })
-}
-
-/// A session as it is opened. It makes four charges, in this order: the top scope, the nodes of the page, its texts, and
-/// the literals of the program.
-fn open(alloc: Global, app: &App, seed: u32, time: Whole) -> Result<Opened, NoMemory>
-    ensures opened { IfOk result (λ o. OpensSo app.now seed time o) }
-    ensures fits { IfOk result (λ o. Fits o.browser o.heap) }
-{
-    let (heap, limit) = begin_heap(alloc, app)?;
-    match limit {
-        None => open_page(alloc, app, heap, seed, time),
-        Some(limit) => open_without_page(alloc, app, heap, limit, seed, time),
-    }
-}
-
-/// The heap of a session with its top scope; or without it, and the limit that it would pass.
-fn begin_heap(alloc: Global, app: &App) -> Result<(Heap, Option<Limit>), NoMemory>
-    ensures { IfOk result (λ r. HasScope app.now r.0 r.1) }
-{
-    let limits = app.limits();
-    let mut heap = Heap::make(
-        alloc,
-        HeapLimits {
-            cells: limits.cells,
-            units: limits.units,
-            text: LONGEST_TEXT,
-        },
-    )?;
-    match heap.new_scope(alloc, None, app.program().top_names()) {
-        Ok(_) => Ok((heap, None)),
-        Err(Refused::Limit(limit)) => Ok((heap, Some(limit))),
-        Err(Refused::Memory) => Err(NoMemory),
-    }
-}
-
-/// Makes the page in a heap with the top scope.
-fn open_page(
-    alloc: Global,
-    app: &App,
-    mut heap: Heap,
-    seed: u32,
-    time: Whole,
-) -> Result<Opened, NoMemory>
-    requires { HasScope app.now heap None }
-    ensures opened { IfOk result (λ o. HasScoped app.now heap seed time o) }
-    ensures fits { IfOk result (λ o. Fits o.browser o.heap) }
-{
-    match Browser::make(alloc, app.page(), app.limits(), heap.pool_mut(), seed, time) {
-        Ok(browser) => load_program(alloc, app, heap, browser),
-        Err(Refused::Limit(limit)) => open_again(alloc, app, limit, seed, time),
-        Err(Refused::Memory) => Err(NoMemory),
-    }
-}
-
-/// A session whose page would pass this limit, in a heap with the top scope that is made anew.
-fn open_again(
-    alloc: Global,
-    app: &App,
-    limit: Limit,
-    seed: u32,
-    time: Whole,
-) -> Result<Opened, NoMemory>
-    ensures opened { (w : World) → HasScope app.now w None
-        → IfOk result (λ o. HasNoPage app.now limit w seed time o) }
-    ensures fits { IfOk result (λ o. Fits o.browser o.heap) }
-{
-    let (heap, _) = begin_heap(alloc, app)?;
-    open_without_page(alloc, app, heap, limit, seed, time)
-}
-
-/// A session whose page would pass this limit: its page has no node.
-fn open_without_page(
-    alloc: Global,
-    app: &App,
-    mut heap: Heap,
-    limit: Limit,
-    seed: u32,
-    time: Whole,
-) -> Result<Opened, NoMemory>
-    requires { heap.limit ≡ app.now.manifest.limits.cells }
-    ensures opened { IfOk result (λ o. HasNoPage app.now limit heap seed time o) }
-    ensures fits { IfOk result (λ o. Fits o.browser o.heap) }
-{
-    let page = Page::new(List::new(alloc), List::new(alloc));
-    match Browser::make(alloc, &page, app.limits(), heap.pool_mut(), seed, time) {
-        Ok(browser) => Ok(Opened {
-            heap,
-            machine: Machine::make(alloc, app.limits().depth)?,
-            browser,
-            start: Start::Passes(limit),
-        }),
-        Err(_) => Err(NoMemory),
-    }
-}
-
-/// Charges the literals of the program and loads it, behind a page that is made.
-fn load_program(
-    alloc: Global,
-    app: &App,
-    mut heap: Heap,
-    browser: Browser,
-) -> Result<Opened, NoMemory>
-    requires { Fits browser heap }
-    ensures opened { IfOk result (λ o. HasPaged app.now heap browser o) }
-    ensures fits { IfOk result (λ o. Fits o.browser o.heap) }
-{
-    let program = app.program();
-    let mut machine = Machine::make(alloc, app.limits().depth)?;
-    let start = match machine.load(alloc, program, &mut heap) {
-        Ok(()) => Start::Loads {
-            scripts: program.scripts(),
-        },
-        Err(Refused::Limit(limit)) => Start::Passes(limit),
-        Err(Refused::Memory) => return Err(NoMemory),
-    };
-    Ok(Opened {
-        heap,
-        machine,
-        browser,
-        start,
     })
 }

@@ -20,14 +20,14 @@ use std::alloc::Global;
 
 /// A session of an application, of which items are played whole at moment 0.
 #[derive(Drop)]
-pub(crate) struct PageActor {
+pub struct PageActor {
     app: App,
     session: Session,
 }
 
 impl PageActor {
     /// A session from this seed, before the one item of its opening.
-    pub(crate) fn make(alloc: Global, app: App, seed: u32) -> Result<PageActor, NoMemory>
+    pub fn make(alloc: Global, app: App, seed: u32) -> Result<PageActor, NoMemory>
         ensures { IfOk result (λ actor. (actor.app ≡ app)
             × IsBegun app (doing_of app seed 0) actor.session.replica) }
     {
@@ -36,11 +36,7 @@ impl PageActor {
     }
 
     /// Plays the one item of the opening.
-    pub(crate) fn open(
-        &mut self,
-        alloc: Global,
-        store: &mut Store,
-    ) -> Result<rip_whole::Over, NoMemory>
+    pub fn open(&mut self, alloc: Global, store: &mut Store) -> Result<rip_whole::Over, NoMemory>
         ensures { (d : Doing Task Browser) (service : Meant)
             → IsBegun self.old.app d self.old.session.replica → RepliesAs store.old service []
             → IfOk result (λ over. IsOpened self.new.app d over self.new.session.replica store.new service) }

@@ -7,7 +7,7 @@
 //! | what | its definition in `specs/` |
 //! |---|---|
 //! | what a session does | `Application.meaning_of_app`, by the one `Application.doing_of` its seed and time |
-//! | how it is opened: the charges in their order, the heap and the browser | `Opening.opened_of` |
+//! | how it is opened: the charges in their order, the heap and the browser, by [`open`] | `Opening.opened_of` |
 //! | a session at a stage of the server's course | `Application.StandsAt` |
 //! | [`Application`] as the sessions of a server | `rip_course::Sessions` |
 //!
@@ -19,3 +19,4 @@ mod application;
 mod opening;
 
 pub use application::{Application, Session};
+pub use opening::{Opened, open};

@@ -13,16 +13,16 @@ use std::alloc::Global;
 
 /// What a session has as it is opened, and what its first item is.
 #[derive(Drop)]
-pub(crate) struct Opened {
-    pub(crate) heap: Heap,
-    pub(crate) machine: Machine,
-    pub(crate) browser: Browser,
-    pub(crate) start: Start,
+pub struct Opened {
+    pub heap: Heap,
+    pub machine: Machine,
+    pub browser: Browser,
+    pub start: Start,
 }
 
 /// A session as it is opened. It makes four charges, in this order: the top scope, the nodes of the page, its texts, and
 /// the literals of the program.
-pub(crate) fn open(alloc: Global, app: &App, seed: u32, time: Whole) -> Result<Opened, NoMemory>
+pub fn open(alloc: Global, app: &App, seed: u32, time: Whole) -> Result<Opened, NoMemory>
     ensures opened { IfOk result (λ o. o ≡ opened_of app.now seed time) }
     ensures fits { IfOk result (λ o. Fits o.browser o.heap) }
 {

@@ -55,6 +55,17 @@ batch 3 1 1 [[\"event\",\"click\",4]]
 end 10 3
 ";
 
+const DRIVEN: &str = "open 0
+say 0 get
+say 0 e 1 {\"batch\":1,\"items\":[[\"call\",1,\"f\",[1]],[\"call\",2,\"f\",[2]]]}
+";
+
+const ENDED: &str = "open 0
+say 0 get
+say 0 e 1 {\"batch\":1,\"items\":[[\"event\",\"click\",4]]}
+# ended fuel 2
+";
+
 /// Files of these names and contents.
 fn files(alloc: Global, named: &[(&str, &[u8])]) -> Result<FileList, NoMemory> {
     let mut files = Vec::new(alloc);
@@ -94,7 +105,7 @@ fn run(
 
 #[test]
 fn answers_words_that_are_no_form(rt: HostRuntime) -> Result<(), Fail> {
-    let table: [&[&str]; 13] = [
+    let table: [&[&str]; 12] = [
         &[],
         &["replay"],
         &["replay", "p", "a"],
@@ -106,7 +117,6 @@ fn answers_words_that_are_no_form(rt: HostRuntime) -> Result<(), Fail> {
         &["check", "p"],
         &["check", "p", "a", "t"],
         &["serve", "p", "a"],
-        &["drive", "p", "a", "t"],
         &["generate", "7"],
     ];
     let named = [("p", PAGE), ("a", APP), ("t", TRACE)];
@@ -118,6 +128,38 @@ fn answers_words_that_are_no_form(rt: HostRuntime) -> Result<(), Fail> {
     let (status, put) = run(rt.alloc(), &[], &[], &[1])?;
     assert_eq!(rt; status, Status::Outside);
     assert!(rt; put.is_empty());
+    Ok(())
+}
+
+#[test]
+fn drives_gestures(rt: HostRuntime) -> Result<(), Fail> {
+    let table: [(&[u8], &[u8], Status, &str); 4] = [
+        (PAGE, b"flush\n", Status::Read, DRIVEN),
+        (
+            PAGE,
+            b"flush\nclick 99\n",
+            Status::BadInput,
+            "refused gestures 2\n",
+        ),
+        (
+            PAGE,
+            b"click 99\nclik 4\n",
+            Status::BadInput,
+            "refused gestures 2\n",
+        ),
+        (
+            CLICKED_PAGE,
+            b"# a click without end\nclick 4\nflush\n",
+            Status::Read,
+            ENDED,
+        ),
+    ];
+    for (page, gestures, expected, text) in table {
+        let named = [("p", page), ("a", APP), ("g", gestures)];
+        let (status, put) = run(rt.alloc(), &["drive", "p", "a", "g"], &named, &[])?;
+        assert_eq!(rt; status, expected);
+        assert!(rt; put.as_slice() == text.as_bytes());
+    }
     Ok(())
 }
 

@@ -1,4 +1,4 @@
-use Rattle.std.proofs.Common.{map, refl, inl, inr}
+use Rattle.std.proofs.Common.{map, refl, inl}
 use Rattle.std.specs.Prelude.{string_bytes}
 use Rattle.rip_words.specs.Commands.{task_of}
 use Rattle.rip_server.specs.Acts.{seen}

@@ -3,7 +3,7 @@ use Rattle.rip_server.specs.Acts.{seen}
 use Rattle.rip_turn.specs.Turning.{outer, source}
 use Rattle.rip_cli.specs.Settling.{Settles, with_sink}
 use Rattle.rip_cli.specs.declared.input.Input.{Input}
-use Rattle.rip_cli.specs.declared.input.Input.TheVariants.{Check, Replay}
+use Rattle.rip_cli.specs.declared.input.Input.TheVariants.{Check, Drive, Replay}
 use Rattle.rip_cli.specs.declared.refusal.Refusal.TheVariants.{TooLong}
 use Rattle.rip_cli.proofs.SettleLemmas.{counts_all, refusal_settles}
 use Rattle.rip_cli.proofs.top.settle.Goals as goal
@@ -49,3 +49,18 @@ returns-in-Replay-clause-counted g c =
     let a = c.args in
     let rest = outer (seen (g.D.Door.sent a.door.now) (g.D.Door.knocks a.door.now) (g.D.Door.shuts a.door.now) (g.D.Door.asked a.door.now) (g.S.Sink.held a.out.now)) (source (g.C.Clock.told a.clock.now) (g.C.Clock.coming a.clock.now)) (source (g.W.Words.told a.random.now) (g.W.Words.coming a.random.now)) (g.D.Door.count a.door.now) (g.S.Sink.count a.out.now) in
     counts_all c.settle_replay.result rest _ _ _ _ c.settle_replay.ensures.counted
+
+pub returns-in-Drive-clause-settles : goal.returns-in-Drive-clause-settles
+returns-in-Drive-clause-settles g c =
+    let a = c.args in
+    let rest = outer (seen (g.D.Door.sent a.door.now) (g.D.Door.knocks a.door.now) (g.D.Door.shuts a.door.now) (g.D.Door.asked a.door.now) (g.S.Sink.held a.out.now)) (source (g.C.Clock.told a.clock.now) (g.C.Clock.coming a.clock.now)) (source (g.W.Words.told a.random.now) (g.W.Words.coming a.random.now)) (g.D.Door.count a.door.now) (g.S.Sink.count a.out.now) in
+    let held = g.S.Sink.held c.settle_drive.new.out in
+    let e : a.input.now ≡ Drive c.in-Drive.files = search rules in
+    let P : Input → Type 0 = λ i. Settles c.settle_drive.result i (with_sink rest (g.S.Sink.held a.out.now) (g.S.Sink.count a.out.now)) (with_sink rest held (g.S.Sink.count c.settle_drive.new.out)) in
+    subst P (sym e) (c.settle_drive.ensures.settles rest)
+
+pub returns-in-Drive-clause-counted : goal.returns-in-Drive-clause-counted
+returns-in-Drive-clause-counted g c =
+    let a = c.args in
+    let rest = outer (seen (g.D.Door.sent a.door.now) (g.D.Door.knocks a.door.now) (g.D.Door.shuts a.door.now) (g.D.Door.asked a.door.now) (g.S.Sink.held a.out.now)) (source (g.C.Clock.told a.clock.now) (g.C.Clock.coming a.clock.now)) (source (g.W.Words.told a.random.now) (g.W.Words.coming a.random.now)) (g.D.Door.count a.door.now) (g.S.Sink.count a.out.now) in
+    counts_all c.settle_drive.result rest _ _ _ _ c.settle_drive.ensures.counted

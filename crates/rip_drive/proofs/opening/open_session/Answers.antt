@@ -1,6 +1,7 @@
 use Rattle.std.proofs.Common.{◌≡◌, ◌∙◌, ◌∷◌, ◌++◌, [], List, ap, refl, sym}
 use Rattle.rip_machine.specs.Law.{Standing}
 use Rattle.rip_work.specs.Plans.{work_plan}
+use Rattle.rip_work.specs.Serving.{moment_of}
 use Rattle.rip_work.specs.Tasks.{Task, opens}
 use Rattle.rip_session.specs.Application.{runs_of}
 use Rattle.rip_session.specs.Kept.{goes-fits}
@@ -15,12 +16,10 @@ pub returns : goal.returns
 unfolding Does
 returns c =
     let app = c.args.app.now in
-    let has = c.in_ok-heap.ensures.opened in
-    let moment = c.moment_of.ensures in
+    let is : c.in_ok-heap.field-0 ≡ opened_of app c.args.seed (moment_of 0) = c.in_ok-heap.ensures.opened ∙ ap (opened_of app c.args.seed) c.moment_of.ensures in
     let made = c.new.ensures in
-    let evaluator : c.new.result.evaluator ≡ c.in_ok-heap.field-0.machine = λ i. (made i).evaluator in
-    let machine = evaluator ∙ has.1 ∙ ap (λ m. (opened_of app c.args.seed m).machine) moment in
-    let start = c.opens.ensures ∙ ap opens (has.3 ∙ ap (λ m. (opened_of app c.args.seed m).start) moment) in
+    let machine : c.new.result.evaluator ≡ (opened_of app c.args.seed (moment_of 0)).machine = (λ i. (made i).evaluator) ∙ (λ i. (is i).machine) in
+    let start = c.opens.ensures ∙ (λ i. opens (is i).start) in
     record {
       does = record {
         runs = ap (λ (m : Standing). (runs_of app).run m) (sym machine);
@@ -34,6 +33,6 @@ returns c =
       batch = (λ i. (made i).planner.batch.items) ∙ c.in_ok-push.ensures.items ∙ ap (λ (ts : List Task). ts ++ c.opens.result ∷ []) c.new-batch.ensures.items ∙ ap (λ (t : Task). t ∷ []) start;
       opening = refl;
       begun = λ i. (made i).planner.begun;
-      world = has.0 ∙ ap (λ m. (opened_of app c.args.seed m).heap) moment;
-      page = has.2 ∙ ap (λ m. (opened_of app c.args.seed m).browser) moment;
+      world = λ i. (is i).heap;
+      page = λ i. (is i).browser;
     }

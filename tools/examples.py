@@ -1,0 +1,114 @@
+#!/usr/bin/env python3
+"""Drives and replays the pages of examples/ by the program `ripley`, and says where what it puts is not what stands there.
+
+usage: examples.py PROGRAM [--write]
+
+Of each example: `true.txt` is the trace that `drive` puts of `gestures.txt`, `true.log` and `false.log` are the logs that
+`replay` puts of `true.txt` and `false.txt`; in the true one each batch is done well, in the false one a batch is not.
+--write puts the three files that a program makes, to be read before they are kept.
+
+Then of each example visits of a hundred gestures are made up from the seeds below: what is not legal at its place is left
+out, which `drive` tells, and the trace of the rest, replayed, ends no session. The status is 0 where all is so.
+"""
+import pathlib
+import random
+import re
+import subprocess
+import sys
+import tempfile
+
+EXAMPLES = pathlib.Path(__file__).resolve().parent.parent / "examples"
+SEEDS = range(1, 4)
+LINES = 100
+SECONDS = 60
+
+
+def ran(program, verb, folder, last):
+    """The status of a command over a page, and what it put."""
+    words = [program, verb, folder / "page.html", folder / "app.json", last]
+    done = subprocess.run(words, capture_output=True, text=True, timeout=SECONDS)
+    return done.returncode, done.stdout
+
+
+def ends(log):
+    """The lines of a log that say of a batch that it was not done well."""
+    return [line for line in log.splitlines() if re.match(r"done \d+ \d+ \d+ (?!ok$)", line)]
+
+
+def files(program, folder, writes):
+    """Holds the files of an example to what the program puts; answers what differs."""
+    wrong = []
+
+    def compare(name, verb, given):
+        status, text = ran(program, verb, folder, folder / given)
+        file = folder / name
+        if writes:
+            file.write_text(text)
+        if status != 0 or text != file.read_text():
+            wrong.append(f"{folder.name}: {verb} {given} does not put {name}")
+        return text
+
+    if (folder / "gestures.txt").exists():
+        compare("true.txt", "drive", "gestures.txt")
+    if ends(compare("true.log", "replay", "true.txt")):
+        wrong.append(f"{folder.name}: a batch of the true trace is not done well")
+    if not ends(compare("false.log", "replay", "false.txt")):
+        wrong.append(f"{folder.name}: each batch of the false trace is done well")
+    return wrong
+
+
+def made_up(draw, page):
+    """A gesture at a control of the page, whose nodes are numbered in document order."""
+    node, kind = draw.choice(page)
+    if draw.random() < 0.2:
+        return "flush"
+    if kind == "number":
+        return f"input {node} {draw.randrange(30)}"
+    if kind == "text":
+        return f"input {node} {draw.choice(['Ann', 'Bo', 'Cleo', ''])}"
+    if kind == "choice":
+        return f"change {node} {draw.randrange(2)}"
+    return f"click {node}"
+
+
+def visit(program, folder, page, seed):
+    """Drives a visit of a hundred gestures and replays its trace; answers what is wrong."""
+    draw = random.Random(seed)
+    lines = [made_up(draw, page) for _ in range(LINES)]
+    with tempfile.TemporaryDirectory() as room:
+        gestures, trace = pathlib.Path(room) / "gestures.txt", pathlib.Path(room) / "trace.txt"
+        for _ in range(LINES):
+            gestures.write_text("".join(f"{line}\n" for line in lines))
+            status, text = ran(program, "drive", folder, gestures)
+            refused = re.fullmatch(r"refused gestures (\d+)\n", text)
+            if status != 2 or not refused:
+                break
+            lines[int(refused[1]) - 1] = "flush"
+        trace.write_text(text)
+        told = ran(program, "replay", folder, trace)
+    if status != 0 or "# ended" in text or told[0] != 0 or ends(told[1]):
+        return [f"{folder.name}: the visit of seed {seed} ends: {status} {told[0]} {ends(told[1])[:1]}"]
+    return []
+
+
+# The controls of each page: the number of a node, and what a user may do there.
+CONTROLS = {
+    "shop": [(18, "number"), (23, "number"), (28, "number"), (33, "choice"), (42, "text"), (44, "button")],
+    "booking": [(node, "button") for node in (17, 19, 21, 23, 27, 29, 31, 33)],
+    "game": [(node, "button") for node in (14, 16, 18, 22, 24, 26, 30, 32, 34)],
+}
+
+
+def main():
+    program, writes = pathlib.Path(sys.argv[1]).resolve(), "--write" in sys.argv
+    wrong = []
+    for folder in sorted(EXAMPLES.iterdir()):
+        wrong += files(program, folder, writes)
+        for seed in SEEDS if folder.name in CONTROLS else []:
+            wrong += visit(program, folder, CONTROLS[folder.name], seed)
+    print("\n".join(wrong) or "the examples are as they stand")
+    return 1 if wrong else 0
+
+
+if __name__ == "__main__":
+    sys.exit(main())
