@@ -32,7 +32,7 @@ request = function()
   if session then
     local path = "/q/" .. session
     session = nil
-    return wrk.format("POST", path)
+    return wrk.format("POST", path, nil, "")
   end
   return wrk.format("GET", "/")
 end
@@ -77,13 +77,13 @@ def rows(session, seconds):
         ("ripley, an opening and its closing", f"{at}/", VISITS),
     ]
     wrong, first = 0, {}
-    print("| what | connections | requests a second | of nginx |\n|---|---|---|---|")
+    print("| what | connections | requests a second | of nginx | answers of other codes |\n|---|---|---|---|---|")
     for name, url, script in table:
         for connections in (1, 32):
             speed, others = loaded(url, connections, seconds, script)
             first.setdefault(connections, speed)
             wrong += others
-            print(f"| {name} | {connections} | {speed:.0f} | {speed / first[connections]:.2f} |", flush=True)
+            print(f"| {name} | {connections} | {speed:.0f} | {speed / first[connections]:.2f} | {others} |", flush=True)
     return wrong
 
 
