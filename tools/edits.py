@@ -4,7 +4,7 @@
     edits.py --check     each edit of edits/NAME/ can be applied: every old text stands once in its file
     edits.py NAME ..     tries the edits of these crates, those of the gate and the others (the crates below are built first)
 
-The gate tries about four edits a crate (crates/NAME/must-fail/), since its time is bounded. The others are of the same form
+The gate tries two edits a crate (crates/NAME/must-fail/), since its time is bounded. The others are of the same form
 and stand in edits/NAME/. Try a crate's when it, or a crate below it, has changed.
 """
 
@@ -59,9 +59,11 @@ def check():
 def attempt(crate):
     """Tries the edits of a crate, all in one run over one another's work."""
     added = []
+    folder = os.path.join(TOP, "crates", crate, "must-fail")
+    os.makedirs(folder, exist_ok=True)
     try:
         for edit in edits(crate):
-            to = os.path.join(TOP, "crates", crate, "must-fail", os.path.basename(edit))
+            to = os.path.join(folder, os.path.basename(edit))
             if os.path.exists(to):
                 sys.exit("%s stands in both places" % os.path.relpath(to, TOP))
             added.append(to)
@@ -71,6 +73,8 @@ def attempt(crate):
         for to in added:
             if os.path.exists(to):
                 os.remove(to)
+        if not os.listdir(folder):
+            os.rmdir(folder)
 
 
 def main(words):

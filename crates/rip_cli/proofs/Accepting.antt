@@ -15,7 +15,6 @@ use Rattle.rip_drive.specs.Driving.{DrivesApp}
 use Rattle.rip_drive.specs.Driving as driving
 use Rattle.rip_trace.specs.Traces.{IsRefusedAt}
 use Rattle.rip_cli.specs.Run.{Told, Ran}
-use Rattle.rip_cli.specs.Words.{IsOffered}
 use Rattle.rip_cli.specs.Lines.{app_line}
 use Rattle.rip_cli.specs.Input.{IsContentOf, IsAppOf, AreThreeOf, IsInputOf, AreRefusedAt, Refuses, RefusesApp, RefusesGestures, RefusesTrace, first_too_long}
 use Rattle.rip_cli.specs.Laws.{HasBytes, HoldApp, HoldGestures, HoldTrace, AreAccepted, AcceptedIsDone}
@@ -24,7 +23,7 @@ use Rattle.rip_cli.specs.declared.input.Content.TheVariants.{Bytes, TooLong}
 use Rattle.rip_cli.specs.declared.input.AppInput.{AppInput}
 use Rattle.rip_cli.specs.declared.input.ThreeFiles.{ThreeFiles}
 use Rattle.rip_cli.specs.declared.input.Input.{Input}
-use Rattle.rip_cli.specs.declared.input.Input.TheVariants.{Check, Replay, Serve, Drive}
+use Rattle.rip_cli.specs.declared.input.Input.TheVariants.{Check, Replay, Serve, Drive, Generate}
 use Rattle.rip_cli.specs.declared.status.Status.TheVariants.{BadWords, BadInput}
 use Rattle.rip_trace.proofs.TraceLemmas.{refusals}
 
@@ -149,18 +148,20 @@ not_refused files (drives page app gestures) (Drive i) line hold contents (inr f
 not_refused files (drives page app gestures) (Check i) line hold contents refuses = contents
 not_refused files (drives page app gestures) (Replay i most) line hold contents refuses = contents
 not_refused files (drives page app gestures) (Serve i most) line hold contents refuses = contents
-not_refused files (generates n) input line hold contents refuses = hold
-
-offered_so : (files : List NamedFile) (task : Task) → AreAccepted files task → IsOffered task
-offered_so files (checks page app) hold = tt
-offered_so files (replays page app trace turns) hold = tt
-offered_so files (serves page app address turns) hold = tt
-offered_so files (drives page app gestures) hold = tt
-offered_so files (generates n) hold = hold
+not_refused files (generates n) (Generate m) line hold contents (inl long) = some_long None long.0 refl long.1
+not_refused files (generates n) (Generate m) line hold contents (inr form) = form.1
+not_refused files (generates n) (Check i) line hold contents refuses = contents
+not_refused files (generates n) (Replay i most) line hold contents refuses = contents
+not_refused files (generates n) (Serve i most) line hold contents refuses = contents
+not_refused files (generates n) (Drive i) line hold contents refuses = contents
+not_refused files (checks page app) (Generate n) line hold contents refuses = contents
+not_refused files (replays page app trace turns) (Generate n) line hold contents refuses = contents
+not_refused files (serves page app address turns) (Generate n) line hold contents refuses = contents
+not_refused files (drives page app gestures) (Generate n) line hold contents refuses = contents
 
 module _ (words : List (List ℕ)) (task : Task) (old new : Told) (files : List NamedFile) (held : old.held ≡ Some files) (is : IsTask words task) (hold : AreAccepted files task) where
   no_other_words : Ran BadWords words old new → ⊥
-  no_other_words ran = ran.1.no_form (task, is, offered_so files task hold)
+  no_other_words ran = ran.1.no_form (task, is)
 
   no_refusal : Ran BadInput words old new → ⊥
   no_refusal ran =

@@ -1,5 +1,5 @@
 -- What files that are not too long say of the application, the trace and the gestures.
-use Rattle.std.proofs.Common.{◌≡◌, ◌∷◌, ℕ, List, [], Some, None, codes, refl, inl, inr}
+use Rattle.std.proofs.Common.{◌≡◌, ◌∷◌, ℕ, List, [], Some, None, codes, refl, inl, inr, subst, sym}
 use Rattle.rip_app.specs.App.{Loaded, AppOf, IsAppRefusal}
 use Rattle.rip_app.specs.declared.refusal.AppRefusal.{AppRefusal}
 use Rattle.rip_trace.specs.Gestures.{AreGestures}
@@ -14,9 +14,10 @@ use Rattle.rip_cli.specs.Input.{IsApp, HasTrace, HasGestures, Refuses, RefusesAp
 use Rattle.rip_cli.specs.Steps.{IsAppCause, IsTraceCause, IsGesturesCause, IsRefusedBy, app_input, file_word, refusal_line}
 use Rattle.rip_cli.specs.declared.input.Content.{Content}
 use Rattle.rip_cli.specs.declared.input.Content.TheVariants.{Bytes, TooLong}
+use Rattle.rip_cli.specs.declared.input.AppInput.{AppInput}
 use Rattle.rip_cli.specs.declared.input.ThreeFiles.{ThreeFiles}
 use Rattle.rip_cli.specs.declared.input.Input.{Input}
-use Rattle.rip_cli.specs.declared.input.Input.TheVariants.{Check, Replay, Serve, Drive}
+use Rattle.rip_cli.specs.declared.input.Input.TheVariants.{Check, Replay, Serve, Drive, Generate}
 use Rattle.rip_cli.specs.declared.refusal.Refusal.{Refusal}
 use Rattle.rip_cli.specs.declared.refusal.Refusal.TheVariants as refusal
 
@@ -44,36 +45,40 @@ last_fits word (Bytes content) TooLong third fits = cc
 last_fits word TooLong manifest third fits = cc
 
 -- page and manifest of input that is not too long
-app_fits : (i : Input) → FitsAll i → first_too_long (app_files (app_input i)) ≡ None
-app_fits (Check i) fits = fits
-app_fits (Replay i turns) fits = front_fits (codes "trace") i.app.page i.app.manifest i.third fits
-app_fits (Serve i turns) fits = fits
-app_fits (Drive i) fits = front_fits (codes "gestures") i.app.page i.app.manifest i.third fits
+same_files : (i files : AppInput) → Some i ≡ Some files → i ≡ files
+same_files i files e = cc
+
+abbrev Fit : AppInput → Type 0
+Fit files = first_too_long (app_files files) ≡ None
+
+app_fits : (i : Input) (files : AppInput) → app_input i ≡ Some files → FitsAll i → Fit files
+app_fits (Check i) files e fits = subst Fit (same_files i files e) fits
+app_fits (Replay i turns) files e fits = subst Fit (same_files i.app files e) (front_fits (codes "trace") i.app.page i.app.manifest i.third fits)
+app_fits (Serve i turns) files e fits = subst Fit (same_files i files e) fits
+app_fits (Drive i) files e fits = subst Fit (same_files i.app files e) (front_fits (codes "gestures") i.app.page i.app.manifest i.third fits)
+app_fits (Generate n) files e fits = cc
 
 -- they are the application that was loaded
-pub is_app : (i : Input) (app : Loaded) → FitsAll i
-    → AppOf (content_bytes (app_input i).page) (content_bytes (app_input i).manifest) app → IsApp (app_input i) app
-is_app i app fits application =
-    let files = app_input i in
+pub is_app : (i : Input) (files : AppInput) (app : Loaded) → app_input i ≡ Some files → FitsAll i
+    → AppOf (content_bytes files.page) (content_bytes files.manifest) app → IsApp files app
+is_app i files app e fits application =
     record {
       page = content_bytes files.page;
       manifest = content_bytes files.manifest;
-      is_page = page_fits files.page files.manifest (app_fits i fits);
-      is_manifest = manifest_fits files.page files.manifest (app_fits i fits);
+      is_page = page_fits files.page files.manifest (app_fits i files e fits);
+      is_manifest = manifest_fits files.page files.manifest (app_fits i files e fits);
       application = application;
     }
 
 -- or are refused
-refuses_app : (i : Input) (cause : AppRefusal) (line : List ℕ) → FitsAll i
-    → IsAppRefusal (content_bytes (app_input i).page) (content_bytes (app_input i).manifest) cause → app_line cause ≡ Some line
-    → RefusesApp (app_input i) line
-refuses_app i cause line fits refused text =
-    let files = app_input i in
+refuses_app : (i : Input) (files : AppInput) (cause : AppRefusal) (line : List ℕ) → app_input i ≡ Some files → FitsAll i
+    → IsAppRefusal (content_bytes files.page) (content_bytes files.manifest) cause → app_line cause ≡ Some line → RefusesApp files line
+refuses_app i files cause line e fits refused text =
     record {
       page = content_bytes files.page;
       manifest = content_bytes files.manifest;
-      is_page = page_fits files.page files.manifest (app_fits i fits);
-      is_manifest = manifest_fits files.page files.manifest (app_fits i fits);
+      is_page = page_fits files.page files.manifest (app_fits i files e fits);
+      is_manifest = manifest_fits files.page files.manifest (app_fits i files e fits);
       refusal = cause;
       refused = refused;
       text = text;
@@ -92,19 +97,25 @@ has_gestures i gestures fits are =
 same_line : (line other : List ℕ) → Some line ≡ Some other → other ≡ line
 same_line line other e = cc
 
-app_refuses : (i : Input) (line : List ℕ) → FitsAll i → RefusesApp (app_input i) line → Refuses i line
-app_refuses (Check i) line fits refused = inr (fits, refused)
-app_refuses (Replay i turns) line fits refused = inr (fits, inl refused)
-app_refuses (Serve i turns) line fits refused = inr (fits, refused)
-app_refuses (Drive i) line fits refused = inr (fits, inl refused)
+app_refuses : (i : Input) (files : AppInput) (line : List ℕ) → app_input i ≡ Some files → FitsAll i → RefusesApp files line → Refuses i line
+app_refuses (Check i) files line e fits refused = inr (fits, subst (λ f. RefusesApp f line) (sym (same_files i files e)) refused)
+app_refuses (Replay i turns) files line e fits refused = inr (fits, inl (subst (λ f. RefusesApp f line) (sym (same_files i.app files e)) refused))
+app_refuses (Serve i turns) files line e fits refused = inr (fits, subst (λ f. RefusesApp f line) (sym (same_files i files e)) refused)
+app_refuses (Drive i) files line e fits refused = inr (fits, inl (subst (λ f. RefusesApp f line) (sym (same_files i.app files e)) refused))
+app_refuses (Generate n) files line e fits refused = cc
 
 -- the cause of a refusal refuses the input by its line
 pub refuses_by : (i : Input) (r : Refusal) (line : List ℕ) → IsRefusedBy i r → refusal_line r ≡ Some line → Refuses i line
 refuses_by i (refusal.TooLong file) line cause e = inl (file_word file, cause, same_line _ line e)
-refuses_by i (refusal.Application cause) line because e = app_refuses i line because.0 (refuses_app i cause line because.0 because.1 e)
+refuses_by i (refusal.Application cause) line because e =
+    let files = because.1.0 in
+    let has = because.1.1 in
+    app_refuses i files line has because.0 (refuses_app i files cause line has because.0 because.1.2 e)
 refuses_by (Check i) (refusal.Trace number) line cause e = absurd cause
 refuses_by (Serve i turns) (refusal.Trace number) line cause e = absurd cause
 refuses_by (Drive i) (refusal.Trace number) line cause e = absurd cause
+refuses_by (Generate n) (refusal.Trace number) line cause e = absurd cause
+refuses_by (Generate n) (refusal.Gestures number) line cause e = absurd cause
 refuses_by (Check i) (refusal.Gestures number) line cause e = absurd cause
 refuses_by (Replay i turns) (refusal.Gestures number) line cause e = absurd cause
 refuses_by (Serve i turns) (refusal.Gestures number) line cause e = absurd cause
@@ -127,12 +138,12 @@ refuses_by (Replay i turns) (refusal.Trace number) line because e = inr (
 refuses_by i refusal.Memory line cause e = cc
 
 -- why the application is refused is why the input is
-pub app_cause : (i : Input) (r : Refusal) → FitsAll i → IsAppCause (app_input i) r → IsRefusedBy i r
-app_cause i (refusal.TooLong file) fits cause = absurd cause
-app_cause i (refusal.Application cause') fits cause = (fits, cause)
-app_cause i (refusal.Trace line) fits cause = absurd cause
-app_cause i (refusal.Gestures line) fits cause = absurd cause
-app_cause i refusal.Memory fits cause = tt
+pub app_cause : (i : Input) (files : AppInput) (r : Refusal) → app_input i ≡ Some files → FitsAll i → IsAppCause files r → IsRefusedBy i r
+app_cause i files (refusal.TooLong file) e fits cause = absurd cause
+app_cause i files (refusal.Application cause') e fits cause = (fits, (files, e, cause))
+app_cause i files (refusal.Trace line) e fits cause = absurd cause
+app_cause i files (refusal.Gestures line) e fits cause = absurd cause
+app_cause i files refusal.Memory e fits cause = tt
 
 -- and why the trace is, where there is an application
 pub trace_cause : (i : ThreeFiles) (turns : ℕ) (app : Loaded) (r : Refusal) → FitsAll (Replay i turns) → IsApp i.app app → IsTraceCause i r

@@ -4,7 +4,7 @@ use Rattle.rip_outer.proofs.Composing.{Front-none}
 use Rattle.rip_outer.specs.declared.reading.NamedFile.{NamedFile}
 use Rattle.rip_words.specs.Commands.{Task, IsTask}
 use Rattle.rip_turn.specs.Turning.{Outer}
-use Rattle.rip_cli.specs.Words.{IsForm, IsOffered, in_order, usage_line}
+use Rattle.rip_cli.specs.Words.{IsForm, in_order, usage_line}
 use Rattle.rip_cli.specs.Steps.{AskedFront, PutsLine, CountsStatus}
 use Rattle.rip_cli.specs.Settling.{Settles, Counts, with_sink}
 use Rattle.rip_cli.specs.Run.{Told, Reads, StopsReading, Ran}
@@ -27,7 +27,7 @@ settled_ran Outside words old new i reads calm (inr does) counts =
     inr (calm, counts, inr (inr (record { input = i; reads = reads; does = does })))
 settled_ran NoMemory words old new i reads calm (inl nothing) counts = (
   (calm, counts),
-  inl (record { task = reads.task; form = reads.form; offered = reads.offered; first = in_order reads.task; others = []; in_order = sym (append-nil (in_order reads.task)); asked = reads.asked; nothing = nothing }),
+  inl (record { task = reads.task; form = reads.form; first = in_order reads.task; others = []; in_order = sym (append-nil (in_order reads.task)); asked = reads.asked; nothing = nothing }),
 )
 settled_ran NoMemory words old new i reads calm (inr (inl refused)) counts =
     ((calm, counts), inr (inr (inl (record { input = i; reads = reads; line = refused.0; refuses = refused.1; put = refused.2 }))))
@@ -53,7 +53,7 @@ module _ (words : List (List ℕ)) (files : Option (List NamedFile)) (asked : Op
   )
 
 -- a run that stopped while it read
-pub stopped_reading : (words : List (List ℕ)) (old new : Told) (task : Task) → IsTask words task → IsOffered task
+pub stopped_reading : (words : List (List ℕ)) (old new : Told) (task : Task) → IsTask words task
     → AskedFront (in_order task) old.asked new.asked → new.outer ≡ old.outer → StopsReading words old new
-stopped_reading words old new task form offered asked nothing =
-    record { task = task; form = form; offered = offered; first = asked.first; others = asked.others; in_order = asked.in_order; asked = asked.asked; nothing = nothing }
+stopped_reading words old new task form asked nothing =
+    record { task = task; form = form; first = asked.first; others = asked.others; in_order = asked.in_order; asked = asked.asked; nothing = nothing }

@@ -12,7 +12,8 @@ use Rattle.rip_cli.specs.declared.input.AppInput.{AppInput}
 use Rattle.rip_cli.specs.declared.input.ThreeFiles.{ThreeFiles}
 use Rattle.rip_cli.specs.Service.{IsTraceOf}
 use Rattle.rip_cli.specs.declared.input.Input.{Input}
-use Rattle.rip_cli.specs.declared.input.Input.TheVariants.{Check, Drive}
+use Rattle.rip_cli.specs.declared.input.Input.TheVariants.{Check, Drive, Generate}
+use Rattle.rip_generate.specs.Generated.{IsGenerated}
 use Rattle.rip_cli.specs.declared.refusal.Refusal.{Refusal}
 use Rattle.rip_cli.specs.declared.status.Status.{Status}
 use Rattle.rip_cli.specs.declared.status.Status.TheVariants.{Read, BadWords, BadInput, TurnsSpent, Outside, NoMemory}
@@ -85,7 +86,7 @@ module _ (i : AppInput) (rest : Outer) (held held_new : Option (List ℕ)) (faul
       → Settles s (Check i) (with_sink rest held faults) (with_sink rest held_new faults_new)
   count_settles s app fits application puts counts =
       count_line_settles s (count_line (length app.page.nodes) (length app.program.grove.roots))
-      (record { app = app; is_app = is_app (Check i) app fits application; text = refl }) puts counts
+      (record { app = app; is_app = is_app (Check i) i app refl fits application; text = refl }) puts counts
 
 module _ (i : ThreeFiles) (rest : Outer) (held held_new : Option (List ℕ)) (faults faults_new : ℕ) where
   -- what was put of the trace of a client settles the input
@@ -97,3 +98,14 @@ module _ (i : ThreeFiles) (rest : Outer) (held held_new : Option (List ℕ)) (fa
   trace_settles TurnsSpent text is puts counts = absurd puts
   trace_settles Outside text is puts counts = inr (text, is, puts)
   trace_settles NoMemory text is puts counts = inl (same_sink rest held held_new faults faults_new puts counts)
+
+module _ (n : ℕ) (rest : Outer) (held held_new : Option (List ℕ)) (faults faults_new : ℕ) where
+  -- what was put of the line of generated work settles the input
+  pub generated_settles : (s : Status) (line : List ℕ) → IsGenerated n line → PutsLine Read s line held held_new → CountsStatus s faults faults_new
+      → Settles s (Generate n) (with_sink rest held faults) (with_sink rest held_new faults_new)
+  generated_settles Read line is puts counts = (line, is, puts.1)
+  generated_settles BadWords line is puts counts = cc
+  generated_settles BadInput line is puts counts = cc
+  generated_settles TurnsSpent line is puts counts = absurd puts
+  generated_settles Outside line is puts counts = inr (line, is, puts)
+  generated_settles NoMemory line is puts counts = inl (same_sink rest held held_new faults faults_new puts counts)

@@ -3,7 +3,7 @@ use Rattle.std.specs.Prelude.{◌≡◌, ◌≤◌, ◌∷◌, ◌⊎◌, ℕ, L
 use Rattle.rip_outer.specs.Reading.{IsContents, IsTooLong}
 use Rattle.rip_outer.specs.declared.reading.NamedFile.{NamedFile}
 use Rattle.rip_outer.specs.declared.reading.TheConstants.{MAX_FILE}
-use Rattle.rip_words.specs.Commands.{Task, checks, replays, serves, drives}
+use Rattle.rip_words.specs.Commands.{Task, checks, replays, serves, drives, generates}
 use Rattle.rip_app.specs.App.{Loaded, AppOf, IsAppRefusal}
 use Rattle.rip_app.specs.declared.refusal.AppRefusal.{AppRefusal}
 use Rattle.rip_trace.specs.Gestures.{AreGestures, HasNoLineAt}
@@ -17,7 +17,7 @@ use Rattle.rip_cli.specs.declared.input.Content.TheVariants.{Bytes, TooLong}
 use Rattle.rip_cli.specs.declared.input.AppInput.{AppInput}
 use Rattle.rip_cli.specs.declared.input.ThreeFiles.{ThreeFiles}
 use Rattle.rip_cli.specs.declared.input.Input.{Input}
-use Rattle.rip_cli.specs.declared.input.Input.TheVariants.{Check, Replay, Serve, Drive}
+use Rattle.rip_cli.specs.declared.input.Input.TheVariants.{Check, Replay, Serve, Drive, Generate}
 
 -- ---- files
 
@@ -40,6 +40,7 @@ IsInputOf held (checks page app) (Check i) = IsAppOf held page app i
 IsInputOf held (replays page app trace turns) (Replay i most) = AreThreeOf held page app trace i × (most ≡ turns)
 IsInputOf held (serves page app address turns) (Serve i most) = IsAppOf held page app i × (most ≡ turns)
 IsInputOf held (drives page app gestures) (Drive i) = AreThreeOf held page app gestures i
+IsInputOf held (generates n) (Generate number) = number ≡ n
 IsInputOf held task input = ⊥
 
 -- ---- lengths
@@ -56,6 +57,7 @@ files_of (Check i) = app_files i
 files_of (Replay i turns) = three_files (codes "trace") i
 files_of (Serve i turns) = app_files i
 files_of (Drive i) = three_files (codes "gestures") i
+files_of (Generate n) = []
 
 -- the word, where its file is too long, and else another
 abbrev pub word_or : List ℕ → Content → Option (List ℕ) → Option (List ℕ)
@@ -146,6 +148,7 @@ RefusesForm (Check i) line = RefusesApp i line
 RefusesForm (Replay i turns) line = RefusesApp i.app line ⊎ RefusesTrace i line
 RefusesForm (Serve i turns) line = RefusesApp i line
 RefusesForm (Drive i) line = RefusesApp i.app line ⊎ RefusesGestures i line
+RefusesForm (Generate n) line = ⊥
 
 -- the line for input of which a file is too long: it names the first one
 abbrev pub RefusesLength : Input → List ℕ → Type 0

@@ -48,7 +48,7 @@ AreAccepted files (checks page app) = HoldApp files page app
 AreAccepted files (replays page app trace turns) = HoldApp files page app × HoldTrace files trace
 AreAccepted files (serves page app address turns) = HoldApp files page app
 AreAccepted files (drives page app gestures) = (hold : HoldApp files page app) × HoldGestures files hold.app gestures
-AreAccepted files (generates n) = ⊥
+AreAccepted files (generates n) = Unit {0}
 
 -- a run whose files are accepted does what the words ask for: it refuses neither them nor the files
 abbrev pub AcceptedIsDone : Type 0

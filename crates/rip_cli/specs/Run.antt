@@ -5,7 +5,7 @@ use Rattle.rip_outer.specs.declared.reading.NamedFile.{NamedFile}
 use Rattle.rip_words.specs.Commands.{Task, IsTask}
 use Rattle.rip_turn.specs.Turning.{Outer}
 use Rattle.rip_serve.specs.Serving.{NoFaults, OneFault}
-use Rattle.rip_cli.specs.Words.{IsForm, IsOffered, in_order, usage_line}
+use Rattle.rip_cli.specs.Words.{IsForm, in_order, usage_line}
 use Rattle.rip_cli.specs.Input.{IsInputOf, Refuses}
 use Rattle.rip_cli.specs.Service.{Does}
 use Rattle.rip_cli.specs.Settling.{Puts, PutsFront}
@@ -29,7 +29,6 @@ AreCalm old new = (new.reads_failed ≡ old.reads_failed) × NoFaults old.outer 
 pub record Reads (words : List (List ℕ)) (old new : Told) (i : Input) : Type 0 where
   pub task : Task
   pub form : IsTask words task
-  pub offered : IsOffered task
   pub contents : IsInputOf old.held task i
   pub asked : new.asked ≡ also (in_order task) old.asked
 
@@ -51,7 +50,6 @@ pub record PutsRefusal (words : List (List ℕ)) (old new : Told) : Type 0 where
 pub record StopsReading (words : List (List ℕ)) (old new : Told) : Type 0 where
   pub task : Task
   pub form : IsTask words task
-  pub offered : IsOffered task
   pub first : List (List ℕ)
   pub others : List (List ℕ)
   pub in_order : in_order task ≡ first ++ others

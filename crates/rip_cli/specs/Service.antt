@@ -6,6 +6,7 @@ use Rattle.rip_app.specs.App.{Loaded}
 use Rattle.rip_trace.specs.Traces.{Given}
 use Rattle.rip_trace.specs.declared.gestures.LinedGesture.{LinedGesture}
 use Rattle.rip_drive.specs.Driving as driving
+use Rattle.rip_generate.specs.Generated.{IsGenerated}
 use Rattle.rip_course.specs.Run.{Site}
 use Rattle.rip_course.specs.Services.{service_of}
 use Rattle.rip_server.specs.Acts.{seen}
@@ -19,7 +20,7 @@ use Rattle.rip_cli.specs.Input.{IsApp, HasTrace, HasGestures, IsCount}
 use Rattle.rip_cli.specs.declared.input.AppInput.{AppInput}
 use Rattle.rip_cli.specs.declared.input.ThreeFiles.{ThreeFiles}
 use Rattle.rip_cli.specs.declared.input.Input.{Input}
-use Rattle.rip_cli.specs.declared.input.Input.TheVariants.{Check, Replay, Serve, Drive}
+use Rattle.rip_cli.specs.declared.input.Input.TheVariants.{Check, Replay, Serve, Drive, Generate}
 use Rattle.rip_cli.specs.declared.status.Status.{Status}
 use Rattle.rip_cli.specs.declared.status.Status.TheVariants.{Read, BadWords, BadInput, TurnsSpent, Outside, NoMemory}
 
@@ -113,6 +114,17 @@ PutsDriven i TurnsSpent old new = ⊥
 PutsDriven i Outside old new = (text : List ℕ) × IsTraceOf i text × Front text old new
 PutsDriven i NoMemory old new = (text : List ℕ) × IsTraceOf i text × Front text old new
 
+-- ---- generate
+
+-- the line of the generated work of a number was put, or a front of it, or nothing
+abbrev pub PutsGenerated : ℕ → Status → Option (List ℕ) → Option (List ℕ) → Type 0
+PutsGenerated n Read old new = (line : List ℕ) × IsGenerated n line × (new ≡ also line old)
+PutsGenerated n BadWords old new = ⊥
+PutsGenerated n BadInput old new = ⊥
+PutsGenerated n TurnsSpent old new = ⊥
+PutsGenerated n Outside old new = (line : List ℕ) × IsGenerated n line × Front line old new
+PutsGenerated n NoMemory old new = (line : List ℕ) × IsGenerated n line × Front line old new
+
 -- ---- any
 
 -- what was done for input that is accepted, up to how the run ended
@@ -121,3 +133,4 @@ Does (Check i) status old new = PutsCount i status old.seen.held new.seen.held
 Does (Replay i most) status old new = ServesTrace i most status old new
 Does (Serve i most) status old new = ServesDoor i most status old new
 Does (Drive i) status old new = PutsDriven i status old.seen.held new.seen.held
+Does (Generate n) status old new = PutsGenerated n status old.seen.held new.seen.held

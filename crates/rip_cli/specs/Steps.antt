@@ -10,7 +10,7 @@ use Rattle.rip_cli.specs.Input.{IsApp, AreRefusedAt, FitsAll, files_of, first_to
 use Rattle.rip_cli.specs.declared.input.AppInput.{AppInput}
 use Rattle.rip_cli.specs.declared.input.ThreeFiles.{ThreeFiles}
 use Rattle.rip_cli.specs.declared.input.Input.{Input}
-use Rattle.rip_cli.specs.declared.input.Input.TheVariants.{Check, Replay, Serve, Drive}
+use Rattle.rip_cli.specs.declared.input.Input.TheVariants.{Check, Replay, Serve, Drive, Generate}
 use Rattle.rip_cli.specs.declared.input.InputFile.{InputFile}
 use Rattle.rip_cli.specs.declared.input.InputFile.TheVariants as part
 use Rattle.rip_cli.specs.declared.input.ReadStop.{ReadStop}
@@ -86,12 +86,13 @@ IsGesturesCause i (refusal.Application cause) = ⊥
 IsGesturesCause i (refusal.TooLong file) = ⊥
 IsGesturesCause i refusal.Memory = Unit {0}
 
--- the application of the input, if it asks for one
-abbrev pub app_input : Input → AppInput
-app_input (Check i) = i
-app_input (Replay i turns) = i.app
-app_input (Serve i turns) = i
-app_input (Drive i) = i.app
+-- the files of the application, if the input has one
+abbrev pub app_input : Input → Option AppInput
+app_input (Check i) = Some i
+app_input (Replay i turns) = Some i.app
+app_input (Serve i turns) = Some i
+app_input (Drive i) = Some i.app
+app_input (Generate n) = None
 
 -- the input asks for service
 abbrev pub IsServe : Input → Type 0
@@ -99,21 +100,25 @@ IsServe (Check i) = ⊥
 IsServe (Replay i turns) = ⊥
 IsServe (Serve i turns) = Unit {0}
 IsServe (Drive i) = ⊥
+IsServe (Generate n) = ⊥
 
 -- why input is refused, the first cause that applies; want of memory has none
 abbrev pub IsRefusedBy : Input → Refusal → Type 0
 IsRefusedBy i (refusal.TooLong file) = first_too_long (files_of i) ≡ Some (file_word file)
-IsRefusedBy i (refusal.Application cause) = FitsAll i × IsAppCause (app_input i) (refusal.Application cause)
+IsRefusedBy i (refusal.Application cause) =
+    FitsAll i × ((files : AppInput) × (app_input i ≡ Some files) × IsAppCause files (refusal.Application cause))
 IsRefusedBy (Replay i turns) (refusal.Trace line) =
     FitsAll (Replay i turns) × ((app : Loaded) × IsApp i.app app) × IsTraceCause i (refusal.Trace line)
 IsRefusedBy (Check i) (refusal.Trace line) = ⊥
 IsRefusedBy (Serve i turns) (refusal.Trace line) = ⊥
 IsRefusedBy (Drive i) (refusal.Trace line) = ⊥
+IsRefusedBy (Generate n) (refusal.Trace line) = ⊥
 IsRefusedBy (Drive i) (refusal.Gestures line) =
     FitsAll (Drive i) × ((app : Loaded) × IsApp i.app app × AreRefusedAt app i line)
 IsRefusedBy (Check i) (refusal.Gestures line) = ⊥
 IsRefusedBy (Replay i turns) (refusal.Gestures line) = ⊥
 IsRefusedBy (Serve i turns) (refusal.Gestures line) = ⊥
+IsRefusedBy (Generate n) (refusal.Gestures line) = ⊥
 IsRefusedBy i refusal.Memory = Unit {0}
 
 -- ---- putting a line

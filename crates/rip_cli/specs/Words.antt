@@ -2,17 +2,9 @@
 use Rattle.std.specs.Prelude.{◌∷◌, ℕ, List, [], codes}
 use Rattle.rip_words.specs.Commands.{Task, checks, replays, serves, drives, generates, IsTask}
 
--- the program does what is asked for
-abbrev pub IsOffered : Task → Type 0
-IsOffered (checks page app) = Unit {0}
-IsOffered (replays page app trace turns) = Unit {0}
-IsOffered (serves page app address turns) = Unit {0}
-IsOffered (drives page app gestures) = Unit {0}
-IsOffered (generates n) = ⊥
-
--- the words have a form, and the program does what they ask for
+-- the words have a form
 abbrev pub IsForm : List (List ℕ) → Type 0
-IsForm words = (task : Task) × IsTask words task × IsOffered task
+IsForm words = (task : Task) × IsTask words task
 
 -- the words ask for service
 abbrev pub AskToServe : List (List ℕ) → Type 0

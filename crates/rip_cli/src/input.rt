@@ -6,7 +6,7 @@ ghost use Rattle.rip_words.specs.Commands.{task_of};
 ghost use Rattle.rip_cli.specs.Content.{content_bytes, is_long};
 ghost use Rattle.rip_cli.specs.Input.{AreThreeOf, IsAppOf, IsContentOf, IsInputOf, app_files, files_of, first_too_long, three_files};
 ghost use Rattle.rip_cli.specs.Steps.{Asked, CountsReading, IsAppCause, IsGesturesCause, IsTraceCause, file_word, word_of};
-ghost use Rattle.rip_cli.specs.Words.{IsOffered, in_order};
+ghost use Rattle.rip_cli.specs.Words.{in_order};
 
 use crate::refusal::Refusal;
 use rip_app::{App, load};
@@ -38,13 +38,14 @@ pub struct ThreeFiles {
     pub third: Content,
 }
 
-/// What the words and the files that they name give; `turns` is how many turns may be made.
+/// What the words and the files that they name give; `turns` is how many turns may be made. Generated work has no file.
 #[derive(Debug, Drop)]
 pub enum Input {
     Check(AppInput),
     Replay { files: ThreeFiles, turns: u64 },
     Serve { files: AppInput, turns: u64 },
     Drive(ThreeFiles),
+    Generate(u32),
 }
 
 /// A file of the input.
@@ -222,7 +223,6 @@ impl Input {
         files: &mut F,
         command: &Command<'_>,
     ) -> Result<Input, ReadStop>
-        requires { IsOffered (task_of command.now) }
         ensures input { IfOk result (IsInputOf (F.held files.old) (task_of command.now)) }
         ensures asked { Asked result (in_order (task_of command.now))
             (F.asked files.old) (F.asked files.new) }
@@ -259,7 +259,7 @@ impl Input {
                 Ok(files) => Ok(Input::Drive(files)),
                 Err(stop) => Err(stop),
             },
-            Command::Generate(_) => unreachable!(),
+            Command::Generate(n) => Ok(Input::Generate(n)),
         }
     }
 
@@ -272,6 +272,7 @@ impl Input {
             Input::Replay { files, .. } => files.first_too_long(InputFile::Trace),
             Input::Serve { files, .. } => files.first_too_long(),
             Input::Drive(files) => files.first_too_long(InputFile::Gestures),
+            Input::Generate(_) => None,
         }
     }
 }

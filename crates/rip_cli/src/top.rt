@@ -14,10 +14,11 @@ use crate::lines::count_line;
 use crate::refusal::Refusal;
 use crate::serving::{replay, serve_app};
 use crate::status::Status;
-use crate::words::offered;
 use rip_app::App;
 use rip_drive::{DriveRefusal, drive};
+use rip_generate::generate;
 use rip_outer::{Clock, Door, Files, Sink, SinkError, Words};
+use rip_words::command_of;
 use std::alloc::Global;
 
 /// What other words are answered.
@@ -121,6 +122,19 @@ fn settle_drive<S: Sink>(alloc: Global, files: &ThreeFiles, out: &mut S) -> Stat
     }
 }
 
+/// Puts the line of the work that a number makes.
+fn settle_generate<S: Sink>(alloc: Global, n: u32, out: &mut S) -> Status
+    ensures settles { (rest : Outer) → Settles result (Input.Generate n)
+        (with_sink rest (S.held out.old) (S.count out.old))
+        (with_sink rest (S.held out.new) (S.count out.new)) }
+    ensures counted { CountsStatus result (S.count out.old) (S.count out.new) }
+{
+    match generate(alloc, n) {
+        Ok(line) => put_line(line.as_slice(), Status::Read, out),
+        Err(_) => Status::NoMemory,
+    }
+}
+
 /// Serves at the door the application of the files, none of which is too long, or puts the line that says why they are
 /// refused.
 fn settle_serve<D: Door, C: Clock, W: Words, S: Sink>(
@@ -194,6 +208,7 @@ fn settle<D: Door, C: Clock, W: Words, S: Sink>(
             settle_serve(alloc, files, *turns, door, clock, random, out)
         }
         Input::Drive(files) => settle_drive(alloc, files, out),
+        Input::Generate(n) => settle_generate(alloc, *n, out),
     }
 }
 
@@ -205,6 +220,7 @@ fn settle<D: Door, C: Clock, W: Words, S: Sink>(
 /// | `replay PAGE APP TRACE [--turns=N]` | the trace is served from memory | the log |
 /// | `serve PAGE APP ADDRESS [--turns=N]` | the door is served, whatever the address | the log |
 /// | `drive PAGE APP GESTURES` | a truthful client is driven by the gestures | its trace |
+/// | `generate N` | the work that the number makes is told and served | the line that sums it up |
 ///
 /// Words other than `serve` leave door, clock and random words as they are.
 pub fn ripley<F: Files, D: Door, C: Clock, W: Words, S: Sink>(
@@ -240,7 +256,7 @@ pub fn ripley<F: Files, D: Door, C: Clock, W: Words, S: Sink>(
     ensures alone { (¬ AskToServe (map string_bytes words.now))
         → (door.new ≡ door.old) × (clock.new ≡ clock.old) × (random.new ≡ random.old) }
 {
-    let Some(command) = offered(words) else {
+    let Some(command) = command_of(words) else {
         return put_line(USAGE, Status::BadWords, out);
     };
     match Input::read(alloc, files, &command) {

@@ -117,7 +117,7 @@ fn answers_words_that_are_no_form(rt: HostRuntime) -> Result<(), Fail> {
         &["check", "p"],
         &["check", "p", "a", "t"],
         &["serve", "p", "a"],
-        &["generate", "7"],
+        &["generate", "07"],
     ];
     let named = [("p", PAGE), ("a", APP), ("t", TRACE)];
     for words in table {
@@ -160,6 +160,16 @@ fn drives_gestures(rt: HostRuntime) -> Result<(), Fail> {
         assert_eq!(rt; status, expected);
         assert!(rt; put.as_slice() == text.as_bytes());
     }
+    Ok(())
+}
+
+#[test]
+fn generates_work(rt: HostRuntime) -> Result<(), Fail> {
+    let (status, put) = run(rt.alloc(), &["generate", "7"], &[], &[])?;
+    assert_eq!(rt; status, Status::Read);
+    assert!(rt;
+        put.as_slice() == b"generate 7 sessions 10 served 73 ended 1 turns 405\n".as_slice()
+    );
     Ok(())
 }
 

@@ -3,7 +3,7 @@ use Rattle.rip_server.specs.Acts.{seen}
 use Rattle.rip_turn.specs.Turning.{outer, source}
 use Rattle.rip_cli.specs.Settling.{Settles, with_sink}
 use Rattle.rip_cli.specs.declared.input.Input.{Input}
-use Rattle.rip_cli.specs.declared.input.Input.TheVariants.{Check, Drive, Replay}
+use Rattle.rip_cli.specs.declared.input.Input.TheVariants.{Check, Drive, Generate, Replay}
 use Rattle.rip_cli.specs.declared.refusal.Refusal.TheVariants.{TooLong}
 use Rattle.rip_cli.proofs.SettleLemmas.{counts_all, refusal_settles}
 use Rattle.rip_cli.proofs.top.settle.Goals as goal
@@ -64,3 +64,18 @@ returns-in-Drive-clause-counted g c =
     let a = c.args in
     let rest = outer (seen (g.D.Door.sent a.door.now) (g.D.Door.knocks a.door.now) (g.D.Door.shuts a.door.now) (g.D.Door.asked a.door.now) (g.S.Sink.held a.out.now)) (source (g.C.Clock.told a.clock.now) (g.C.Clock.coming a.clock.now)) (source (g.W.Words.told a.random.now) (g.W.Words.coming a.random.now)) (g.D.Door.count a.door.now) (g.S.Sink.count a.out.now) in
     counts_all c.settle_drive.result rest _ _ _ _ c.settle_drive.ensures.counted
+
+pub returns-in-Generate-clause-settles : goal.returns-in-Generate-clause-settles
+returns-in-Generate-clause-settles g c =
+    let a = c.args in
+    let rest = outer (seen (g.D.Door.sent a.door.now) (g.D.Door.knocks a.door.now) (g.D.Door.shuts a.door.now) (g.D.Door.asked a.door.now) (g.S.Sink.held a.out.now)) (source (g.C.Clock.told a.clock.now) (g.C.Clock.coming a.clock.now)) (source (g.W.Words.told a.random.now) (g.W.Words.coming a.random.now)) (g.D.Door.count a.door.now) (g.S.Sink.count a.out.now) in
+    let held = g.S.Sink.held c.settle_generate.new.out in
+    let e : a.input.now ≡ Generate c.in-Generate.n = search rules in
+    let P : Input → Type 0 = λ i. Settles c.settle_generate.result i (with_sink rest (g.S.Sink.held a.out.now) (g.S.Sink.count a.out.now)) (with_sink rest held (g.S.Sink.count c.settle_generate.new.out)) in
+    subst P (sym e) (c.settle_generate.ensures.settles rest)
+
+pub returns-in-Generate-clause-counted : goal.returns-in-Generate-clause-counted
+returns-in-Generate-clause-counted g c =
+    let a = c.args in
+    let rest = outer (seen (g.D.Door.sent a.door.now) (g.D.Door.knocks a.door.now) (g.D.Door.shuts a.door.now) (g.D.Door.asked a.door.now) (g.S.Sink.held a.out.now)) (source (g.C.Clock.told a.clock.now) (g.C.Clock.coming a.clock.now)) (source (g.W.Words.told a.random.now) (g.W.Words.coming a.random.now)) (g.D.Door.count a.door.now) (g.S.Sink.count a.out.now) in
+    counts_all c.settle_generate.result rest _ _ _ _ c.settle_generate.ensures.counted

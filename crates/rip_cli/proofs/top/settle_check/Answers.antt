@@ -1,3 +1,4 @@
+use Rattle.std.proofs.Common.{refl}
 use Rattle.rip_cli.specs.declared.input.Input.TheVariants.{Check}
 use Rattle.rip_cli.proofs.FileLemmas.{app_cause}
 use Rattle.rip_cli.proofs.SettleLemmas.{count_settles, refusal_settles}
@@ -10,4 +11,4 @@ returns-in-Ok-clause-settles g c = λ rest.
 pub returns-in-Err-clause-settles : goal.returns-in-Err-clause-settles
 returns-in-Err-clause-settles g c = λ rest.
     refusal_settles (Check c.args.files.now) rest _ _ _ _ c.refuse.result c.in-Err.refusal
-    (app_cause (Check c.args.files.now) c.in-Err.refusal c.requires c.in-Err.ensures.refused) c.refuse.ensures.put c.refuse.ensures.counted
+    (app_cause (Check c.args.files.now) c.args.files.now c.in-Err.refusal refl c.requires c.in-Err.ensures.refused) c.refuse.ensures.put c.refuse.ensures.counted
