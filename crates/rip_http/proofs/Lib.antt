@@ -3,6 +3,8 @@ pub mod FieldLemmas
 pub mod HeadEndLemmas
 pub mod HeadLemmas
 pub mod RouteLemmas
+pub mod SaidLemmas
 pub mod StageLemmas
 pub mod StreamLemmas
 pub mod TargetLemmas
+pub mod WholeLemmas

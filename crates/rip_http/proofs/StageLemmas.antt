@@ -1,14 +1,14 @@
 -- What a stage tells of the bytes.
 use Rattle.std.proofs.Common.{◌≡◌, ℕ, ◌+◌, ◌-◌, ◌≤◌, ◌<◌, ⊎_elim, min, Bool, true, false, leb, IsTrue, List, ◌++◌, length, take, drop, Option, Some, None, unwrap_or, refl, sym, ap, ◌∙◌, subst, arith}
 use Rattle.std.specs.Bool.{OnTrue, OnFalse}
-use Rattle.std.proofs.lemmas.List.{take_all, take-append-drop}
+use Rattle.std.proofs.lemmas.List.{take_all, take-append-drop, length-drop, length-take-le}
 use Rattle.std.proofs.lemmas.Bool.{cases_lt, cond-true, cond-false, le-leb, lt-leb, leb-true}
 use Rattle.httparse.specs.Spans.{IsWithin, span_bytes}
-use Rattle.rip_http.specs.Heads.{after, head_end, head_at}
+use Rattle.rip_http.specs.Heads.{after, blank, head_end, head_at}
 use Rattle.rip_http.specs.Routes.{segment_of}
 use Rattle.rip_http.specs.Verdicts.{Verdict, Refuses, Goes, IsVerdict}
 use Rattle.rip_http.specs.Stream.{Next, waits, refuses, takes, behind, IsNextAt, IsNext, code_of, allowed_by}
-use Rattle.rip_http.specs.Stages.{IsStage, refused_of}
+use Rattle.rip_http.specs.Stages.{IsStage, IsWhole, IsJudged, verdict_in, refused_of}
 use Rattle.rip_http.specs.declared.head.Scan.{Scan}
 use Rattle.rip_http.specs.declared.head.Scan.TheVariants.{Before}
 use Rattle.rip_http.specs.declared.request.Method.TheVariants.{Get}
@@ -19,8 +19,10 @@ use Rattle.rip_http.specs.declared.request.Message.{Message}
 use Rattle.rip_http.specs.declared.stage.Awaited.{Awaited}
 use Rattle.rip_http.specs.declared.stage.Stage.{Stage}
 use Rattle.rip_http.specs.declared.stage.Stage.TheVariants.{Head, Body, Refused}
+use Rattle.rip_http.specs.declared.verdict.Judged.{Judged}
 use Rattle.rip_http.proofs.HeadLemmas.{after-none}
 use Rattle.rip_http.proofs.StreamLemmas.{next_one, head_end_stays, head_end_le, head_at_stays, refuses_stay}
+use Rattle.rip_http.proofs.WholeLemmas.{whole_at}
 
 -- ---- what stands at the front
 
@@ -114,6 +116,26 @@ window_is bytes limit e =
     (λ (long : 8192 < length bytes). let same : limit ≡ 8192 = omega arith in ap (λ k. take k bytes) same)
     (λ (short : length bytes ≤ 8192). take_all limit bytes (omega arith) ∙ sym (take_all 8192 bytes short))
     (cases_lt 8192 (length bytes))
+
+-- a head that stands whole behind CR and LF
+pub whole_there : (bytes : List ℕ) (limit k size : ℕ) (found judged : Judged) → found ≡ judged → limit ≡ min (length bytes) 8192 → k ≡ blank (take limit bytes) → k ≤ length (take limit bytes)
+    → IsWhole (take (length (take limit bytes) - k) (drop k (take limit bytes))) size found
+    → (head_end (take 8192 bytes) ≡ Some (k + size))
+    × IsVerdict (head_at bytes (k + size)) (verdict_in (head_at bytes (k + size)) judged)
+    × IsJudged (length (head_at bytes (k + size))) judged
+whole_there bytes limit k size found judged is limited blanks within whole =
+    let window = take 8192 bytes in
+    let first = take limit bytes in
+    let same : first ≡ window = window_is bytes limit limited in
+    let place : k ≡ blank window = blanks ∙ ap blank same in
+    let front : take (length first - k) (drop k first) ≡ drop (blank window) window =
+    take_all (length first - k) (drop k first) (omega (arith, length-drop k first)) ∙ ap (λ j. drop j first) place ∙ ap (drop (blank window)) same in
+    let here = subst (λ (xs : List ℕ). IsWhole xs size judged) front (subst (λ (j : Judged). IsWhole (take (length first - k) (drop k first)) size j) is whole) in
+    let ends = whole_at bytes size here.ends in
+    let verdict = subst (λ (head : List ℕ). IsVerdict head (verdict_in head judged)) (sym ends.1) here.verdict_is in
+    let target = subst (λ (n : ℕ). IsJudged n judged) (sym (ap length ends.1 ∙ length-take-le size (drop (blank window) window) here.within)) here.target_is in
+    let P : ℕ → Type 0 = λ j. (head_end (take 8192 bytes) ≡ Some (j + size)) × IsVerdict (head_at bytes (j + size)) (verdict_in (head_at bytes (j + size)) judged) × IsJudged (length (head_at bytes (j + size))) judged in
+    subst P (sym place) (ends.0, verdict, target)
 
 -- ---- what a stage says of refusals
 

@@ -5,6 +5,7 @@ pub mod Heads
 pub mod Laws
 pub mod Routes
 pub mod Routing
+pub mod Said
 pub mod Stages
 pub mod Stream
 pub mod Verdicts

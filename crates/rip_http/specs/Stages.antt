@@ -32,6 +32,13 @@ abbrev pub IsJudged : ℕ → Judged → Type 0
 IsJudged n (RefusedSo refused) = Unit {0}
 IsJudged n (Passed going target) = IsWithin n target
 
+-- a head of this size stands whole at the front of these bytes, and this comes of it
+pub record IsWhole (bytes : List ℕ) (size : ℕ) (judged : Judged) : Type 0 where
+  pub within : size ≤ length bytes
+  pub ends : head_end bytes ≡ Some size
+  pub verdict_is : IsVerdict (take size bytes) (verdict_in (take size bytes) judged)
+  pub target_is : IsJudged size judged
+
 -- how far the message at the front of these bytes has come
 abbrev pub IsStage : List ℕ → Stage → Type 0
 IsStage bytes (Head scan) = (after Before bytes ≡ Some scan) × (length bytes < 8192)

@@ -75,6 +75,10 @@ fn compact(bytes: &mut Vec<u8>, start: usize) -> usize
     ensures kept { drop result bytes.new.items ≡ drop start bytes.old.items }
     ensures within { result ≤ length bytes.new.items }
 {
+    if start == bytes.len() {
+        bytes.clear();
+        return 0;
+    }
     if start == 0 || start < bytes.len() - start {
         return start;
     }
@@ -116,11 +120,12 @@ impl Conn {
         }
         self.start = compact(&mut self.bytes, self.start);
         self.bytes.extend_from_slice(piece)?;
-        self.stage = self.stage.look(
-            &self.routes,
-            unread(self.bytes.as_slice(), self.start),
-            held,
-        );
+        let bytes = unread(self.bytes.as_slice(), self.start);
+        self.stage = if held == 0 {
+            first_look(&self.routes, bytes)
+        } else {
+            self.stage.look(&self.routes, bytes, held)
+        };
         Ok(())
     }
 

@@ -1,9 +1,10 @@
-ghost use Rattle.std.specs.Prelude.{◌≡◌, ◌∷◌, [], ◌<◌, length, reverse, All, MatchOption, codes};
+ghost use Rattle.std.specs.Prelude.{◌≡◌, length, reverse, All, if◌then◌else◌};
 ghost use Rattle.std.specs.Str.{str_eq_ignore_ascii_case};
 ghost use Rattle.httparse.specs.Grammar.{skip_ows, trim_ows};
 ghost use Rattle.httparse.specs.Spans.{IsHeaderWithin};
-ghost use Rattle.rip_http.specs.Fields.{pairs, values_of, has_host, length_in, body_length, lists_close, closes};
-ghost use Rattle.rip_http.specs.Verdicts.{has_no_coding};
+ghost use Rattle.rip_http.specs.Fields.{pairs, length_in, lists_close};
+ghost use Rattle.rip_http.specs.Said.{IsKind, next_length, IsSaid};
+ghost use Rattle.rip_http.specs.declared.field.Kind.TheVariants.{Other};
 
 use crate::request::Refusal;
 use httparse::is_space_or_tab;
@@ -12,6 +13,29 @@ use httparse::spans::HeaderSpan;
 /// The most digits of a Content-Length.
 const MOST_DIGITS: usize = 19;
 
+/// The fields that say how a request is taken, by their names.
+#[derive(Clone, Copy)]
+pub(crate) enum Kind {
+    Host,
+    Connection,
+    Length,
+    Coding,
+    Other,
+}
+
+/// What the fields of a head say.
+#[derive(Clone, Copy)]
+pub(crate) struct Said {
+    /// The Host fields are as they must be.
+    pub host: bool,
+    /// The length that the Content-Length fields give, if there is one.
+    pub length: Result<Option<u64>, Refusal>,
+    /// There is no Transfer-Encoding field.
+    pub uncoded: bool,
+    /// The connection is to be shut behind the answer.
+    pub close: bool,
+}
+
 /// Whether two texts are equal in any case.
 fn is_same(a: &[u8], b: &[u8]) -> bool
     ensures { result ≡ str_eq_ignore_ascii_case a.now b.now }
@@ -19,49 +43,23 @@ fn is_same(a: &[u8], b: &[u8]) -> bool
     a.eq_ignore_ascii_case(b)
 }
 
-/// The value of the first field of this name, and the fields behind it.
-fn first_named<'h>(
-    head: &'h [u8],
-    fields: &'h [HeaderSpan],
-    name: &[u8],
-) -> Option<(&'h [u8], &'h [HeaderSpan])>
-    requires { All (IsHeaderWithin (length head.now)) fields.now }
-    ensures values { MatchOption result (values_of name.now (pairs head.now fields.now) ≡ [])
-        (λ found. values_of name.now (pairs head.now fields.now)
-        ≡ found.0.now ∷ values_of name.now (pairs head.now found.1.now)) }
-    ensures within { MatchOption result (length head.now ≡ length head.now)
-        (λ found. All (IsHeaderWithin (length head.now)) found.1.now) }
-    ensures shorter { MatchOption result (length head.now ≡ length head.now)
-        (λ found. length found.1.now < length fields.now) }
+fn kind_if(holds: bool, kind: Kind) -> Kind
+    ensures { result ≡ (if holds then kind else Other) }
 {
-    let mut left = fields;
-    while let [field, rest @ ..] = left {
-        if is_same(field.name.of(head), name) {
-            return Some((field.value.of(head), rest));
-        }
-        left = rest;
-    }
-    None
+    if holds { kind } else { Kind::Other }
 }
 
-/// Whether the Host fields are as they must be.
-pub(crate) fn has_one_host(head: &[u8], fields: &[HeaderSpan], minor: u8) -> bool
-    requires { All (IsHeaderWithin (length head.now)) fields.now }
-    ensures { result ≡ has_host minor (values_of (codes "host") (pairs head.now fields.now)) }
+/// Which field has this name. No two names that are known have one length.
+fn kind_of(name: &[u8]) -> Kind
+    ensures { IsKind name.now result }
 {
-    match first_named(head, fields, b"host") {
-        None => minor == 0,
-        Some((_, rest)) => first_named(head, rest, b"host").is_none(),
+    match name.len() {
+        4 => kind_if(is_same(name, b"host"), Kind::Host),
+        10 => kind_if(is_same(name, b"connection"), Kind::Connection),
+        14 => kind_if(is_same(name, b"content-length"), Kind::Length),
+        17 => kind_if(is_same(name, b"transfer-encoding"), Kind::Coding),
+        _ => Kind::Other,
     }
-}
-
-/// Whether there is no Transfer-Encoding field.
-pub(crate) fn is_uncoded(head: &[u8], fields: &[HeaderSpan]) -> bool
-    requires { All (IsHeaderWithin (length head.now)) fields.now }
-    ensures { result
-        ≡ has_no_coding (values_of (codes "transfer-encoding") (pairs head.now fields.now)) }
-{
-    first_named(head, fields, b"transfer-encoding").is_none()
 }
 
 /// The number that 1 to 19 digits write.
@@ -84,20 +82,16 @@ fn read_length(value: &[u8]) -> Option<u64>
     Some(n)
 }
 
-/// The length that the Content-Length fields give, if there is one.
-pub(crate) fn stated_length(head: &[u8], fields: &[HeaderSpan]) -> Result<Option<u64>, Refusal>
-    requires { All (IsHeaderWithin (length head.now)) fields.now }
-    ensures { result ≡ body_length (values_of (codes "content-length") (pairs head.now fields.now)) }
+/// The length behind one more Content-Length field: there may be one, which is a length.
+fn next_length(length: Result<Option<u64>, Refusal>, value: &[u8]) -> Result<Option<u64>, Refusal>
+    ensures { result ≡ next_length length value.now }
 {
-    let Some((value, rest)) = first_named(head, fields, b"content-length") else {
-        return Ok(None);
-    };
-    if first_named(head, rest, b"content-length").is_some() {
-        return Err(Refusal::Head);
-    }
-    match read_length(value) {
-        Some(n) => Ok(Some(n)),
-        None => Err(Refusal::Head),
+    match length {
+        Ok(None) => match read_length(value) {
+            Some(n) => Ok(Some(n)),
+            None => Err(Refusal::Head),
+        },
+        _ => Err(Refusal::Head),
     }
 }
 
@@ -139,20 +133,33 @@ fn has_close(value: &[u8]) -> bool
         .any(|option| is_same(trimmed(option), b"close"))
 }
 
-/// Whether the connection is to be shut behind the answer.
-pub(crate) fn is_closing(head: &[u8], fields: &[HeaderSpan], minor: u8) -> bool
+/// What the fields of a head say, each looked at once.
+pub(crate) fn said_in(head: &[u8], fields: &[HeaderSpan], minor: u8) -> Said
     requires { All (IsHeaderWithin (length head.now)) fields.now }
-    ensures { result ≡ closes minor (pairs head.now fields.now) }
+    ensures { IsSaid minor (pairs head.now fields.now) result }
 {
-    if minor == 0 {
-        return true;
-    }
+    let (mut seen, mut host) = (false, minor == 0);
+    let mut length = Ok(None);
+    let mut uncoded = true;
+    let mut close = minor == 0;
     let mut left = fields;
-    while let Some((value, rest)) = first_named(head, left, b"connection") {
-        if has_close(value) {
-            return true;
+    while let [field, rest @ ..] = left {
+        match kind_of(field.name.of(head)) {
+            Kind::Host => {
+                host = !seen;
+                seen = true;
+            }
+            Kind::Connection => close = close || has_close(field.value.of(head)),
+            Kind::Length => length = next_length(length, field.value.of(head)),
+            Kind::Coding => uncoded = false,
+            Kind::Other => {}
         }
         left = rest;
     }
-    false
+    Said {
+        host,
+        length,
+        uncoded,
+        close,
+    }
 }

@@ -18,8 +18,9 @@
 //! A layer above may rest on this: the requests of a stream are one list ([`requests_are_one`]); however its bytes are
 //! cut and whenever messages are taken, they are that list ([`cuts_do_not_matter`]), and in mid-stream its beginning
 //! ([`taken_stands`]), of those messages that end within the bytes that have come ([`ends_tell`]); what has come stays, a refusal too ([`come_stays`]); two answers with the same bytes are equal
-//! ([`answers_tell_apart`]). Each byte of a head is looked at once, a head is parsed once, [`Conn::ready`] takes no time
-//! that grows with the bytes, and a stream of messages takes time in proportion to its bytes.
+//! ([`answers_tell_apart`]). A head that comes whole is parsed where it stands; else its end is sought, each byte looked
+//! at once, and then it is parsed. [`Conn::ready`] takes no time that grows with the bytes, and a stream of messages
+//! takes time in proportion to its bytes.
 #![tactic(auto)]
 
 mod answer;

@@ -2,12 +2,14 @@ ghost use Rattle.std.specs.Prelude.{◌≡◌, ◌==◌, ◌<◌, length, IfSome
 ghost use Rattle.std.specs.List.{position};
 ghost use Rattle.rip_http.specs.Routes.{path_of, segment_of};
 
+use memchr::memchr;
+
 /// Where the query begins, if there is one.
 fn query_start(target: &[u8]) -> Option<usize>
     ensures value { result ≡ position (λ b. b == 63) target.now }
     ensures within { IfSome result (λ start. start < length target.now) }
 {
-    target.iter().position(|b| *b == b'?')
+    memchr(b'?', target)
 }
 
 /// A target up to its query.

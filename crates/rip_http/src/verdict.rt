@@ -1,10 +1,10 @@
-ghost use Rattle.std.specs.Prelude.{◌≡◌, ◌≤◌, length, All, IsUtf8};
+ghost use Rattle.std.specs.Prelude.{◌≡◌, ◌≤◌, length, All, IfSome, IsUtf8};
 ghost use Rattle.httparse.specs.Spans.{IsHeaderWithin, IsWithin, span_bytes};
 ghost use Rattle.rip_http.specs.Fields.{pairs};
 ghost use Rattle.rip_http.specs.Verdicts.{check, size_of, decide, verdict_of, IsVerdict};
-ghost use Rattle.rip_http.specs.Stages.{verdict_in, IsJudged};
+ghost use Rattle.rip_http.specs.Stages.{verdict_in, IsJudged, IsWhole};
 
-use crate::field::{has_one_host, is_closing, is_uncoded, stated_length};
+use crate::field::said_in;
 use crate::request::{Going, Refusal, RefusedHead, Route};
 use crate::routes::Routes;
 use httparse::Status;
@@ -59,20 +59,21 @@ fn decide(
       fields = pairs head.now fields.now;
     }) }
 {
-    check(has_one_host(head, fields, minor), Refusal::Head)?;
-    let length = stated_length(head, fields)?;
+    let said = said_in(head, fields, minor);
+    check(said.host, Refusal::Head)?;
+    let length = said.length?;
     let route = routes.route_of(target).ok_or(Refusal::Path)?;
     check(
         method == route.method().name(),
         Refusal::WrongMethod(route.method()),
     )?;
-    check(is_uncoded(head, fields), Refusal::Coding)?;
+    check(said.uncoded, Refusal::Coding)?;
     let size = size_of(route, length)?;
     check(size <= MOST_BODY, Refusal::TooLarge)?;
     Ok(Going {
         route,
         size,
-        close: is_closing(head, fields, minor),
+        close: said.close,
     })
 }
 
@@ -122,5 +123,20 @@ pub(crate) fn judge(routes: &Routes, head: &[u8]) -> Judged
             refusal: Refusal::Head,
             bare: false,
         }),
+    }
+}
+
+/// What comes of the head that stands whole at the front of these bytes, if one does, and how many bytes it has.
+pub(crate) fn judge_front(routes: &Routes, bytes: &[u8]) -> Option<(usize, Judged)>
+    ensures { IfSome result (λ found. IsWhole bytes.now found.0 found.1) }
+{
+    let mut fields = [EMPTY_HEADER_SPAN; MOST_FIELDS];
+    match parse_request(bytes, &mut fields) {
+        Ok(Status::Complete(spans)) => {
+            let head = &bytes[..spans.len];
+            let judged = judge_parts(routes, head, &spans, &fields[..spans.headers]);
+            Some((spans.len, judged))
+        }
+        _ => None,
     }
 }
