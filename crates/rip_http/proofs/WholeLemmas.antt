@@ -1,7 +1,6 @@
 -- A head that stands whole at the front of bytes ends where the search finds its end.
 use Rattle.std.proofs.Common.{◌≡◌, ◌≢◌, ◌==◌, ℕ, zero, suc, ◌+◌, ◌-◌, ◌≤◌, ◌<◌, Bool, true, false, cond, IsTrue, inr, All, List, [], ◌∷◌, ◌++◌, length, map, take, drop, slice_range, Option, Some, None, option_map, refl, sym, ap, ◌∙◌, subst, codes, arith}
 use Rattle.std.specs.List.{flat_map}
-use Rattle.std.specs.Str.{IsUtf8}
 use Rattle.std.proofs.Math.Seq.{take-append_seam}
 use Rattle.std.proofs.lemmas.Bool.{cond-true, cond-false, ne_eqb, false≢true}
 use Rattle.std.proofs.lemmas.List.{append-nil, length-append, length-take, length-map, drop-take, take-take}
@@ -187,10 +186,6 @@ pairs_take n bytes (s ∷ spans) within =
 target_is : (bytes head : List ℕ) (headers : List HeaderSpan) (r : RequestSpans) (h : RequestHead) → head ≡ take r.len bytes → IsWithin r.len r.path → span_bytes bytes r.path ≡ h.target → span_bytes head r.path ≡ h.target
 target_is bytes head headers r h same within at =
     ap (λ xs. span_bytes xs r.path) same ∙ span_take r.len bytes r.path within ∙ at
-
-pub front_text : (bytes head : List ℕ) (headers : List HeaderSpan) (r : RequestSpans) → head ≡ take r.len bytes → IsRequestWithin bytes headers r → IsRequestOf bytes headers r → IsUtf8 (span_bytes head r.path)
-front_text bytes head headers r same within (h, at) =
-    subst IsUtf8 (sym (target_is bytes head headers r h same within.path at.path)) at.reads.0.target_text
 
 -- what its parts decide is the verdict on the head
 pub front_verdict : (bytes head : List ℕ) (headers : List HeaderSpan) (r : RequestSpans) (v : Verdict)

@@ -13,6 +13,9 @@ use httparse::spans::{EMPTY_HEADER_SPAN, HeaderSpan, RequestSpans, Span, parse_r
 /// The most fields of a head.
 const MOST_FIELDS: usize = 64;
 
+/// Room for the fields of most heads: a head with more is parsed again once its end is found.
+const FEW_FIELDS: usize = 24;
+
 /// The most bytes of a body.
 const MOST_BODY: u64 = 65_536;
 
@@ -126,11 +129,12 @@ pub(crate) fn judge(routes: &Routes, head: &[u8]) -> Judged
     }
 }
 
-/// What comes of the head that stands whole at the front of these bytes, if one does, and how many bytes it has.
+/// What comes of the head with few fields that stands whole at the front of these bytes, if one does, and how many
+/// bytes it has.
 pub(crate) fn judge_front(routes: &Routes, bytes: &[u8]) -> Option<(usize, Judged)>
     ensures { IfSome result (λ found. IsWhole bytes.now found.0 found.1) }
 {
-    let mut fields = [EMPTY_HEADER_SPAN; MOST_FIELDS];
+    let mut fields = [EMPTY_HEADER_SPAN; FEW_FIELDS];
     match parse_request(bytes, &mut fields) {
         Ok(Status::Complete(spans)) => {
             let head = &bytes[..spans.len];
