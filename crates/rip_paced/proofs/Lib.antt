@@ -1,0 +1,5 @@
+pub mod Idle
+pub mod Deciding
+pub mod Pace
+pub mod Owing
+pub mod Askers

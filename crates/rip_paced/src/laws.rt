@@ -1,0 +1,16 @@
+ghost use Rattle.rip_paced.specs.Answered.{AskersAreAnswered};
+ghost use Rattle.rip_paced.specs.Paced.{BatchesAreAnswered, PacedAreServed};
+
+/// A law, and no work: a client that tells its session batch after batch, each once the one before it is done, has each
+/// admitted as the next, until the session ends or memory is wanting.
+pub fn paced_clients_are_served()
+    ensures { PacedAreServed }
+{}
+
+/// A law, and no work: a batch that is done is answered on the connection on which it was asked for, if that is still there,
+/// and on no other; the answer has code 200, and tells the batch's number, how it ended its session, if it did, and the calls
+/// that it served.
+pub fn askers_are_answered()
+    ensures there { AskersAreAnswered }
+    ensures answer { BatchesAreAnswered }
+{}
