@@ -1,6 +1,6 @@
 -- The browser counts the served calls.
 use Rattle.std.proofs.Common.{◌≡◌, ℕ, List, [], ◌∷◌, Some, None, refl, sym, ap, subst, ◌∙◌}
-use Rattle.rip_calls.specs.Calls.{number_at}
+use Rattle.rip_calls.specs.Calls.{Calls, number_at}
 use Rattle.rip_heap.specs.World.{World}
 use Rattle.rip_wire.specs.Batches.{Contents}
 use Rattle.rip_wire.specs.Calls.{call_text}
@@ -17,6 +17,7 @@ use Rattle.rip_machine.specs.Table.{table}
 use Rattle.rip_course.specs.Parts.{Given}
 use Rattle.rip_host.specs.Answers.{answers}
 use Rattle.rip_host.specs.declared.browser.Browser.{Browser}
+use Rattle.rip_host.specs.declared.replies.WaitingReply.{WaitingReply}
 use Rattle.rip_visit.specs.Positions.{tells}
 use Rattle.rip_visit.specs.Visits.{browser_rules}
 use Rattle.rip_replica.specs.Parts.{Doing, first_given}
@@ -27,19 +28,26 @@ use Rattle.rip_work.specs.Plans.{work_plan}
 use Rattle.rip_work.specs.Tasks.{Task, opens, reports}
 use Rattle.rip_served.specs.Served.{IsOverBrowser, call_of}
 use Rattle.rip_served.proofs.KeepsAnswers.{answers_keep}
-use Rattle.rip_served.proofs.KeepsPlans.{Counts, HasPlan, HasPlayed, event_has, opening_has, play_has, reply_has}
+use Rattle.rip_served.proofs.KeepsPlans.{Shows, HasPlan, HasPlayed, event_has, opening_has, play_has, reply_has}
 use Rattle.rip_served.proofs.KeepsRuns.{HasReached, begun_has}
 use Rattle.rip_served.proofs.ServedLemmas.{reports_by}
+
+-- the page counts so many
+abbrev Counted : ℕ → Calls → List WaitingReply → Type 0
+Counted k calls waiting = calls.taken ≡ k
+
+abbrev Counts : ℕ → Browser → Type 0
+Counts k = Shows (Counted k)
 
 runs_keep : (k : ℕ) (code : Code) (m : Standing) (start : Started) (w : World) (s : Browser) (fuel u : ℕ) → Counts k s → HasReached (Counts k) (let e = evaluation answers code in e.run m start w s fuel u)
 runs_keep k code m start w s fuel u h =
     begun_has (Counts k) answers (λ t x r p. answers_keep t x r ∙ p) (table (loaded code m)) m.depth (begun_by (loaded code m) m.depth start w) w s fuel u h
 
 works_keep : (k batch n : ℕ) (a : Task) (w : World) (s : Browser) → call_of a ≡ None → Counts k s → HasPlan (Counts k) (work_plan batch a n w s)
-works_keep k batch n (opens start) w s none h = opening_has k n start w s h
-works_keep k batch n (reports (event kind node text place)) w s none h = event_has k s w (record { kind = kind; node = node; text = text; place = place }) n h
+works_keep k batch n (opens start) w s none h = opening_has (Counted k) n start w s h
+works_keep k batch n (reports (event kind node text place)) w s none h = event_has (Counted k) s w (record { kind = kind; node = node; text = text; place = place }) n h
 works_keep k batch n (reports (call number name args)) w s none h = absurd (let f : Some (number_at number, call_text name args) ≡ None = none in cc)
-works_keep k batch n (reports (reply number)) w s none h = reply_has k n s w batch number h
+works_keep k batch n (reports (reply number)) w s none h = reply_has (Counted k) n s w batch number h h
 
 left_keeps : (k : ℕ) (d : Doing Task Browser) (a : Task) (gs : List Given) (p : Played Browser) → HasPlayed (Counts k) p → Counts k (let x = left_by d a gs p in x.page)
 left_keeps k d a gs (Closes close hs fuel u w s) h = h

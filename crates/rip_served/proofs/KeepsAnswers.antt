@@ -1,5 +1,5 @@
--- No answer of a browser changes how many served calls it counts.
-use Rattle.std.proofs.Common.{◌≡◌, ℕ, Bool, true, false, List, Option, None, Some, Result, Ok, Err, ℤ, pos, negsuc, if◌then◌else◌, refl}
+-- No answer of a browser changes how many served calls it counts, nor which replies wait.
+use Rattle.std.proofs.Common.{◌≡◌, ℕ, Bool, true, false, List, Option, None, Some, Result, Ok, Err, ℤ, pos, negsuc, if◌then◌else◌, refl, ap}
 use Rattle.std.specs.Prelude.{◌+◌, ◌&&◌, ◌^◌, length, nat_le, option_and_then}
 use Rattle.rip_values.specs.declared.builtin.Builtin.{Builtin}
 use Rattle.rip_values.specs.declared.fixed.FixedText.{FixedText}
@@ -40,6 +40,7 @@ use Rattle.rip_host.specs.declared.form_members.FormMember.{FormMember}
 use Rattle.rip_host.specs.declared.form_members.FormMember.TheVariants as member
 use Rattle.rip_host.specs.declared.listening.Handler.{Handler}
 use Rattle.rip_host.specs.declared.listening.Handler.TheVariants.{Ignored, Function, Other}
+use Rattle.rip_host.specs.declared.replies.WaitingReply.{WaitingReply}
 use Rattle.rip_host.specs.declared.owner.Owner.{Owner}
 use Rattle.rip_host.specs.declared.owner.Owner.TheVariants.{Node, Dispatched, Ripley, Nobody}
 use Rattle.rip_host.specs.EventMembers.{event_member_of, prevented, stopped}
@@ -49,13 +50,14 @@ use Rattle.rip_host.specs.Listening.{added_by, after_registering, handler_of, ig
 use Rattle.rip_host.specs.Owners.{owner_of}
 use Rattle.rip_host.specs.Ripley.{call_callback, call_judged, call_name, call_with, is_array, random_call, random_given, random_of, ripley_member}
 
-abbrev kept : HostDone × World × Browser → ℕ
-kept a = (let s = a.2 in let c = s.calls in c.taken)
+-- how many it counts, and which wait
+abbrev count : Browser → ℕ × List WaitingReply
+count s = ((let c = s.calls in c.taken), s.undelivered)
 
-abbrev count : Browser → ℕ
-count s = (let c = s.calls in c.taken)
+abbrev kept : HostDone × World × Browser → ℕ × List WaitingReply
+kept a = count a.2
 
-if_keeps : (b : Bool) (x y : HostDone × World × Browser) (k : ℕ) → kept x ≡ k → kept y ≡ k → kept (if b then x else y) ≡ k
+if_keeps : (b : Bool) (x y : HostDone × World × Browser) (k : ℕ × List WaitingReply) → kept x ≡ k → kept y ≡ k → kept (if b then x else y) ≡ k
 if_keeps true x y k h g = h
 if_keeps false x y k h g = g
 
@@ -227,7 +229,8 @@ if_queued false x y k h g = g
 
 judged_keeps : (w : World) (s : Browser) (callback : Option ℕ) (r : Result (List ℕ) Fault) → kept (call_judged w s callback r) ≡ count s
 judged_keeps w s callback (Ok text) =
-    if_queued (nat_le (used s.calls + (length text + 1)) (let c = s.calls in c.limit)) (host.Value Undefined, with_call s.calls text callback) (host.Limit Queue, s.calls) (count s) refl refl
+    ap (λ (taken : ℕ). (taken, s.undelivered))
+    (if_queued (nat_le (used s.calls + (length text + 1)) (let c = s.calls in c.limit)) (host.Value Undefined, with_call s.calls text callback) (host.Limit Queue, s.calls) (let c = s.calls in c.taken) refl refl)
 judged_keeps w s callback (Err fault) = refl
 
 call_with_keeps : (w : World) (s : Browser) (name : Option Span) (array : Bool) (callback : Option (Option ℕ)) (args : Value) → kept (call_with w s name array callback args) ≡ count s
@@ -262,7 +265,13 @@ called_keeps w s (Some call.Call) this args = call_with_keeps w s (call_name w (
 called_keeps w s (Some call.Now) this args = refl
 called_keeps w s (Some call.Random) this args = random_keeps w s (argument args 0)
 
+answers_same : (s : Browser) (w : World) (r : Request) → kept (answers s w r) ≡ count s
+answers_same s w (Reads object name) = owned_read_keeps w s (owner_of s object) (fixed_text (text_at w.pool name))
+answers_same s w (Writes object name v) = owned_write_keeps w s (owner_of s object) (fixed_text (text_at w.pool name)) v
+answers_same s w (Calls which this args) = called_keeps w s (option_and_then host_call_of (builtin_of which)) this args
+
 pub answers_keep : (s : Browser) (w : World) (r : Request) → (let a = answers s w r in let t = a.2 in let c = t.calls in c.taken) ≡ (let c = s.calls in c.taken)
-answers_keep s w (Reads object name) = owned_read_keeps w s (owner_of s object) (fixed_text (text_at w.pool name))
-answers_keep s w (Writes object name v) = owned_write_keeps w s (owner_of s object) (fixed_text (text_at w.pool name)) v
-answers_keep s w (Calls which this args) = called_keeps w s (option_and_then host_call_of (builtin_of which)) this args
+answers_keep s w r = ap (λ (k : ℕ × List WaitingReply). k.0) (answers_same s w r)
+
+pub replies_stay : (s : Browser) (w : World) (r : Request) → (let a = answers s w r in let t = a.2 in t.undelivered) ≡ s.undelivered
+replies_stay s w r = ap (λ (k : ℕ × List WaitingReply). k.1) (answers_same s w r)

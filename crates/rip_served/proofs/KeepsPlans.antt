@@ -1,5 +1,6 @@
--- What each run keeps, a plan keeps; and the items of a page that report no call keep how many served calls it counts.
-use Rattle.std.proofs.Common.{◌≡◌, ℕ, zero, suc, ◌+◌, ◌-◌, min, Bool, true, false, List, [], ◌∷◌, length, Option, Some, None, Ok, Err, if◌then◌else◌}
+-- What each run keeps, a plan keeps; and what a page shows by its calls and the replies that wait, the items keep that report
+-- no call.
+use Rattle.std.proofs.Common.{ℕ, zero, suc, ◌+◌, ◌-◌, min, Bool, true, false, List, [], ◌∷◌, length, Option, Some, None, Ok, Err, if◌then◌else◌}
 use Rattle.rip_values.specs.declared.report.BadReport.{BadReport}
 use Rattle.rip_values.specs.declared.report.Report.{Report}
 use Rattle.rip_values.specs.declared.value.Limit.TheVariants.{Units}
@@ -19,13 +20,14 @@ use Rattle.rip_convert.specs.Values.{Made, made_value}
 use Rattle.rip_events.specs.Flow.{stations}
 use Rattle.rip_events.specs.declared.station.Station.{Station}
 use Rattle.rip_forms.specs.Reports.{is_past, refusal_of}
+use Rattle.rip_calls.specs.Calls.{Calls}
 use Rattle.rip_host.specs.declared.browser.Browser.{Browser}
 use Rattle.rip_host.specs.declared.events.Event.{Event}
 use Rattle.rip_host.specs.declared.replies.WaitingReply.{WaitingReply}
 use Rattle.rip_host.specs.EventMembers.{bubbles}
 use Rattle.rip_host.specs.Events.{event_of}
 use Rattle.rip_host.specs.Flow.{along, called, calls_at, changed_by, flow, flow_of, is_prevented, is_stopped, moved_to, opened_by, over, reached, standing, unless_stopped}
-use Rattle.rip_host.specs.Replies.{due}
+use Rattle.rip_host.specs.Replies.{due, without_due}
 use Rattle.rip_items.specs.Items.{fine, reply_plan}
 use Rattle.rip_visit.specs.declared.opening.Start.{Start}
 use Rattle.rip_visit.specs.declared.opening.Start.TheVariants.{Passes as PassesLimit, Loads}
@@ -60,103 +62,110 @@ play_has P run keeps full (Awaits w s go) gs fuel u h = absurd h
 play_has P run keeps full (Runs item start w s go) gs fuel u h =
     after_has P item (run start w s fuel u) gs fuel u _ (keeps start w s fuel u h.0) (λ e v x r p. play_has P run keeps full (go x r) gs e v (h.1 x r p))
 
--- ---- pages that count so many
+-- ---- pages that show something of their calls
 
-abbrev pub Counts : ℕ → Browser → Type 0
-Counts k s = (let c = s.calls in c.taken) ≡ k
+-- a page shows this by its calls and the replies that wait
+abbrev pub Shown : Type 1
+Shown = Calls → List WaitingReply → Type 0
 
-abbrev Next : ℕ → Going → Type 0
-Next k next = (x : World) (r : Browser) → Counts k r → HasPlan (Counts k) (next x r)
+abbrev pub Shows : Shown → Browser → Type 0
+Shows Q s = Q s.calls s.undelivered
 
-changed_keeps : (k : ℕ) (f : Event → Event) (s : Browser) (o : Option Event) → Counts k s → Counts k (changed_by f s o)
-changed_keeps k f s None h = h
-changed_keeps k f s (Some e) h = h
+abbrev Next : Shown → Going → Type 0
+Next Q next = (x : World) (r : Browser) → Shows Q r → HasPlan (Shows Q) (next x r)
 
-reached_keeps : (k object : ℕ) (at : Option Station) (s : Browser) → Counts k s → Counts k (reached object at s)
-reached_keeps k object at s h = changed_keeps k (moved_to at) s (event_of (let e = s.events in e.events) object) h
+changed_keeps : (Q : Shown) (f : Event → Event) (s : Browser) (o : Option Event) → Shows Q s → Shows Q (changed_by f s o)
+changed_keeps Q f s None h = h
+changed_keeps Q f s (Some e) h = h
 
-called_has : (k item event : ℕ) (at : Station) (o : Option ℕ) (go : Going) (w : World) (s : Browser) → Next k go → Counts k s → HasPlan (Counts k) (called item event at o go w s)
-called_has k item event at None go w s next h = next w s h
-called_has k item event at (Some f) go w s next h = (reached_keeps k event (Some at) s h, next)
+reached_keeps : (Q : Shown) (object : ℕ) (at : Option Station) (s : Browser) → Shows Q s → Shows Q (reached object at s)
+reached_keeps Q object at s h = changed_keeps Q (moved_to at) s (event_of (let e = s.events in e.events) object) h
 
-calls_has : (k item event : ℕ) (kind : Span) (at : Station) (m n : ℕ) (go : Going) → Next k go → Next k (calls_at item event kind at m n go)
-calls_has k item event kind at zero n go next w s h = next w s h
-calls_has k item event kind at (suc m) n go next w s h =
-    called_has k item event at (standing w.pool kind s.listeners at n) (calls_at item event kind at m (suc n) go) w s (calls_has k item event kind at m (suc n) go next) h
+called_has : (Q : Shown) (item event : ℕ) (at : Station) (o : Option ℕ) (go : Going) (w : World) (s : Browser) → Next Q go → Shows Q s → HasPlan (Shows Q) (called item event at o go w s)
+called_has Q item event at None go w s next h = next w s h
+called_has Q item event at (Some f) go w s next h = (reached_keeps Q event (Some at) s h, next)
 
-unless_has : (k : ℕ) (b : Bool) (x y : Plan Browser) → HasPlan (Counts k) x → HasPlan (Counts k) y → HasPlan (Counts k) (unless_stopped b x y)
-unless_has k true x y h g = h
-unless_has k false x y h g = g
+calls_has : (Q : Shown) (item event : ℕ) (kind : Span) (at : Station) (m n : ℕ) (go : Going) → Next Q go → Next Q (calls_at item event kind at m n go)
+calls_has Q item event kind at zero n go next w s h = next w s h
+calls_has Q item event kind at (suc m) n go next w s h =
+    called_has Q item event at (standing w.pool kind s.listeners at n) (calls_at item event kind at m (suc n) go) w s (calls_has Q item event kind at m (suc n) go next) h
 
-along_has : (k item event : ℕ) (kind : Span) (ats : List Station) (done : Going) → Next k done → Next k (along item event kind ats done)
-along_has k item event kind [] done next w s h = next w (reached event None s) (reached_keeps k event None s h)
-along_has k item event kind (at ∷ ats) done next w s h =
-    unless_has k (is_stopped s event) (over event done w s) (calls_at item event kind at (length (let l = s.listeners in l.registered)) 0 (along item event kind ats done) w s)
-    (next w (reached event None s) (reached_keeps k event None s h))
-    (calls_has k item event kind at (length (let l = s.listeners in l.registered)) 0 (along item event kind ats done) (along_has k item event kind ats done next) w s h)
+unless_has : (Q : Shown) (b : Bool) (x y : Plan Browser) → HasPlan (Shows Q) x → HasPlan (Shows Q) y → HasPlan (Shows Q) (unless_stopped b x y)
+unless_has Q true x y h g = h
+unless_has Q false x y h g = g
 
-opened_has : (k item : ℕ) (kind : Span) (target : ℕ) (done : ℕ → Going) (w : World) (s : Browser) (o : Option (ℕ × World)) → ((event : ℕ) → Next k (done event)) → Counts k s
-    → HasPlan (Counts k) (flow_of item kind target done w s (opened_by s kind target o))
-opened_has k item kind target done w s None next h = h
-opened_has k item kind target done w s (Some made) next h =
-    along_has k item made.0 kind (stations s.dom target (bubbles (let x = made.1 in x.pool) kind)) (done made.0) (next made.0) made.1 _ h
+along_has : (Q : Shown) (item event : ℕ) (kind : Span) (ats : List Station) (done : Going) → Next Q done → Next Q (along item event kind ats done)
+along_has Q item event kind [] done next w s h = next w (reached event None s) (reached_keeps Q event None s h)
+along_has Q item event kind (at ∷ ats) done next w s h =
+    unless_has Q (is_stopped s event) (over event done w s) (calls_at item event kind at (length (let l = s.listeners in l.registered)) 0 (along item event kind ats done) w s)
+    (next w (reached event None s) (reached_keeps Q event None s h))
+    (calls_has Q item event kind at (length (let l = s.listeners in l.registered)) 0 (along item event kind ats done) (along_has Q item event kind ats done next) w s h)
 
-flow_has : (k item : ℕ) (kind : Span) (target : ℕ) (done : ℕ → Going) (w : World) (s : Browser) → ((event : ℕ) → Next k (done event)) → Counts k s → HasPlan (Counts k) (flow item kind target done w s)
-flow_has k item kind target done w s next h = opened_has k item kind target done w s (new_of w EventClass) next h
+opened_has : (Q : Shown) (item : ℕ) (kind : Span) (target : ℕ) (done : ℕ → Going) (w : World) (s : Browser) (o : Option (ℕ × World)) → ((event : ℕ) → Next Q (done event)) → Shows Q s
+    → HasPlan (Shows Q) (flow_of item kind target done w s (opened_by s kind target o))
+opened_has Q item kind target done w s None next h = h
+opened_has Q item kind target done w s (Some made) next h =
+    along_has Q item made.0 kind (stations s.dom target (bubbles (let x = made.1 in x.pool) kind)) (done made.0) (next made.0) made.1 _ h
+
+flow_has : (Q : Shown) (item : ℕ) (kind : Span) (target : ℕ) (done : ℕ → Going) (w : World) (s : Browser) → ((event : ℕ) → Next Q (done event)) → Shows Q s → HasPlan (Shows Q) (flow item kind target done w s)
+flow_has Q item kind target done w s next h = opened_has Q item kind target done w s (new_of w EventClass) next h
 
 -- ---- events
 
-if_counts : (k : ℕ) (b : Bool) (s t : Browser) → Counts k s → Counts k t → Counts k (if b then s else t)
-if_counts k true s t h g = h
-if_counts k false s t h g = g
+if_counts : (Q : Shown) (b : Bool) (s t : Browser) → Shows Q s → Shows Q t → Shows Q (if b then s else t)
+if_counts Q true s t h g = h
+if_counts Q false s t h g = g
 
-settled_keeps : (k : ℕ) (o : Option ℕ) (event : ℕ) (s : Browser) → Counts k s → Counts k (settled o event s)
-settled_keeps k None event s h = h
-settled_keeps k (Some n) event s h = if_counts k (is_prevented s event) (put_back n s) s h h
+settled_keeps : (Q : Shown) (o : Option ℕ) (event : ℕ) (s : Browser) → Shows Q s → Shows Q (settled o event s)
+settled_keeps Q None event s h = h
+settled_keeps Q (Some n) event s h = if_counts Q (is_prevented s event) (put_back n s) s h h
 
-if_plan : (k : ℕ) (b : Bool) (x y : Plan Browser) → HasPlan (Counts k) x → HasPlan (Counts k) y → HasPlan (Counts k) (if b then x else y)
-if_plan k true x y h g = h
-if_plan k false x y h g = g
+if_plan : (Q : Shown) (b : Bool) (x y : Plan Browser) → HasPlan (Shows Q) x → HasPlan (Shows Q) y → HasPlan (Shows Q) (if b then x else y)
+if_plan Q true x y h g = h
+if_plan Q false x y h g = g
 
-fine_has : (k : ℕ) → Next k fine
-fine_has k x r h = h
+fine_has : (Q : Shown) → Next Q fine
+fine_has Q x r h = h
 
-judged_has : (k : ℕ) (o : Option BadReport) (s : Browser) (w : World) (r : Report) (item : ℕ) (next : Going) → Next k next → Counts k s → HasPlan (Counts k) (judged o s w r item next)
-judged_has k (Some kind) s w r item next has h = h
-judged_has k None s w r item next has h =
-    if_plan k (is_past w.pool r) (Over (Stopped item (AtLimit Units)) w s) (dispatched (turned_by w.pool s.dom r) r item next (world_after w s r) (browser_after w s r)) h
-    (flow_has k item (span_of (type_of r.kind)) r.node (settling (turned_by w.pool s.dom r) next) (world_after w s r) (browser_after w s r)
-    (λ event x t p. has x (settled (turned_by w.pool s.dom r) event t) (settled_keeps k (turned_by w.pool s.dom r) event t p)) h)
+judged_has : (Q : Shown) (o : Option BadReport) (s : Browser) (w : World) (r : Report) (item : ℕ) (next : Going) → Next Q next → Shows Q s → HasPlan (Shows Q) (judged o s w r item next)
+judged_has Q (Some kind) s w r item next has h = h
+judged_has Q None s w r item next has h =
+    if_plan Q (is_past w.pool r) (Over (Stopped item (AtLimit Units)) w s) (dispatched (turned_by w.pool s.dom r) r item next (world_after w s r) (browser_after w s r)) h
+    (flow_has Q item (span_of (type_of r.kind)) r.node (settling (turned_by w.pool s.dom r) next) (world_after w s r) (browser_after w s r)
+    (λ event x t p. has x (settled (turned_by w.pool s.dom r) event t) (settled_keeps Q (turned_by w.pool s.dom r) event t p)) h)
 
-pub event_has : (k : ℕ) (s : Browser) (w : World) (r : Report) (item : ℕ) → Counts k s → HasPlan (Counts k) (event_plan s w r item fine)
-event_has k s w r item h = judged_has k (refusal_of w.pool s.dom r) s w r item fine (fine_has k) h
+pub event_has : (Q : Shown) (s : Browser) (w : World) (r : Report) (item : ℕ) → Shows Q s → HasPlan (Shows Q) (event_plan s w r item fine)
+event_has Q s w r item h = judged_has Q (refusal_of w.pool s.dom r) s w r item fine (fine_has Q) h
 
 -- ---- replies
 
-handed_has : (k item callback : ℕ) (m : Made Value) (w : World) (s r : Browser) → Counts k s → Counts k r → HasPlan (Counts k) (reply_plan item (handed callback m r) w s)
-handed_has k item callback (Ok v, x) w s r h g = (g, fine_has k)
-handed_has k item callback (Err limit, x) w s r h g = g
+pub handed_has : (Q : Shown) (item callback : ℕ) (m : Made Value) (w : World) (s r : Browser) → Shows Q r → HasPlan (Shows Q) (reply_plan item (handed callback m r) w s)
+handed_has Q item callback (Ok v, x) w s r h = (h, fine_has Q)
+handed_has Q item callback (Err limit, x) w s r h = h
 
-due_has : (k item : ℕ) (o : Option WaitingReply) (s : Browser) (w : World) (batch number : ℕ) → Counts k s → HasPlan (Counts k) (reply_plan item (delivery o s w batch number) w s)
-due_has k item None s w batch number h = h
-due_has k item (Some r) s w batch number h = handed_has k item r.callback (made_value r.reply w) w s (taken_out number batch r s) h h
+-- where one is delivered, the page shows it without that too
+pub due_has : (Q : Shown) (item : ℕ) (o : Option WaitingReply) (s : Browser) (w : World) (batch number : ℕ) → Shows Q s → Q s.calls (without_due number batch s.undelivered)
+    → HasPlan (Shows Q) (reply_plan item (delivery o s w batch number) w s)
+due_has Q item None s w batch number h g = h
+due_has Q item (Some r) s w batch number h g = handed_has Q item r.callback (made_value r.reply w) w s (taken_out number batch r s) g
 
-pub reply_has : (k item : ℕ) (s : Browser) (w : World) (batch number : ℕ) → Counts k s → HasPlan (Counts k) (reply_plan item (delivered s w batch number) w s)
-reply_has k item s w batch number h = due_has k item (due number batch s.undelivered) s w batch number h
+pub reply_has : (Q : Shown) (item : ℕ) (s : Browser) (w : World) (batch number : ℕ) → Shows Q s → Q s.calls (without_due number batch s.undelivered)
+    → HasPlan (Shows Q) (reply_plan item (delivered s w batch number) w s)
+reply_has Q item s w batch number h g = due_has Q item (due number batch s.undelivered) s w batch number h g
 
 -- ---- the opening
 
-scripts_has : (k item m n : ℕ) (next : Going) → Next k next → Next k (scripts item m n next)
-scripts_has k item zero n next has w s h = has w s h
-scripts_has k item (suc m) n next has w s h = (h, scripts_has k item m (n + 1) next has)
+scripts_has : (Q : Shown) (item m n : ℕ) (next : Going) → Next Q next → Next Q (scripts item m n next)
+scripts_has Q item zero n next has w s h = has w s h
+scripts_has Q item (suc m) n next has w s h = (h, scripts_has Q item m (n + 1) next has)
 
-load_has : (k item : ℕ) (o : Option ℕ) (next : Going) → Next k next → Next k (load_at o item next)
-load_has k item None next has w s h = has w s h
-load_has k item (Some body) next has w s h = flow_has k item _ body (λ event. next) w s (λ event. has) h
+load_has : (Q : Shown) (item : ℕ) (o : Option ℕ) (next : Going) → Next Q next → Next Q (load_at o item next)
+load_has Q item None next has w s h = has w s h
+load_has Q item (Some body) next has w s h = flow_has Q item _ body (λ event. next) w s (λ event. has) h
 
-loading_has : (k item : ℕ) (next : Going) → Next k next → Next k (loading item next)
-loading_has k item next has w s h = load_has k item s.body next has w s h
+loading_has : (Q : Shown) (item : ℕ) (next : Going) → Next Q next → Next Q (loading item next)
+loading_has Q item next has w s h = load_has Q item s.body next has w s h
 
-pub opening_has : (k item : ℕ) (start : Start) (w : World) (s : Browser) → Counts k s → HasPlan (Counts k) (opening_plan start item w s)
-opening_has k item (PassesLimit limit) w s h = h
-opening_has k item (Loads count) w s h = scripts_has k item count 1 (loading item fine) (loading_has k item fine (fine_has k)) w s h
+pub opening_has : (Q : Shown) (item : ℕ) (start : Start) (w : World) (s : Browser) → Shows Q s → HasPlan (Shows Q) (opening_plan start item w s)
+opening_has Q item (PassesLimit limit) w s h = h
+opening_has Q item (Loads count) w s h = scripts_has Q item count 1 (loading item fine) (loading_has Q item fine (fine_has Q)) w s h

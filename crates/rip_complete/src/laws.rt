@@ -1,0 +1,14 @@
+ghost use Rattle.rip_complete.specs.Complete.{ClientsAreServed, RepliesAreDue, TruthfulAreComplete};
+
+/// A law, and no work: each reply that a client of an application tells is due where it is told, so its session is ended by
+/// no mismatch and by no bad report.
+pub fn replies_are_due()
+    ensures due { RepliesAreDue }
+    ensures served { ClientsAreServed }
+{}
+
+/// A law, and no work: in each run of a server of the application, a truthful client that keeps pace has each batch admitted
+/// as the next, until its session ends, which it does for no lie, or memory is wanting at a request.
+pub fn truthful_clients_are_complete()
+    ensures { TruthfulAreComplete }
+{}

@@ -1,0 +1,15 @@
+//! That a truthful client of an application is served to the end.
+//!
+//! | what | its definition in `specs/` |
+//! |---|---|
+//! | the batches that a client of an application tells of gestures, where events are legal, and of replies nothing is asked | `Complete.AreToldOf`, by `rip_due`'s `Due.IsTold` |
+//! | [`replies_are_due`] | `Complete.RepliesAreDue`: its replies are due; `Complete.ClientsAreServed`: a session that is given any front of these batches has no mismatch and no bad report |
+//! | a session of a run that has a truthful client | `Complete.IsTruthful` |
+//! | [`truthful_clients_are_complete`] | `Complete.TruthfulAreComplete`: each batch of it is admitted as the next, and its close is decided, unless the session ended before or memory was wanting at the request; and no batch ends the session for a lie |
+//!
+//! A layer above may rest on this: it holds of any application, whatever other clients ask of the server.
+#![tactic(auto)]
+
+mod laws;
+
+pub use laws::{replies_are_due, truthful_clients_are_complete};
