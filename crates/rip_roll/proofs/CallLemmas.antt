@@ -18,7 +18,7 @@ use Rattle.rip_course.specs.Run.{is_busy_in, stage_of, with_stage, with_batch_at
 use Rattle.rip_course.specs.Sequences.{ordinals_in}
 use Rattle.rip_course.specs.Services.{Called, Service, Serving, servings_in, served_entry, served_entries, answered_calls}
 use Rattle.rip_course.specs.Stages.{Stage, begun, with_batch, is_done, MayAdmit, ComesNow, GoesOn, IsProgress}
-use Rattle.rip_course.specs.Standings.{is_busy, standing_of, entries_of}
+use Rattle.rip_course.specs.Standings.{when_closed, is_busy, standing_of, entries_of}
 use Rattle.rip_course.specs.declared.sessions.Progress.{Progress}
 use Rattle.rip_course.specs.declared.sessions.Progress.TheVariants.{Busy, Finished}
 use Rattle.rip_course.specs.declared.sessions.Slice.{Slice}
@@ -30,19 +30,21 @@ use Rattle.rip_course.proofs.DecisionLemmas.{admits_next, closes_idle}
 use Rattle.rip_course.proofs.KeepLemmas.{all_maps}
 use Rattle.rip_roll.specs.Ordinals.{get_at}
 use Rattle.rip_roll.specs.Rolls.{seats, IsChanged, IsKept, IsAtStage, IsRollOf, WentOn}
-use Rattle.rip_roll.specs.Seats.{Held, IsSeat, IsKeptAt, has_ended, ends_session, is_unfinished, IsThere, Lives, StandsAt, IsOpened, IsAdmitted, IsClosed, IsAfter, IsLeft, SliceOf}
+use Rattle.rip_roll.specs.Seats.{Held, standing_in, IsSeat, IsKeptAt, has_ended, ends_session, is_unfinished, IsThere, Lives, StandsAt, IsOpened, IsAdmitted, IsClosed, IsAfter, IsGivenUp, LivingSlice, SliceOf, Leaves}
 use Rattle.rip_roll.specs.Walks.{all_in, among, Rises, IsAdded}
 use Rattle.rip_roll.specs.declared.busy.Busy.{Busy as Busies}
 use Rattle.rip_roll.specs.declared.roll.Roll.{Roll}
 use Rattle.rip_roll.specs.declared.seat.Advanced.{Advanced}
+use Rattle.rip_roll.specs.declared.seat.Legacy.{Legacy}
 use Rattle.rip_roll.specs.declared.seat.Seat.{Seat}
+use Rattle.rip_roll.specs.declared.seat.Seat.TheVariants.{Live}
 use Rattle.rip_roll.proofs.BusyLemmas.{AreLeftBusy, next_among, passed_busy}
 use Rattle.rip_roll.proofs.CountLemmas.{AreBusy, busy_same}
 use Rattle.rip_roll.proofs.ListLemmas.{none_some, at_within, at_new, at_more, at_none, at_set_same, set_same}
 use Rattle.rip_roll.proofs.OwnLemmas.{AreOthers, identifiers_join, ordinals_push, others_same, tell_same}
 use Rattle.rip_roll.proofs.RiseLemmas.{IsRemoved}
 use Rattle.rip_roll.proofs.RollLemmas.{stage_get, stages_length, no_standing, within_by, kept_busy, live_parts, seat_with, seat_live, AreOf, changed_kept, changed_stages, stage_with}
-use Rattle.rip_roll.proofs.SeatLemmas.{slice_others, slice_called, others_kept, opened_kept, admitted_kept, closed_kept, slice_kept}
+use Rattle.rip_roll.proofs.SeatLemmas.{slice_others, slice_called, others_kept, opened_kept, admitted_kept, closed_standing, closed_kept, slice_stands, slice_kept, slice_leaves}
 use Rattle.rip_roll.proofs.StageLemmas.{idle_done, busy_admitted, idle_finished, may_admit, opened_stands, admitted_stands, closed_stands, busy_stands, done_stands}
 
 -- ---- which are busy
@@ -117,7 +119,7 @@ module _ {T : Type 0} where
 module _ {T : Type 0} (stands : T → Stage → Type 0) (m : Meaning) (lawful : IsLawful m) where
   pub open_roll : (limit turn n id seed time : ℕ) (old new : Roll T) (h : List Recorded) (stages : List Stage) (seat : Seat T)
       → IsRollOf stands m limit old h stages → IsTable old.table → IsTable new.table → Opens old.table new.table id seat → n ≡ length (ids old.table) + 1
-      → IsOpened id seed time seat → IsThere stands seat.session (begun seed time)
+      → IsOpened id seed time seat → IsThere stands seat (begun seed time)
       → IsAdded n (all_in old.busy) (all_in new.busy) → new.limit ≡ old.limit
       → IsRollOf stands m limit new (h ++ opened turn n id seed time ∷ []) (stages ++ begun seed time ∷ [])
   open_roll limit turn n id seed time old new h stages seat r table after o next fresh there added same = record {
@@ -200,8 +202,8 @@ module _ {T : Type 0} (stands : T → Stage → Type 0) (m : Meaning) (lawful : 
   pub admit_roll : (limit turn n : ℕ) (b : Contents) (old new : Roll T) (h : List Recorded) (stages : List Stage) (seat next : Seat T) (st : Stage)
       → IsRollOf stands m limit old h stages → IsTable old.table → IsTable new.table
       → get_at n (seats old) ≡ Some seat → IsSeat h n seat → stage_of n stages ≡ Some st → StandsAt stands m seat st
-      → seat.standing.ended ≡ None → seat.standing.done ≡ Some seat.standing.last → b.number ≡ seat.standing.last + 1
-      → IsAdmitted b.number seat next → IsThere stands next.session (with_batch b st) → IsChanged n old.table new.table next false
+      → (standing_in seat).ended ≡ None → (standing_in seat).done ≡ Some (standing_in seat).last → b.number ≡ (standing_in seat).last + 1
+      → IsAdmitted b.number seat next → IsThere stands next (with_batch b st) → IsChanged n old.table new.table next false
       → IsAdded n (all_in old.busy) (all_in new.busy) → new.limit ≡ old.limit
       → IsRollOf stands m limit new (h ++ admitted turn n b ∷ []) (with_batch_at n b (stage_of n stages) stages)
   admit_roll limit turn n b old new h stages seat next st r table after at kept stage stood lives idle number a there c added same =
@@ -211,7 +213,7 @@ module _ {T : Type 0} (stands : T → Stage → Type 0) (m : Meaning) (lawful : 
             (ap (λ (s : Standing). not (is_none s.ended)) a.standing ∙ ap (λ (o : Option Reason). not (is_none o)) lives) same of
             now after
             (busy_added h es n of.others (all_in old.busy) (all_in new.busy) (kept_busy limit old h table r.kept) added
-            (ap is_busy_in now.standing ∙ ap is_busy a.standing ∙ busy_admitted seat.standing b.number idle number));
+            (ap is_busy_in now.standing ∙ ap is_busy a.standing ∙ busy_admitted (standing_in seat) b.number idle number));
         count = stages_length n stages (with_batch b st) ∙ r.count ∙ sym (ap length (identifiers_join h es) ∙ ap length (append-nil (identifiers_in h)));
         each =
             changed_stages stands m n old new stages seat next st (with_batch b st) false r.each at stage c
@@ -232,20 +234,20 @@ module _ {T : Type 0} (stands : T → Stage → Type 0) (m : Meaning) (lawful : 
   pub close_roll : (limit turn n : ℕ) (old new : Roll T) (h : List Recorded) (stages : List Stage) (seat next : Seat T) (st : Stage)
       → IsRollOf stands m limit old h stages → IsTable old.table → IsTable new.table
       → get_at n (seats old) ≡ Some seat → IsSeat h n seat → stage_of n stages ≡ Some st → StandsAt stands m seat st
-      → seat.standing.ended ≡ None → seat.standing.done ≡ Some seat.standing.last
+      → (standing_in seat).ended ≡ None → (standing_in seat).done ≡ Some (standing_in seat).last
       → IsClosed seat next → IsChanged n old.table new.table next true
       → all_in new.busy ≡ all_in old.busy → new.limit ≡ old.limit
       → IsRollOf stands m limit new (h ++ closed turn n ∷ []) stages
   close_roll limit turn n old new h stages seat next st r table after at kept stage stood lives idle a c busy same = record {
     kept =
-        changed_kept limit h es n old new seat next true r.kept at lives c (ap (λ (s : Standing). not (is_none s.ended)) a.standing) same of now after
+        changed_kept limit h es n old new seat next true r.kept at lives c (ap (λ (s : Standing). not (is_none s.ended)) is) same of now after
         (subst (λ (ns : List ℕ). AreBusy (h ++ es) ns) (sym busy)
         (busy_kept h es n of.others (all_in old.busy) (kept_busy limit old h table r.kept)
-        (ap is_busy_in kept.standing ∙ sym (ap is_busy_in now.standing ∙ ap is_busy a.standing))));
+        (ap is_busy_in kept.standing ∙ sym (ap is_busy_in now.standing ∙ ap is_busy is))));
     count = r.count ∙ sym (ap length (identifiers_join h es) ∙ ap length (append-nil (identifiers_in h)));
     each = λ j.
         subst (λ (x : Option Stage). IsAtStage stands m (get_at j (seats new)) x) (stage-again j)
-        (changed_stages stands m n old new stages seat next st st true r.each at stage c (closed_stands stands m seat next st stood idle a.standing) j);
+        (changed_stages stands m n old new stages seat next st st true r.each at stage c (closed_stands stands m seat next st stood idle is) j);
   }
     where
       es : List Recorded
@@ -255,7 +257,10 @@ module _ {T : Type 0} (stands : T → Stage → Type 0) (m : Meaning) (lawful : 
       of = record { others = λ j ne. (ne_eqb n j ne, tt); identifiers = refl; ordinals = refl }
 
       now : IsSeat (h ++ es) n next
-      now = closed_kept h n turn seat next kept a
+      now = closed_kept h n turn seat next kept idle a
+
+      is : standing_in next ≡ when_closed (standing_in seat)
+      is = closed_standing seat next idle a
 
       put-again : (j : ℕ) → stage_of j stages ≡ Some st → with_stage j st stages ≡ stages
       put-again zero e = refl
@@ -270,10 +275,10 @@ module _ {T : Type 0} (stands : T → Stage → Type 0) (m : Meaning) (lawful : 
   ends-so None = refl
   ends-so (Some ending) = refl
 
-  still-there : (how : Option Ending) (session new : Option (Held T)) (st : Stage) → how ≡ None → IsThere stands session st → IsLeft (Finished how) session new
-      → IsThere stands new st
-  still-there None session new st e there left = subst (λ (o : Option (Held T)). IsThere stands o st) (sym left) there
-  still-there (Some ending) session new st e there left = absurd (none_some ending (sym e))
+  still-there : (how : Option Ending) (number : ℕ) (held : Held T) (new : Seat T) → how ≡ None → IsGivenUp (Finished how) number (Live held) new
+      → new ≡ Live held
+  still-there None number held new e left = left
+  still-there (Some ending) number held new e left = absurd (none_some ending (sym e))
 
   no-identifiers : (turn n number : ℕ) (xs : List (Serving × Given)) (p : Progress)
       → identifiers_in (map (served_entry turn n) xs ++ done_entries turn n number p) ≡ []
@@ -303,89 +308,78 @@ module _ {T : Type 0} (stands : T → Stage → Type 0) (m : Meaning) (lawful : 
     pub kept : IsSeat h n seat
     pub stage : stage_of n stages ≡ Some st
     pub stood : StandsAt stands m seat st
-    pub busy : is_busy seat.standing ≡ true
+    pub busy : is_busy (standing_in seat) ≡ true
 
   module _ (limit turn n : ℕ) (old new : Roll T) (h : List Recorded) (stages : List Stage) (seat next : Seat T) (st after : Stage)
       (units : ℕ) (parts : List Part) (given : List Given) where
-    own-parts : WasBusy limit n old h stages seat st → GoesOn m st units given parts after → AllByRecursion (λ (q : Part). q.batch ≡ seat.standing.last) parts
+    own-parts : WasBusy limit n old h stages seat st → GoesOn m st units given parts after → AllByRecursion (λ (q : Part). q.batch ≡ (standing_in seat).last) parts
     own-parts w g =
         let stood = w.stood in
-        all_maps (ComesNow st) (λ (q : Part). q.batch ≡ seat.standing.last) (λ q c. c.batch ∙ sym stood.number) parts g.now
+        all_maps (ComesNow st) (λ (q : Part). q.batch ≡ (standing_in seat).last) (λ q c. c.batch ∙ sym stood.number) parts g.now
 
     counted-still : WasBusy limit n old h stages seat st → (p : Progress)
         → length (with_stage n after stages)
-        ≡ length (identifiers_in (h ++ (served_entries turn n parts given ++ done_entries turn n seat.standing.last p)))
+        ≡ length (identifiers_in (h ++ (served_entries turn n parts given ++ done_entries turn n (standing_in seat).last p)))
     counted-still w p =
         let r = w.roll in
-        let es = served_entries turn n parts given ++ done_entries turn n (let s = seat.standing in s.last) p in
+        let es = served_entries turn n parts given ++ done_entries turn n (let s = standing_in seat in s.last) p in
         stages_length n stages after ∙ r.count
         ∙ sym (ap length (identifiers_join h es
-        ∙ ap (λ t. identifiers_in h ++ t) (no-identifiers turn n (let s = seat.standing in s.last) (zip (servings_in parts) given) p)
+        ∙ ap (λ t. identifiers_in h ++ t) (no-identifiers turn n (let s = standing_in seat in s.last) (zip (servings_in parts) given) p)
         ∙ append-nil (identifiers_in h)))
 
-    pub slice_roll : (p : Progress) (session : Option (Held T)) → WasBusy limit n old h stages seat st → IsTable new.table
-        → GoesOn m st units given parts after → IsProgress p parts → IsThere stands session after → IsLeft p session next.session
-        → next.opening ≡ seat.opening → IsAfter p (answered_calls parts given) seat next
-        → IsChanged n old.table new.table next (ends_session p) → AreLeftBusy p n (all_in old.busy) (all_in new.busy) → new.limit ≡ old.limit
-        → IsRollOf stands m limit new (h ++ (served_entries turn n parts given ++ done_entries turn n seat.standing.last p)) (with_stage n after stages)
-    slice_roll Busy session w table g how_far there left opening a c busy same = record {
-      kept =
-          changed_kept limit h es n old new seat next false r.kept w.at alive c
-          (ap (λ (s : Standing). not (is_none s.ended)) a.0 ∙ ap (λ (o : Option Reason). not (is_none o)) alive) same of now table
-          (subst (λ (ns : List ℕ). AreBusy (h ++ es) ns) (sym busy)
-          (busy_kept h es n of.others (all_in old.busy) (kept_busy limit old h w.table r.kept)
-          (ap is_busy_in kept.standing ∙ sym (ap is_busy_in now.standing ∙ ap is_busy a.0))));
-      count = counted-still w Busy;
-      each =
-          changed_stages stands m n old new stages seat next st after false r.each w.at w.stage c
-          (busy_stands stands m seat next st after units given parts w.stood w.busy g how_far a.0
-          (subst (λ (o : Option (Held T)). IsThere stands o after) (sym left) there));
-    }
-      where
-        r : IsRollOf stands m limit old h stages
-        r = w.roll
+    module _ (before held : Held T) (legacy : Option Legacy) (number : ℕ) where
+      alive : WasBusy limit n old h stages seat st → (standing_in seat).ended ≡ None
+      alive w = let stood = w.stood in stood.busy w.busy
 
-        kept : IsSeat h n seat
-        kept = w.kept
+      there-at : stands held.value.session after → next ≡ Live held → IsThere stands next after
+      there-at at_stage live = record { held = held; live = live; at_stage = at_stage }
 
-        es : List Recorded
-        es = served_entries turn n parts given ++ done_entries turn n seat.standing.last Busy
-
-        alive : seat.standing.ended ≡ None
-        alive = let stood = w.stood in stood.busy w.busy
-
-        of : AreOf n es
-        of = slice-of turn n (let s = seat.standing in s.last) parts given Busy
-
-        now : IsSeat (h ++ es) n next
-        now = slice_kept h n turn parts given Busy seat next w.kept w.busy alive (own-parts w g) opening a session left
-    slice_roll (Finished how) session w table g how_far there left opening a c busy same = record {
-      kept =
-          changed_kept limit h es n old new seat next (is_some how) r.kept w.at alive c
-          (ap (λ (s : Standing). not (is_none s.ended)) a.0 ∙ ends-so how) same of now table
-          (busy_removed h es n of.others (all_in old.busy) (all_in new.busy) (kept_busy limit old h w.table r.kept) busy
-          (ap is_busy_in now.standing ∙ ap is_busy a.0 ∙ idle_finished seat.standing (option_map reason_of how)));
-      count = counted-still w (Finished how);
-      each =
-          changed_stages stands m n old new stages seat next st after (is_some how) r.each w.at w.stage c
-          (done_stands stands m seat next st after units given parts how w.stood w.busy g how_far a.0
-          (λ e. still-there how session next.session after e there left));
-    }
-      where
-        r : IsRollOf stands m limit old h stages
-        r = w.roll
-
-        es : List Recorded
-        es = served_entries turn n parts given ++ done_entries turn n seat.standing.last (Finished how)
-
-        alive : seat.standing.ended ≡ None
-        alive = let stood = w.stood in stood.busy w.busy
-
-        of : AreOf n es
-        of = slice-of turn n (let s = seat.standing in s.last) parts given (Finished how)
-
-        now : IsSeat (h ++ es) n next
-        now = slice_kept h n turn parts given (Finished how) seat next w.kept w.busy alive (own-parts w g) opening a session left
+      pub slice_roll : (p : Progress) → WasBusy limit n old h stages seat st → IsTable new.table
+          → GoesOn m st units given parts after → IsProgress p parts → seat ≡ Live before → number ≡ (standing_in seat).last
+          → stands held.value.session after → IsAfter p (answered_calls parts given) legacy before.value held.value
+          → IsGivenUp p number (Live held) next
+          → IsChanged n old.table new.table next (ends_session p) → AreLeftBusy p n (all_in old.busy) (all_in new.busy) → new.limit ≡ old.limit
+          → IsRollOf stands m limit new (h ++ (served_entries turn n parts given ++ done_entries turn n (standing_in seat).last p)) (with_stage n after stages)
+      slice_roll Busy w table g how_far was numbered at_stage a left c busy same =
+          let r = w.roll in
+          let kept = w.kept in
+          let es = served_entries turn n parts given ++ done_entries turn n (let s = standing_in seat in s.last) Busy in
+          let lives = alive w in
+          let of = slice-of turn n (let s = standing_in seat in s.last) parts given Busy in
+          let is = slice_stands h n turn parts given seat next before held legacy number kept w.busy lives (own-parts w g) was numbered Busy a left in
+          let now = slice_kept h n turn parts given seat next before held legacy number kept w.busy lives (own-parts w g) was numbered Busy a left in
+          record {
+            kept =
+                changed_kept limit h es n old new seat next false r.kept w.at lives c
+                (ap (λ (s : Standing). not (is_none s.ended)) is ∙ ap (λ (o : Option Reason). not (is_none o)) lives) same of now table
+                (subst (λ (ns : List ℕ). AreBusy (h ++ es) ns) (sym busy)
+                (busy_kept h es n of.others (all_in old.busy) (kept_busy limit old h w.table r.kept)
+                (ap is_busy_in kept.standing ∙ sym (ap is_busy_in now.standing ∙ ap is_busy is))));
+            count = counted-still w Busy;
+            each =
+                changed_stages stands m n old new stages seat next st after false r.each w.at w.stage c
+                (busy_stands stands m seat next st after units given parts w.stood w.busy g how_far is (there-at at_stage left));
+          }
+      slice_roll (Finished how) w table g how_far was numbered at_stage a left c busy same =
+          let r = w.roll in
+          let es = served_entries turn n parts given ++ done_entries turn n (let s = standing_in seat in s.last) (Finished how) in
+          let lives = alive w in
+          let of = slice-of turn n (let s = standing_in seat in s.last) parts given (Finished how) in
+          let is = slice_stands h n turn parts given seat next before held legacy number w.kept w.busy lives (own-parts w g) was numbered (Finished how) a left in
+          let now = slice_kept h n turn parts given seat next before held legacy number w.kept w.busy lives (own-parts w g) was numbered (Finished how) a left in
+          record {
+            kept =
+                changed_kept limit h es n old new seat next (is_some how) r.kept w.at lives c
+                (ap (λ (s : Standing). not (is_none s.ended)) is ∙ ends-so how) same of now table
+                (busy_removed h es n of.others (all_in old.busy) (all_in new.busy) (kept_busy limit old h w.table r.kept) busy
+                (ap is_busy_in now.standing ∙ ap is_busy is ∙ idle_finished (standing_in seat) (option_map reason_of how)));
+            count = counted-still w (Finished how);
+            each =
+                changed_stages stands m n old new stages seat next st after (is_some how) r.each w.at w.stage c
+                (done_stands stands m seat next st after units given parts how w.stood w.busy g how_far is
+                (λ e. there-at at_stage (still-there how number held next e left)));
+          }
 
   -- what a slice makes of the roll
   pub advance_roll : (limit n : ℕ) (old new : Roll T) (h : List Recorded) (stages : List Stage) (seat next : Seat T) (st : Stage)
@@ -397,26 +391,41 @@ module _ {T : Type 0} (stands : T → Stage → Type 0) (m : Meaning) (lawful : 
       → WentOn m meant slice.turn slice.time n h stages advanced (IsRollOf stands m limit new) Replies
   advance_roll limit n old new h stages seat next st meant slice advanced Replies w table is units s c busy same = record {
     stage = st;
-    parts = s.parts;
-    given = s.given;
-    next = s.next;
+    parts = x.parts;
+    given = x.given;
+    next = x.next;
     stands = w.stage;
-    goes_on = subst (λ (u : ℕ). GoesOn m st u s.given s.parts s.next) units s.goes_on;
-    replied = s.replied;
-    how_far = s.how_far;
-    batch = s.batch ∙ number;
-    entries = s.entries ∙ ap (λ (k : ℕ). served_entries slice.turn k s.parts s.given) is;
+    goes_on = subst (λ (u : ℕ). GoesOn m st u x.given x.parts x.next) units x.goes_on;
+    replied = x.replied;
+    how_far = x.how_far;
+    batch = numbered ∙ number;
+    entries = x.entries ∙ ap (λ (k : ℕ). served_entries slice.turn k x.parts x.given) is;
+    leaves =
+        subst (λ (k : ℕ). Leaves advanced.progress advanced.legacy n k (h ++ (served_entries slice.turn n x.parts x.given ++ done_entries slice.turn n k advanced.progress))) number
+        (slice_leaves h n slice.turn x.parts x.given seat next s.before s.held advanced.legacy advanced.batch w.kept w.busy alive own s.was numbered advanced.progress x.after);
     after =
-        subst (λ (k : ℕ). IsRollOf stands m limit new (h ++ (served_entries slice.turn n s.parts s.given ++ done_entries slice.turn n k advanced.progress)) (with_stage n s.next stages)) number
-        (slice_roll limit slice.turn n old new h stages seat next st s.next slice.units s.parts s.given advanced.progress s.session w table s.goes_on s.how_far s.there s.left
-        s.opening s.after c busy same);
+        subst (λ (k : ℕ). IsRollOf stands m limit new (h ++ (served_entries slice.turn n x.parts x.given ++ done_entries slice.turn n k advanced.progress)) (with_stage n x.next stages)) number
+        (slice_roll limit slice.turn n old new h stages seat next st x.next slice.units x.parts x.given s.before s.held advanced.legacy advanced.batch
+        advanced.progress w table x.goes_on x.how_far s.was numbered x.at_stage x.after s.left c busy same);
     replies =
         subst Replies
-        (sym (slice_called slice.turn n h s.parts s.given (length (let x = s.next in x.batches)) advanced.progress (let g = s.goes_on in g.each))) s.replies;
+        (sym (slice_called slice.turn n h x.parts x.given (length (let y = x.next in y.batches)) advanced.progress (let g = x.goes_on in g.each))) x.replies;
   }
     where
-      number : seat.standing.last ≡ length (let x = s.next in x.batches)
-      number = (let stood = w.stood in stood.number) ∙ sym (let g = s.goes_on in ap length g.batches)
+      x : LivingSlice m st meant (called_so_far h) slice (let y = s.before in y.value) (let y = s.held in y.value) advanced stands Replies
+      x = s.went_on
+
+      number : (standing_in seat).last ≡ length (let y = x.next in y.batches)
+      number = (let stood = w.stood in stood.number) ∙ sym (let g = x.goes_on in ap length g.batches)
+
+      numbered : advanced.batch ≡ (standing_in seat).last
+      numbered = x.batch ∙ sym (ap (λ (y : Seat T). (standing_in y).last) s.was)
+
+      alive : (standing_in seat).ended ≡ None
+      alive = let stood = w.stood in stood.busy w.busy
+
+      own : AllByRecursion (λ (q : Part). q.batch ≡ (standing_in seat).last) (let y = x in y.parts)
+      own = own-parts limit slice.turn n old new h stages seat next st x.next slice.units x.parts x.given w x.goes_on
 
 -- ---- calls
 
@@ -451,7 +460,7 @@ module _ {T : Type 0} where
   module _ (stands : T → Stage → Type 0) (m : Meaning) (lawful : IsLawful m) where
     pub opened_call : (limit turn n id seed time : ℕ) (old new : Roll T) (h : List Recorded) (stages : List Stage) (seat : Seat T)
         → IsRollOf stands m limit old h stages → IsTable old.table → IsTable new.table → Opens old.table new.table id seat → n ≡ length (ids old.table) + 1
-        → IsOpened id seed time seat → IsThere stands seat.session (begun seed time)
+        → IsOpened id seed time seat → IsThere stands seat (begun seed time)
         → (Rises 0 (all_in old.busy) → among n (all_in old.busy) ≡ false → 0 < n → IsAdded n (all_in old.busy) (all_in new.busy))
         → new.limit ≡ old.limit
         → (n ≡ length (identifiers_in h) + 1)
@@ -477,8 +486,8 @@ module _ {T : Type 0} where
     pub admitted_call : (limit turn n : ℕ) (b : Contents) (old new : Roll T) (h : List Recorded) (stages : List Stage) (s : Standing)
         → IsRollOf stands m limit old h stages → standing_of n h ≡ Some s → batch_decision s b.number ≡ Admit
         → IsTable old.table → IsTable new.table → new.limit ≡ old.limit
-        → ((st : Stage) (seat : Seat T) → at_ordinal (live_value old.table) n ≡ Some seat → IsThere stands seat.session st → MayAdmit m st b
-        → (next : Seat T) × IsAdmitted b.number seat next × IsThere stands next.session (with_batch b st) × IsChanged n old.table new.table next false)
+        → ((st : Stage) (seat : Seat T) → at_ordinal (live_value old.table) n ≡ Some seat → IsThere stands seat st → MayAdmit m st b
+        → (next : Seat T) × IsAdmitted b.number seat next × IsThere stands next (with_batch b st) × IsChanged n old.table new.table next false)
         → (Rises 0 (all_in old.busy) → among n (all_in old.busy) ≡ false → 0 < n → IsAdded n (all_in old.busy) (all_in new.busy))
         → IsRollOf stands m limit new (h ++ admitted turn n b ∷ []) (with_batch_at n b (stage_of n stages) stages)
     admitted_call limit turn n b old new h stages s r standing admits table after same did added =
@@ -488,16 +497,16 @@ module _ {T : Type 0} where
         a : (s.ended ≡ None) × (s.done ≡ Some s.last) × (b.number ≡ s.last + 1)
         a = (admits_next s b.number).0 admits
 
-        w : (seat : Seat T) × (get_at n (seats old) ≡ Some seat) × (seat.standing ≡ s) × IsSeat h n seat
+        w : (seat : Seat T) × (get_at n (seats old) ≡ Some seat) × (standing_in seat ≡ s) × IsSeat h n seat
         w = seat_with limit old h n s r.kept standing
 
-        alive : w.0.standing.ended ≡ None
+        alive : (standing_in w.0).ended ≡ None
         alive = ap (λ (x : Standing). x.ended) w.2 ∙ a.0
 
-        idle : w.0.standing.done ≡ Some w.0.standing.last
+        idle : (standing_in w.0).done ≡ Some (standing_in w.0).last
         idle = ap (λ (x : Standing). x.done) w.2 ∙ a.1 ∙ ap (λ (x : Standing). Some x.last) (sym w.2)
 
-        next : b.number ≡ w.0.standing.last + 1
+        next : b.number ≡ (standing_in w.0).last + 1
         next = a.2 ∙ ap (λ (x : Standing). x.last + 1) (sym w.2)
 
         g : (stage : Stage) × (stage_of n stages ≡ Some stage) × StandsAt stands m w.0 stage
@@ -506,14 +515,14 @@ module _ {T : Type 0} where
         lives : Lives stands m w.0 g.0
         lives = (let stood = g.2 in stood.lives alive)
 
-        d : (next : Seat T) × IsAdmitted b.number w.0 next × IsThere stands next.session (with_batch b g.0) × IsChanged n old.table new.table next false
+        d : (next : Seat T) × IsAdmitted b.number w.0 next × IsThere stands next (with_batch b g.0) × IsChanged n old.table new.table next false
         d = did g.0 w.0 (seat_live limit old h n w.0 r.kept w.1 alive) lives.there (may_admit stands m w.0 g.0 b g.2 alive idle next)
 
         exact : AreBusy h (all_in old.busy)
         exact = kept_busy limit old h table r.kept
 
         absent : among n (all_in old.busy) ≡ false
-        absent = exact.among n ∙ ap is_busy_in (let k = w.3 in k.standing) ∙ idle_done w.0.standing idle
+        absent = exact.among n ∙ ap is_busy_in (let k = w.3 in k.standing) ∙ idle_done (standing_in w.0) idle
 
         positive : 0 < n
         positive = let i = at_within n (seats old) w.0 w.1 in omega (arith, i.1)
@@ -529,13 +538,13 @@ module _ {T : Type 0} where
         a : (s.ended ≡ None) × (s.done ≡ Some s.last)
         a = (closes_idle s).0 closes
 
-        w : (seat : Seat T) × (get_at n (seats old) ≡ Some seat) × (seat.standing ≡ s) × IsSeat h n seat
+        w : (seat : Seat T) × (get_at n (seats old) ≡ Some seat) × (standing_in seat ≡ s) × IsSeat h n seat
         w = seat_with limit old h n s r.kept standing
 
-        alive : w.0.standing.ended ≡ None
+        alive : (standing_in w.0).ended ≡ None
         alive = ap (λ (x : Standing). x.ended) w.2 ∙ a.0
 
-        idle : w.0.standing.done ≡ Some w.0.standing.last
+        idle : (standing_in w.0).done ≡ Some (standing_in w.0).last
         idle = ap (λ (x : Standing). x.done) w.2 ∙ a.1 ∙ ap (λ (x : Standing). Some x.last) (sym w.2)
 
         g : (stage : Stage) × (stage_of n stages ≡ Some stage) × StandsAt stands m w.0 stage
@@ -550,7 +559,7 @@ module _ {T : Type 0} where
         → Old (called_so_far h)
         → all_in old.busy ≡ before ++ n ∷ rest → all_in new.busy ≡ passed ++ rest
         → passed ≡ cond (is_unfinished advanced.progress) (before ++ n ∷ []) before → new.limit ≡ old.limit
-        → ((st : Stage) (calls : List Called) (seat : Seat T) → at_ordinal (live_value old.table) n ≡ Some seat → IsThere stands seat.session st
+        → ((st : Stage) (calls : List Called) (seat : Seat T) → at_ordinal (live_value old.table) n ≡ Some seat → IsThere stands seat st
         → is_done m st ≡ false → Old calls
         → (next : Seat T) × SliceOf m st meant calls slice seat next advanced stands Replies
         × IsChanged n old.table new.table next (ends_session advanced.progress))
@@ -568,16 +577,16 @@ module _ {T : Type 0} where
         s : (x : Standing) × (standing_of n h ≡ Some x) × (is_busy x ≡ true)
         s = busy-some (standing_of n h) found
 
-        w : (seat : Seat T) × (get_at n (seats old) ≡ Some seat) × (seat.standing ≡ s.0) × IsSeat h n seat
+        w : (seat : Seat T) × (get_at n (seats old) ≡ Some seat) × (standing_in seat ≡ s.0) × IsSeat h n seat
         w = seat_with limit old h n s.0 r.kept s.1
 
-        busy : is_busy w.0.standing ≡ true
+        busy : is_busy (standing_in w.0) ≡ true
         busy = ap is_busy w.2 ∙ s.2
 
         g : (stage : Stage) × (stage_of n stages ≡ Some stage) × StandsAt stands m w.0 stage
         g = stage_with stands m limit old h stages n w.0 r w.1
 
-        alive : w.0.standing.ended ≡ None
+        alive : (standing_in w.0).ended ≡ None
         alive = let stood = g.2 in stood.busy busy
 
         lives : Lives stands m w.0 g.0

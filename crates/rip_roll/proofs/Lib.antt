@@ -1,6 +1,7 @@
 pub mod BusyLemmas
 pub mod CallLemmas
 pub mod CountLemmas
+pub mod HeldLemmas
 pub mod ListLemmas
 pub mod NameLemmas
 pub mod OwnLemmas

@@ -16,7 +16,7 @@ use Rattle.rip_course.specs.declared.standing.Standing.{Standing}
 use Rattle.rip_course.specs.Parts.{Meaning}
 use Rattle.rip_roll.specs.Ordinals.{get_at}
 use Rattle.rip_roll.specs.Rolls.{seats, IsChanged, IsKept, IsAtStage, IsRollOf}
-use Rattle.rip_roll.specs.Seats.{IsSeat, IsKeptAt, has_ended, StandsAt}
+use Rattle.rip_roll.specs.Seats.{standing_in, IsSeat, IsKeptAt, has_ended, StandsAt}
 use Rattle.rip_roll.specs.Walks.{all_in}
 use Rattle.rip_roll.specs.declared.roll.Roll.{Roll}
 use Rattle.rip_roll.specs.declared.seat.Seat.{Seat}
@@ -98,18 +98,18 @@ no_standing n h e = let same = tell_same n h [] e in same.standing
 
 module _ {T : Type 0} where
   seat-by : (h : List Recorded) (n : ℕ) (s : Standing) (o : Option (Seat T)) → IsKeptAt h n o → standing_of n h ≡ Some s
-      → (seat : Seat T) × (o ≡ Some seat) × (seat.standing ≡ s) × IsSeat h n seat
+      → (seat : Seat T) × (o ≡ Some seat) × (standing_in seat ≡ s) × IsSeat h n seat
   seat-by h n s None k e = absurd (none_some s (sym (no_standing n h k) ∙ e))
-  seat-by h n s (Some seat) k e = (seat, refl, same_Some seat.standing s (sym k.standing ∙ e), k)
+  seat-by h n s (Some seat) k e = (seat, refl, same_Some (standing_in seat) s (sym k.standing ∙ e), k)
 
   -- the seat of a session that was opened
   pub seat_with : (limit : ℕ) (roll : Roll T) (h : List Recorded) (n : ℕ) (s : Standing) → IsKept limit roll h → standing_of n h ≡ Some s
-      → (seat : Seat T) × (get_at n (seats roll) ≡ Some seat) × (seat.standing ≡ s) × IsSeat h n seat
+      → (seat : Seat T) × (get_at n (seats roll) ≡ Some seat) × (standing_in seat ≡ s) × IsSeat h n seat
   seat_with limit roll h n s k e = seat-by h n s (get_at n (seats roll)) (k.each n) e
 
   -- one that lives is live in the table
   pub seat_live : (limit : ℕ) (roll : Roll T) (h : List Recorded) (n : ℕ) (seat : Seat T) → IsKept limit roll h → get_at n (seats roll) ≡ Some seat
-      → seat.standing.ended ≡ None → at_ordinal (live_value roll.table) n ≡ Some seat
+      → (standing_in seat).ended ≡ None → at_ordinal (live_value roll.table) n ≡ Some seat
   seat_live limit roll h n seat k at lives =
       live_from roll.table n seat at
       (ap (get_at n) k.ended ∙ at-map has_ended n (seats roll) ∙ ap (option_map has_ended) at
@@ -189,7 +189,7 @@ module _ {T : Type 0} where
 
   -- a roll with another seat is kept, with the entries that tell of it
   pub changed_kept : (limit : ℕ) (h es : List Recorded) (n : ℕ) (old new : Roll T) (seat next : Seat T) (ends : Bool)
-      → IsKept limit old h → get_at n (seats old) ≡ Some seat → seat.standing.ended ≡ None
+      → IsKept limit old h → get_at n (seats old) ≡ Some seat → (standing_in seat).ended ≡ None
       → IsChanged n old.table new.table next ends → has_ended next ≡ ends → new.limit ≡ old.limit
       → AreOf n es → IsSeat (h ++ es) n next → IsTable new.table → AreBusy (h ++ es) (all_in new.busy)
       → IsKept limit new (h ++ es)

@@ -1,12 +1,14 @@
 -- What is kept of a session is what the history tells, when entries are added.
-use Rattle.std.proofs.Common.{◌≡◌, ℕ, suc, ◌+◌, Bool, true, cond, not, eqb, List, [], ◌∷◌, ◌++◌, length, map, Option, Some, None, refl, sym, ap, ◌∙◌, arith, append-nil, false}
+use Rattle.std.proofs.Common.{◌≡◌, ℕ, suc, ◌+◌, ◌<◌, Bool, true, cond, not, eqb, List, [], ◌∷◌, ◌++◌, length, map, Option, Some, None, refl, sym, ap, ◌∙◌, subst, arith, append-nil}
 use Rattle.std.specs.Prelude.{is_none, is_some, option_map}
 use Rattle.std.specs.List.{AllByRecursion, zip}
-use Rattle.std.proofs.lemmas.Bool.{true≢false, false≢true, eq-eqb, ne_eqb, and_from, and_right}
+use Rattle.std.proofs.lemmas.Bool.{false≢true, eq-eqb, ne_eqb, and_from, and_right}
+use Rattle.std.proofs.lemmas.Option.{same_Some}
 use Rattle.rip_wire.specs.Answers.{Served, served_of}
 use Rattle.rip_wire.specs.Batches.{Contents}
-use Rattle.rip_wire.specs.declared.ending.Ending.{Ending}
+use Rattle.rip_wire.specs.declared.answer.ServedCall.{ServedCall}
 use Rattle.rip_wire.specs.declared.ending.Reason.{Reason}
+use Rattle.rip_wire.specs.declared.ending.Reason.TheVariants.{Closed}
 use Rattle.rip_wire.specs.Reasons.{reason_of}
 use Rattle.rip_log.specs.Entries.{Recorded, opened, admitted, closed}
 use Rattle.rip_http.specs.declared.answer.Opening.{Opening}
@@ -20,12 +22,20 @@ use Rattle.rip_course.specs.declared.sessions.Progress.{Progress}
 use Rattle.rip_course.specs.declared.sessions.Progress.TheVariants.{Busy, Finished}
 use Rattle.rip_course.specs.declared.standing.Standing.{Standing}
 use Rattle.rip_course.proofs.StandingLemmas.{standings_follow}
-use Rattle.rip_roll.specs.Seats.{Held, IsSeat, IsKeptAt, IsOpened, IsAdmitted, IsClosed, IsAfter, IsLeft}
+use Rattle.rip_roll.specs.Seats.{Held, standing_in, notes_in, AreNotes, IsSeat, IsKeptAt, IsOpened, IsAdmitted, IsClosed, IsAfter, IsGivenUp, Leaves}
+use Rattle.rip_roll.specs.declared.seat.Legacy.{Legacy}
+use Rattle.rip_roll.specs.declared.seat.Notes.{Notes}
 use Rattle.rip_roll.specs.declared.seat.Seat.{Seat}
+use Rattle.rip_roll.specs.declared.seat.Seat.TheVariants.{Live}
 use Rattle.rip_roll.proofs.OwnLemmas.{served_join, called_join, standing_join, opening_stays, tell_same, others_same, AreOthers, opened_opening}
 use Rattle.rip_roll.proofs.StageLemmas.{idle_done, busy_admitted, idle_finished}
 
 -- ---- entries of a slice
+
+-- the standing after a slice
+abbrev pub after_progress : ℕ → Progress → Standing → Standing
+after_progress number Busy s = s
+after_progress number (Finished how) s = when_done number (option_map reason_of how) s
 
 module _ (turn n : ℕ) where
   served-others : (k : ℕ) → (n ≡ k → ⊥) → (xs : List (Serving × Given)) → AreOthers k (map (served_entry turn n) xs)
@@ -50,11 +60,6 @@ module _ (turn n : ℕ) where
   served-standing : (k : ℕ) (s : Option Standing) (xs : List (Serving × Given)) → standing_from k s (map (served_entry turn n) xs) ≡ s
   served-standing k s [] = refl
   served-standing k s ((x, g) ∷ xs) = served-standing k s xs
-
-  -- the standing after a slice
-  abbrev pub after_progress : ℕ → Progress → Standing → Standing
-  after_progress number Busy s = s
-  after_progress number (Finished how) s = when_done number (option_map reason_of how) s
 
   done-standing : (s : Standing) (number : ℕ) (p : Progress)
       → standing_from n (Some s) (done_entries turn n number p) ≡ Some (after_progress number p s)
@@ -175,11 +180,6 @@ own-last : (n : ℕ) (t f : Option Standing) → cond (eqb n n) t f ≡ t
 own-last n t f = ap (λ (b : Bool). cond b t f) (eq-eqb n n refl)
 
 module _ {T : Type 0} where
-  -- one that has ended by its batch is given up
-  gone : (how : Option Ending) (session new : Option (Held T)) → IsLeft (Finished how) session new → is_none (option_map reason_of how) ≡ false → new ≡ None
-  gone None session new left e = absurd (true≢false e)
-  gone (Some ending) session new left e = left
-
   -- entries of others change nothing
   pub others_kept : (h es : List Recorded) (n : ℕ) (o : Option (Seat T)) → AreOthers n es → IsKeptAt h n o → IsKeptAt (h ++ es) n o
   others_kept h es n None others k = others_same n h es others ∙ k
@@ -187,24 +187,26 @@ module _ {T : Type 0} where
       let same = tell_same n (h ++ es) h (others_same n h es others) in
       record {
         standing = same.standing ∙ k.standing;
-        opening = same.opening ∙ k.opening;
-        told = λ number e. k.told number e ∙ sym (same.served number);
-        making = λ e. k.making e ∙ sym (same.served (let s = seat.standing in s.last));
-        none = k.none;
+        lives = k.lives;
+        notes = λ notes has.
+            let was = k.notes notes has in
+            record {
+              opening = same.opening ∙ was.opening;
+              told = λ number e. was.told number e ∙ sym (same.served number);
+              making = λ e. was.making e ∙ sym (same.served (let s = standing_in seat in s.last));
+              none = was.none;
+            };
         ahead = λ number lt. same.served number ∙ k.ahead number lt;
-        given_up = k.given_up;
       }
 
   pub opened_kept : (h : List Recorded) (n turn id seed time : ℕ) (seat : Seat T) → entries_of n h ≡ [] → IsOpened id seed time seat
       → IsSeat (h ++ opened turn n id seed time ∷ []) n seat
   opened_kept h n turn id seed time seat none k = record {
     standing = standings_follow n h e ∙ own-last n (Some when_opened) (standing_of n h) ∙ ap (λ (s : Standing). Some s) (sym k.standing);
-    opening = opened_opening n turn id seed time h none ∙ ap (λ (o : Opening). Some o) (sym k.opening);
-    told = λ number f. absurd (not-some number (sym (ap (λ (s : Standing). s.done) k.standing) ∙ f));
-    making = λ f. ap (map served_of) k.making ∙ sym (unserved (let s = seat.standing in s.last));
-    none = λ f. k.making;
+    lives = ap (λ (o : Option Notes). is_some o) k.notes ∙ sym (ap is_live k.standing);
+    notes = λ notes has.
+        subst (λ (x : Notes). AreNotes (h ++ e ∷ []) n (standing_in seat) x) (same_Some k.noted notes (sym k.notes ∙ has)) noted;
     ahead = λ number lt. unserved number;
-    given_up = λ f. absurd (true≢false (sym (ap is_live k.standing) ∙ f));
   }
     where
       e : Recorded
@@ -215,24 +217,26 @@ module _ {T : Type 0} where
           served_join n number h (e ∷ []) ∙ append-nil (served_in n number h)
           ∙ (let same = tell_same n h [] none in same.served number)
 
+      noted : AreNotes (h ++ e ∷ []) n (standing_in seat) k.noted
+      noted = record {
+        opening = opened_opening n turn id seed time h none ∙ ap (λ (o : Opening). Some o) (sym k.opening);
+        told = λ number f. absurd (not-some number (sym (ap (λ (s : Standing). s.done) k.standing) ∙ f));
+        making = λ f. ap (map served_of) k.making ∙ sym (unserved (let s = standing_in seat in s.last));
+        none = λ f. k.making;
+      }
+
   pub admitted_kept : (h : List Recorded) (n turn : ℕ) (b : Contents) (old new : Seat T) → IsSeat h n old
-      → old.standing.ended ≡ None → old.standing.done ≡ Some old.standing.last → b.number ≡ old.standing.last + 1 → IsAdmitted b.number old new
+      → (standing_in old).ended ≡ None → (standing_in old).done ≡ Some (standing_in old).last → b.number ≡ (standing_in old).last + 1 → IsAdmitted b.number old new
       → IsSeat (h ++ admitted turn n b ∷ []) n new
   admitted_kept h n turn b old new k alive idle next a = record {
     standing =
         standings_follow n h e ∙ own-last n (option_map (when_admitted b.number) (standing_of n h)) (standing_of n h)
         ∙ ap (option_map (when_admitted b.number)) k.standing ∙ ap (λ (s : Standing). Some s) (sym a.standing);
-    opening = opening_stays n h (e ∷ []) old.opening k.opening ∙ ap (λ (o : Opening). Some o) (sym a.opening);
-    told = λ number f.
-        ap (map served_of) a.told ∙ k.told number (sym (ap (λ (s : Standing). s.done) a.standing) ∙ f) ∙ sym (same number);
-    making = λ f.
-        ap (map served_of) (a.making ∙ k.none (idle_done old.standing idle))
-        ∙ sym (ap (λ (s : Standing). served_in n s.last (h ++ e ∷ [])) a.standing ∙ same b.number ∙ k.ahead b.number (omega (arith, next)));
-    none = λ f. absurd (false≢true (sym f ∙ ap is_busy a.standing ∙ busy_admitted old.standing b.number idle next));
+    lives = ap (λ (o : Option Notes). is_some o) a.notes ∙ k.lives ∙ sym (ap is_live a.standing);
+    notes = λ notes has. noted notes (k.notes notes (sym a.notes ∙ has));
     ahead = λ number lt.
-        let is : new.standing.last ≡ b.number = ap (λ (s : Standing). s.last) a.standing in
+        let is : (standing_in new).last ≡ b.number = ap (λ (s : Standing). s.last) a.standing in
         same number ∙ k.ahead number (omega (arith, lt, is, next));
-    given_up = λ f. absurd (true≢false (sym (ap is_live a.standing ∙ ap (λ (o : Option Reason). is_none o) alive) ∙ f));
   }
     where
       e : Recorded
@@ -241,84 +245,136 @@ module _ {T : Type 0} where
       same : (number : ℕ) → served_in n number (h ++ e ∷ []) ≡ served_in n number h
       same number = served_join n number h (e ∷ []) ∙ append-nil (served_in n number h)
 
-  pub closed_kept : (h : List Recorded) (n turn : ℕ) (old new : Seat T) → IsSeat h n old → IsClosed old new
-      → IsSeat (h ++ closed turn n ∷ []) n new
-  closed_kept h n turn old new k a = record {
+      noted : (notes : Notes) → AreNotes h n (standing_in old) notes → AreNotes (h ++ e ∷ []) n (standing_in new) notes
+      noted notes was = record {
+        opening = opening_stays n h (e ∷ []) notes.opening was.opening;
+        told = λ number f. was.told number (sym (ap (λ (s : Standing). s.done) a.standing) ∙ f) ∙ sym (same number);
+        making = λ f.
+            ap (map served_of) (was.none (idle_done (standing_in old) idle))
+            ∙ sym (ap (λ (s : Standing). served_in n s.last (h ++ e ∷ [])) a.standing ∙ same b.number ∙ k.ahead b.number (omega (arith, next)));
+        none = λ f. absurd (false≢true (sym f ∙ ap is_busy a.standing ∙ busy_admitted (standing_in old) b.number idle next));
+      }
+
+  pub closed_standing : (old new : Seat T) → (standing_in old).done ≡ Some (standing_in old).last → IsClosed old new
+      → standing_in new ≡ when_closed (standing_in old)
+  closed_standing old new idle a =
+      ap standing_in a
+      ∙ ap (λ (d : Option ℕ). let s : Standing = record { last = (standing_in old).last; done = d; ended = Some Closed } in s) (sym idle)
+
+  pub closed_kept : (h : List Recorded) (n turn : ℕ) (old new : Seat T) → IsSeat h n old → (standing_in old).done ≡ Some (standing_in old).last
+      → IsClosed old new → IsSeat (h ++ closed turn n ∷ []) n new
+  closed_kept h n turn old new k idle a = record {
     standing =
         standings_follow n h e ∙ own-last n (option_map when_closed (standing_of n h)) (standing_of n h)
-        ∙ ap (option_map when_closed) k.standing ∙ ap (λ (s : Standing). Some s) (sym a.standing);
-    opening = opening_stays n h (e ∷ []) old.opening k.opening ∙ ap (λ (o : Opening). Some o) (sym a.opening);
-    told = λ number f.
-        ap (map served_of) a.told ∙ k.told number (sym (ap (λ (s : Standing). s.done) a.standing) ∙ f) ∙ sym (same number);
-    making = λ f.
-        ap (map served_of) a.making ∙ k.making (sym (ap is_busy a.standing) ∙ f)
-        ∙ sym (ap (λ (s : Standing). served_in n s.last (h ++ e ∷ [])) a.standing ∙ same (let s = old.standing in s.last));
-    none = λ f. a.making ∙ k.none (sym (ap is_busy a.standing) ∙ f);
+        ∙ ap (option_map when_closed) k.standing ∙ ap (λ (s : Standing). Some s) (sym is);
+    lives = ap (λ (x : Seat T). is_some (notes_in x)) a ∙ sym (ap (λ (x : Seat T). is_live (standing_in x)) a);
+    notes = λ notes has. absurd (not-some notes (sym (ap notes_in a) ∙ has));
     ahead = λ number lt.
-        let is : new.standing.last ≡ old.standing.last = ap (λ (s : Standing). s.last) a.standing in
-        same number ∙ k.ahead number (omega (arith, lt, is));
-    given_up = λ f. a.session;
+        let at : (standing_in new).last ≡ (standing_in old).last = ap (λ (s : Standing). s.last) is in
+        served_join n number h (e ∷ []) ∙ append-nil (served_in n number h) ∙ k.ahead number (omega (arith, lt, at));
   }
     where
       e : Recorded
       e = closed turn n
 
-      same : (number : ℕ) → served_in n number (h ++ e ∷ []) ≡ served_in n number h
-      same number = served_join n number h (e ∷ []) ∙ append-nil (served_in n number h)
+      is : standing_in new ≡ when_closed (standing_in old)
+      is = closed_standing old new idle a
 
-  -- a busy session after a slice
-  pub slice_kept : (h : List Recorded) (n turn : ℕ) (parts : List Part) (given : List Given) (progress : Progress) (old new : Seat T)
-      → IsSeat h n old → is_busy old.standing ≡ true → old.standing.ended ≡ None → AllByRecursion (λ (q : Part). q.batch ≡ old.standing.last) parts
-      → new.opening ≡ old.opening → IsAfter progress (answered_calls parts given) old new
-      → (session : Option (Held T)) → IsLeft progress session new.session
-      → IsSeat (h ++ (served_entries turn n parts given ++ done_entries turn n old.standing.last progress)) n new
-  slice_kept h n turn parts given progress old new k busy alive own same_opening a session left = by progress a left
-    where
-      last : ℕ
-      last = old.standing.last
+  -- ---- a busy session after a slice
 
-      more : Progress → List Recorded
-      more p = h ++ (served_entries turn n parts given ++ done_entries turn n last p)
+  module _ (h : List Recorded) (n turn : ℕ) (parts : List Part) (given : List Given) (old new : Seat T) (before held : Held T) (legacy : Option Legacy)
+      (number : ℕ) (k : IsSeat h n old) (busy : is_busy (standing_in old) ≡ true) (alive : (standing_in old).ended ≡ None)
+      (own : AllByRecursion (λ (q : Part). q.batch ≡ (standing_in old).last) parts) (was : old ≡ Live before)
+      (numbered : number ≡ (standing_in old).last) where
+    abbrev last : ℕ
+    last = (standing_in old).last
 
-      opening : (p : Progress) → opening_told n (more p) ≡ Some new.opening
-      opening p =
-          opening_stays n h (served_entries turn n parts given ++ done_entries turn n last p) old.opening k.opening
-          ∙ ap (λ (o : Opening). Some o) (sym same_opening)
+    abbrev more : Progress → List Recorded
+    more p = h ++ (served_entries turn n parts given ++ done_entries turn n last p)
 
-      not-done : (number : ℕ) → old.standing.done ≡ Some number → last ≡ number → ⊥
-      not-done number e same =
-          false≢true (sym (ap (λ (o : Option ℕ). not (has_done o last)) e ∙ ap not (eq-eqb number last (sym same))) ∙ busy)
+    stood : standing_in old ≡ before.value.standing
+    stood = ap standing_in was
 
-      by : (p : Progress) → IsAfter p (answered_calls parts given) old new → IsLeft p session new.session → IsSeat (more p) n new
-      by Busy (is, told, making) left = record {
-        standing = slice_standing turn n h old.standing parts given last Busy k.standing ∙ ap (λ (s : Standing). Some s) (sym is);
-        opening = opening Busy;
-        told = λ number e.
-            let done : old.standing.done ≡ Some number = sym (ap (λ (s : Standing). s.done) is) ∙ e in
-            ap (map served_of) told ∙ k.told number done ∙ sym (slice_unserved turn n h parts given number last Busy (not-done number done) own);
-        making = λ e.
-            making ∙ ap (λ t. t ++ answered_calls parts given) (k.making busy) ∙ sym (slice_served turn n h parts given last Busy own)
-            ∙ ap (λ (s : Standing). served_in n s.last (more Busy)) (sym is);
-        none = λ e. absurd (false≢true (sym e ∙ ap is_busy is ∙ busy));
-        ahead = λ number lt.
-            let at : new.standing.last ≡ last = ap (λ (s : Standing). s.last) is in
-            slice_unserved turn n h parts given number last Busy (λ e. omega (arith, e, lt, at)) own ∙ k.ahead number (omega (arith, lt, at));
-        given_up = λ f. absurd (true≢false (sym (ap is_live is ∙ ap (λ (o : Option Reason). is_none o) alive) ∙ f));
-      }
-      by (Finished how) (is, told, making) left = record {
-        standing = slice_standing turn n h old.standing parts given last (Finished how) k.standing ∙ ap (λ (s : Standing). Some s) (sym is);
-        opening = opening (Finished how);
-        told = λ number e.
-            let at : last ≡ number = some-same last number (sym (ap (λ (s : Standing). s.done) is) ∙ e) in
-            told ∙ ap (λ t. t ++ answered_calls parts given) (k.making busy) ∙ sym (slice_served turn n h parts given last (Finished how) own)
-            ∙ ap (λ (j : ℕ). served_in n j (more (Finished how))) at;
-        making = λ e. absurd (false≢true (sym (idle_finished old.standing (option_map reason_of how)) ∙ sym (ap is_busy is) ∙ e));
-        none = λ e. making;
-        ahead = λ number lt.
-            let at : new.standing.last ≡ last = ap (λ (s : Standing). s.last) is in
-            slice_unserved turn n h parts given number last (Finished how) (λ e. omega (arith, e, lt, at)) own ∙ k.ahead number (omega (arith, lt, at));
-        given_up = λ f. gone how session new.session left (sym (ap is_live is) ∙ f);
-      }
-        where
-          some-same : (x y : ℕ) → Some x ≡ Some y → x ≡ y
-          some-same x y e = cc
+    noted : AreNotes h n (standing_in old) before.value.notes
+    noted = k.notes before.value.notes (ap notes_in was)
+
+    opening : (p : Progress) → opening_told n (more p) ≡ Some before.value.notes.opening
+    opening p = opening_stays n h (served_entries turn n parts given ++ done_entries turn n last p) before.value.notes.opening noted.opening
+
+    made : (p : Progress) (xs : List ServedCall) → map served_of xs ≡ map served_of before.value.notes.making.items ++ answered_calls parts given
+        → map served_of xs ≡ served_in n last (more p)
+    made p xs is = is ∙ ap (λ t. t ++ answered_calls parts given) (noted.making busy) ∙ sym (slice_served turn n h parts given last p own)
+
+    not-done : (j : ℕ) → (standing_in old).done ≡ Some j → last ≡ j → ⊥
+    not-done j e same = false≢true (sym (ap (λ (o : Option ℕ). not (has_done o last)) e ∙ ap not (eq-eqb j last (sym same))) ∙ busy)
+
+    ahead : (p : Progress) → (standing_in new).last ≡ last → (j : ℕ) → (standing_in new).last < j → served_in n j (more p) ≡ []
+    ahead p at j lt = slice_unserved turn n h parts given j last p (λ e. omega (arith, e, lt, at)) own ∙ k.ahead j (omega (arith, lt, at))
+
+    -- how it stands then
+    pub slice_stands : (p : Progress) → IsAfter p (answered_calls parts given) legacy before.value held.value → IsGivenUp p number (Live held) new
+        → standing_in new ≡ after_progress (standing_in old).last p (standing_in old)
+    slice_stands Busy (none, is, m) left = ap standing_in left ∙ is ∙ sym stood
+    slice_stands (Finished None) (none, is, m) left = ap standing_in left ∙ is ∙ ap (λ (s : Standing). when_done s.last None s) (sym stood)
+    slice_stands (Finished (Some ending)) l left =
+        ap standing_in left
+        ∙ ap (λ (j : ℕ). let s : Standing = record { last = j; done = Some j; ended = Some (reason_of ending) } in s) numbered
+
+    -- what is kept of it
+    pub slice_kept : (p : Progress) → IsAfter p (answered_calls parts given) legacy before.value held.value → IsGivenUp p number (Live held) new
+        → IsSeat (h ++ (served_entries turn n parts given ++ done_entries turn n (standing_in old).last p)) n new
+    slice_kept Busy (none, is, m) left =
+        let at = slice_stands Busy (none, is, m) left in
+        let has : notes_in new ≡ Some held.value.notes = ap notes_in left in
+        record {
+          standing = slice_standing turn n h (standing_in old) parts given last Busy k.standing ∙ ap (λ (s : Standing). Some s) (sym at);
+          lives = ap (λ (o : Option Notes). is_some o) has ∙ sym (ap is_live at ∙ ap (λ (o : Option Reason). is_none o) alive);
+          notes = λ notes e.
+              subst (λ (x : Notes). AreNotes (more Busy) n (standing_in new) x) (same_Some held.value.notes notes (sym has ∙ e)) (record {
+                opening = opening Busy ∙ ap (λ (o : Opening). Some o) (sym m.opening);
+                told = λ j f.
+                    let done : (standing_in old).done ≡ Some j = sym (ap (λ (s : Standing). s.done) at) ∙ f in
+                    ap (map served_of) m.told ∙ noted.told j done ∙ sym (slice_unserved turn n h parts given j last Busy (not-done j done) own);
+                making = λ f.
+                    made Busy held.value.notes.making.items m.making ∙ ap (λ (s : Standing). served_in n s.last (more Busy)) (sym at);
+                none = λ f. absurd (false≢true (sym f ∙ ap is_busy at ∙ busy));
+              });
+          ahead = ahead Busy (ap (λ (s : Standing). s.last) at);
+        }
+    slice_kept (Finished None) (none, is, m) left =
+        let at = slice_stands (Finished None) (none, is, m) left in
+        let has : notes_in new ≡ Some held.value.notes = ap notes_in left in
+        record {
+          standing = slice_standing turn n h (standing_in old) parts given last (Finished None) k.standing ∙ ap (λ (s : Standing). Some s) (sym at);
+          lives = ap (λ (o : Option Notes). is_some o) has ∙ sym (ap is_live at);
+          notes = λ notes e.
+              subst (λ (x : Notes). AreNotes (more (Finished None)) n (standing_in new) x) (same_Some held.value.notes notes (sym has ∙ e)) (record {
+                opening = opening (Finished None) ∙ ap (λ (o : Opening). Some o) (sym m.opening);
+                told = λ j f.
+                    made (Finished None) held.value.notes.told.items m.told
+                    ∙ ap (λ (i : ℕ). served_in n i (more (Finished None))) (same_Some last j (sym (ap (λ (s : Standing). s.done) at) ∙ f));
+                making = λ f. absurd (false≢true (sym (idle_finished (standing_in old) None) ∙ sym (ap is_busy at) ∙ f));
+                none = λ f. m.making;
+              });
+          ahead = ahead (Finished None) (ap (λ (s : Standing). s.last) at);
+        }
+    slice_kept (Finished (Some ending)) l left =
+        let at = slice_stands (Finished (Some ending)) l left in
+        record {
+          standing = slice_standing turn n h (standing_in old) parts given last (Finished (Some ending)) k.standing ∙ ap (λ (s : Standing). Some s) (sym at);
+          lives = ap (λ (x : Seat T). is_some (notes_in x)) left ∙ sym (ap (λ (x : Seat T). is_live (standing_in x)) left);
+          notes = λ notes e. absurd (not-some notes (sym (ap notes_in left) ∙ e));
+          ahead = ahead (Finished (Some ending)) (ap (λ (s : Standing). s.last) at);
+        }
+
+    -- what it leaves
+    pub slice_leaves : (p : Progress) → IsAfter p (answered_calls parts given) legacy before.value held.value
+        → Leaves p legacy n (standing_in old).last (h ++ (served_entries turn n parts given ++ done_entries turn n (standing_in old).last p))
+    slice_leaves Busy a = a.0
+    slice_leaves (Finished None) a = a.0
+    slice_leaves (Finished (Some ending)) l = record {
+      left = l.left;
+      some = l.some;
+      opening = opening (Finished (Some ending)) ∙ ap (λ (o : Opening). Some o) (sym l.opening);
+      told = made (Finished (Some ending)) (let x = l.left in x.told.items) l.told;
+    }

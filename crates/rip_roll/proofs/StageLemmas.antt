@@ -15,7 +15,7 @@ use Rattle.rip_course.specs.declared.sessions.Progress.TheVariants.{Busy, Finish
 use Rattle.rip_course.specs.declared.standing.Standing.{Standing}
 use Rattle.rip_course.proofs.ComeLemmas.{HasCome, come_all, come_bounds, all_right}
 use Rattle.rip_course.proofs.KeepLemmas.{meanings_keep, all_maps}
-use Rattle.rip_roll.specs.Seats.{IsThere, StandsAt}
+use Rattle.rip_roll.specs.Seats.{standing_in, IsThere, StandsAt}
 use Rattle.rip_roll.specs.declared.seat.Seat.{Seat}
 
 -- ---- standings
@@ -84,7 +84,7 @@ ends-none (Some ending) e = absurd (true≢false (ap (λ (o : Option Reason). is
 -- ---- a session
 
 module _ {T : Type 0} (stands : T → Stage → Type 0) (m : Meaning) where
-  pub opened_stands : IsLawful m → (seat : Seat T) (seed time : ℕ) → seat.standing ≡ when_opened → IsThere stands seat.session (begun seed time)
+  pub opened_stands : IsLawful m → (seat : Seat T) (seed time : ℕ) → standing_in seat ≡ when_opened → IsThere stands seat (begun seed time)
       → StandsAt stands m seat (begun seed time)
   opened_stands lawful seat seed time fresh there = record {
     number = ap (λ (s : Standing). s.last) fresh;
@@ -102,20 +102,20 @@ module _ {T : Type 0} (stands : T → Stage → Type 0) (m : Meaning) where
 
   -- a batch may be admitted where the session is idle and lives, and its number is the next
   pub may_admit : (seat : Seat T) (st : Stage) (b : Contents) → StandsAt stands m seat st
-      → seat.standing.ended ≡ None → seat.standing.done ≡ Some seat.standing.last → b.number ≡ seat.standing.last + 1
+      → (standing_in seat).ended ≡ None → (standing_in seat).done ≡ Some (standing_in seat).last → b.number ≡ (standing_in seat).last + 1
       → MayAdmit m st b
   may_admit seat st b s alive idle next =
       let lives = s.lives alive in
       record {
         sound = lives.sound;
-        done = not-false (is_done m st) (sym lives.progress ∙ idle_done seat.standing idle);
+        done = not-false (is_done m st) (sym lives.progress ∙ idle_done (standing_in seat) idle);
         lives = lives.open_yet;
         next = omega (arith, next, s.number);
       }
 
   pub admitted_stands : IsLawful m → (seat new : Seat T) (st : Stage) (b : Contents) → StandsAt stands m seat st
-      → seat.standing.ended ≡ None → seat.standing.done ≡ Some seat.standing.last → b.number ≡ seat.standing.last + 1
-      → new.standing ≡ when_admitted b.number seat.standing → IsThere stands new.session (with_batch b st)
+      → (standing_in seat).ended ≡ None → (standing_in seat).done ≡ Some (standing_in seat).last → b.number ≡ (standing_in seat).last + 1
+      → standing_in new ≡ when_admitted b.number (standing_in seat) → IsThere stands new (with_batch b st)
       → StandsAt stands m new (with_batch b st)
   admitted_stands lawful seat new st b s alive idle next is there = record {
     number = ap (λ (x : Standing). x.last) is ∙ omega (arith, next, s.number, size);
@@ -125,7 +125,7 @@ module _ {T : Type 0} (stands : T → Stage → Type 0) (m : Meaning) where
       sound = (let lives = s.lives alive in lives.sound);
       open_yet = ap has_ended same ∙ (let lives = s.lives alive in lives.open_yet);
       progress =
-          ap is_busy is ∙ busy_admitted seat.standing b.number idle next
+          ap is_busy is ∙ busy_admitted (standing_in seat) b.number idle next
           ∙ ap not (sym ((λ i. finishes_batch (size i) (same i)) ∙ none-of-next (length st.batches) (parts_at m st) within));
     };
   }
@@ -141,11 +141,11 @@ module _ {T : Type 0} (stands : T → Stage → Type 0) (m : Meaning) where
           all_maps (HasCome (length st.batches) st.units) (λ (p : Part). p.batch ≤ length st.batches) (come_bounds (length st.batches) st.units)
           (parts_at m st) (come_all (length st.batches) st.units (whole_parts m st))
 
-  pub closed_stands : (seat new : Seat T) (st : Stage) → StandsAt stands m seat st → seat.standing.done ≡ Some seat.standing.last
-      → new.standing ≡ when_closed seat.standing → StandsAt stands m new st
+  pub closed_stands : (seat new : Seat T) (st : Stage) → StandsAt stands m seat st → (standing_in seat).done ≡ Some (standing_in seat).last
+      → standing_in new ≡ when_closed (standing_in seat) → StandsAt stands m new st
   closed_stands seat new st s idle is = record {
     number = ap (λ (x : Standing). x.last) is ∙ s.number;
-    busy = λ e. absurd (false≢true (sym (idle_done seat.standing idle) ∙ sym (ap is_busy is) ∙ e));
+    busy = λ e. absurd (false≢true (sym (idle_done (standing_in seat) idle) ∙ sym (ap is_busy is) ∙ e));
     lives = λ e. absurd (true≢false (ap (λ (o : Option Reason). is_some o) (sym (ap (λ (x : Standing). x.ended) is) ∙ e)));
   }
 
@@ -172,8 +172,8 @@ module _ {T : Type 0} (stands : T → Stage → Type 0) (m : Meaning) where
     own g = all_maps (ComesNow st) (λ (p : Part). p.batch ≡ length st.batches) (λ p c. c.batch) parts g.now
 
     -- the batch is not done
-    pub busy_stands : StandsAt stands m seat st → is_busy seat.standing ≡ true → GoesOn m st n given parts next → IsProgress Busy parts
-        → new.standing ≡ seat.standing → IsThere stands new.session next → StandsAt stands m new next
+    pub busy_stands : StandsAt stands m seat st → is_busy (standing_in seat) ≡ true → GoesOn m st n given parts next → IsProgress Busy parts
+        → standing_in new ≡ standing_in seat → IsThere stands new next → StandsAt stands m new next
     busy_stands s busy g unfinished is there = record {
       number = ap (λ (x : Standing). x.last) is ∙ s.number ∙ sym (ap length g.batches);
       busy = λ e. ap (λ (x : Standing). x.ended) is ∙ s.busy busy;
@@ -192,9 +192,9 @@ module _ {T : Type 0} (stands : T → Stage → Type 0) (m : Meaning) where
     }
 
     -- the batch is done
-    pub done_stands : (how : Option Ending) → StandsAt stands m seat st → is_busy seat.standing ≡ true → GoesOn m st n given parts next
-        → IsProgress (Finished how) parts → new.standing ≡ when_done seat.standing.last (option_map reason_of how) seat.standing
-        → (how ≡ None → IsThere stands new.session next) → StandsAt stands m new next
+    pub done_stands : (how : Option Ending) → StandsAt stands m seat st → is_busy (standing_in seat) ≡ true → GoesOn m st n given parts next
+        → IsProgress (Finished how) parts → standing_in new ≡ when_done (standing_in seat).last (option_map reason_of how) (standing_in seat)
+        → (how ≡ None → IsThere stands new next) → StandsAt stands m new next
     done_stands how s busy g finished is there = record {
       number = ap (λ (x : Standing). x.last) is ∙ s.number ∙ sym (ap length g.batches);
       busy = λ e. absurd (false≢true (sym idle ∙ e));
@@ -212,8 +212,8 @@ module _ {T : Type 0} (stands : T → Stage → Type 0) (m : Meaning) where
           };
     }
       where
-        idle : is_busy new.standing ≡ false
-        idle = ap is_busy is ∙ idle_finished seat.standing (option_map reason_of how)
+        idle : is_busy (standing_in new) ≡ false
+        idle = ap is_busy is ∙ idle_finished (standing_in seat) (option_map reason_of how)
 
         no-ending : (how : Option Ending) → option_map reason_of how ≡ None → how ≡ None
         no-ending None e = refl

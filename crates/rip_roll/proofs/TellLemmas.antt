@@ -1,25 +1,28 @@
 -- What a roll answers of its sessions.
-use Rattle.std.proofs.Common.{◌≡◌, ℕ, zero, suc, ◌+◌, ◌<◌, ◌≤◌, Bool, false, cond, nat_eq, leb, List, [], length, map, Option, Some, None, refl, sym, ap, ◌∙◌, subst, arith}
-use Rattle.std.specs.Prelude.{slice_get, option_map, position, is_some}
-use Rattle.std.proofs.lemmas.Bool.{le-leb, lt-leb}
+use Rattle.std.proofs.Common.{◌≡◌, ℕ, zero, suc, ◌+◌, ◌<◌, ◌≤◌, Bool, true, false, cond, nat_eq, leb, List, [], length, map, Option, Some, None, refl, sym, ap, ◌∙◌, subst, arith}
+use Rattle.std.specs.Prelude.{slice_get, option_map, position, is_some, IfSome}
+use Rattle.std.proofs.lemmas.Bool.{false≢true, le-leb, lt-leb}
 use Rattle.std.proofs.lemmas.List.{nil_from_length}
+use Rattle.std.proofs.lemmas.Option.{same_Some}
+use Rattle.rip_http.specs.declared.answer.Opening.{Opening}
 use Rattle.rip_wire.specs.Answers.{served_of}
+use Rattle.rip_wire.specs.declared.answer.ServedCall.{ServedCall}
 use Rattle.rip_log.specs.Entries.{Recorded}
 use Rattle.rip_table.specs.Table.{IsTable, ids, ended, most_live, place_of, at_ordinal, live_count as counted_live}
 use Rattle.rip_course.specs.Answering.{opening_told}
 use Rattle.rip_course.specs.Requests.{identifiers_in, session_named, was_opened, served_in, live_count}
-use Rattle.rip_course.specs.Standings.{standing_of}
+use Rattle.rip_course.specs.Standings.{is_live, standing_of}
 use Rattle.rip_course.specs.declared.standing.Standing.{Standing}
 use Rattle.rip_roll.specs.Ordinals.{get_at}
 use Rattle.rip_roll.specs.Rolls.{seats, room_in, IsKept}
-use Rattle.rip_roll.specs.Seats.{IsSeat, IsKeptAt, has_ended}
+use Rattle.rip_roll.specs.Seats.{standing_in, notes_in, IsSeat, IsKeptAt, has_ended}
 use Rattle.rip_roll.specs.Walks.{all_in}
 use Rattle.rip_roll.specs.declared.roll.Roll.{Roll}
 use Rattle.rip_roll.specs.declared.roll.Room.TheVariants.{Free, Full, Spent}
+use Rattle.rip_roll.specs.declared.seat.Notes.{Notes}
 use Rattle.rip_roll.specs.declared.seat.Seat.{Seat}
 use Rattle.rip_roll.proofs.ListLemmas.{none_some}
 use Rattle.rip_roll.proofs.NameLemmas.{named_place, opened_place}
-use Rattle.rip_roll.proofs.OwnLemmas.{tell_same}
 use Rattle.rip_roll.proofs.RollLemmas.{ordinal_is, no_standing, kept_live}
 
 module _ {T : Type 0} where
@@ -41,29 +44,43 @@ module _ {T : Type 0} where
       → o ≡ at_ordinal (slice_get (seats roll)) n → IsKeptAt h n o
   kept-here limit roll h n o k e = subst (λ (x : Option (Seat T)). IsKeptAt h n x) (sym (e ∙ ordinal_is (seats roll) n)) (k.each n)
 
-  standing-by : (h : List Recorded) (n : ℕ) (o : Option (Seat T)) → IsKeptAt h n o → option_map (λ (s : Seat T). s.standing) o ≡ standing_of n h
+  standing-by : (h : List Recorded) (n : ℕ) (o : Option (Seat T)) → IsKeptAt h n o → option_map standing_in o ≡ standing_of n h
   standing-by h n None k = sym (no_standing n h k)
   standing-by h n (Some seat) k = sym k.standing
 
-  opening-by : (h : List Recorded) (n : ℕ) (o : Option (Seat T)) → IsKeptAt h n o → option_map (λ (s : Seat T). s.opening) o ≡ opening_told n h
-  opening-by h n None k = let same = tell_same n h [] k in sym same.opening
-  opening-by h n (Some seat) k = sym k.opening
-
   pub standing_told : (limit : ℕ) (roll : Roll T) (h : List Recorded) (n : ℕ) (o : Option (Seat T)) → o ≡ at_ordinal (slice_get (seats roll)) n
-      → IsKept limit roll h → option_map (λ (s : Seat T). s.standing) o ≡ standing_of n h
+      → IsKept limit roll h → option_map standing_in o ≡ standing_of n h
   standing_told limit roll h n o e k = standing-by h n o (kept-here limit roll h n o k e)
 
-  pub opening_is_told : (limit : ℕ) (roll : Roll T) (h : List Recorded) (n : ℕ) (o : Option (Seat T)) → o ≡ at_ordinal (slice_get (seats roll)) n
-      → IsKept limit roll h → option_map (λ (s : Seat T). s.opening) o ≡ opening_told n h
-  opening_is_told limit roll h n o e k = opening-by h n o (kept-here limit roll h n o k e)
+  -- one that lives has notes
+  noted : (h : List Recorded) (n : ℕ) (seat : Seat T) (s : Standing) → IsSeat h n seat → standing_of n h ≡ Some s → is_live s ≡ true
+      → (notes : Notes) × (notes_in seat ≡ Some notes) × (standing_in seat ≡ s)
+  noted h n seat s kept stands live = by (notes_in seat) refl
+    where
+      same : standing_in seat ≡ s
+      same = same_Some (standing_in seat) s (sym kept.standing ∙ stands)
 
-  pub served_told : (limit number : ℕ) (roll : Roll T) (h : List Recorded) (n : ℕ) (seat : Seat T) (s : Standing)
-      → Some seat ≡ at_ordinal (slice_get (seats roll)) n → IsKept limit roll h → standing_of n h ≡ Some s → s.done ≡ Some number
-      → map served_of seat.told.items ≡ served_in n number h
-  served_told limit number roll h n seat s e k stands done =
+      by : (o : Option Notes) → notes_in seat ≡ o → (notes : Notes) × (notes_in seat ≡ Some notes) × (standing_in seat ≡ s)
+      by None e = absurd (false≢true (sym (ap (λ (x : Option Notes). is_some x) e) ∙ kept.lives ∙ ap is_live same ∙ live))
+      by (Some notes) e = (notes, e, same)
+
+  pub opening_is_told : (limit : ℕ) (roll : Roll T) (h : List Recorded) (n : ℕ) (seat : Seat T) (s : Standing) (o : Option Opening)
+      → Some seat ≡ at_ordinal (slice_get (seats roll)) n → o ≡ option_map (λ (x : Notes). x.opening) (notes_in seat)
+      → IsKept limit roll h → standing_of n h ≡ Some s → is_live s ≡ true → o ≡ opening_told n h
+  opening_is_told limit roll h n seat s o e is k stands live =
       let kept : IsSeat h n seat = kept-here limit roll h n (Some seat) k e in
-      let same : seat.standing ≡ s = cc (kept.standing, stands) in
-      kept.told number (ap (λ (x : Standing). x.done) same ∙ done)
+      let (notes, has, same) = noted h n seat s kept stands live in
+      is ∙ ap (option_map (λ (x : Notes). x.opening)) has ∙ sym (let a = kept.notes notes has in a.opening)
+
+  pub served_told : (limit number : ℕ) (roll : Roll T) (h : List Recorded) (n : ℕ) (seat : Seat T) (s : Standing) (told : List ServedCall)
+      → Some seat ≡ at_ordinal (slice_get (seats roll)) n → IfSome (notes_in seat) (λ (x : Notes). told ≡ x.told.items)
+      → IsKept limit roll h → standing_of n h ≡ Some s → is_live s ≡ true → s.done ≡ Some number
+      → map served_of told ≡ served_in n number h
+  served_told limit number roll h n seat s told e is k stands live done =
+      let kept : IsSeat h n seat = kept-here limit roll h n (Some seat) k e in
+      let (notes, has, same) = noted h n seat s kept stands live in
+      ap (map served_of) (subst (λ (o : Option Notes). IfSome o (λ (x : Notes). told ≡ x.told.items)) has is)
+      ∙ (let a = kept.notes notes has in a.told number (ap (λ (x : Standing). x.done) same ∙ done))
 
   pub served_none : (limit : ℕ) (roll : Roll T) (h : List Recorded) (n : ℕ) (s : Standing)
       → None ≡ at_ordinal (slice_get (seats roll)) n → IsKept limit roll h → standing_of n h ≡ Some s → ⊥

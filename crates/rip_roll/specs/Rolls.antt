@@ -11,7 +11,7 @@ use Rattle.rip_course.specs.Services.{Called, Service, given_by, served_entries}
 use Rattle.rip_course.specs.Stages.{Stage, GoesOn, IsProgress}
 use Rattle.rip_course.specs.declared.sessions.Progress.{Progress}
 use Rattle.rip_roll.specs.Ordinals.{get_at}
-use Rattle.rip_roll.specs.Seats.{IsKeptAt, has_ended, StandsAt}
+use Rattle.rip_roll.specs.Seats.{IsKeptAt, has_ended, Leaves, StandsAt}
 use Rattle.rip_roll.specs.Walks.{all_in, waiting_in, IsWalk, IsResting}
 use Rattle.rip_roll.specs.declared.seat.Advanced.{Advanced}
 use Rattle.rip_roll.specs.declared.roll.Roll.{Roll}
@@ -105,5 +105,7 @@ pub record WentOn (m : Meaning) (meant : Service) (turn moment n : ℕ) (h : Lis
   pub how_far : IsProgress advanced.progress parts
   pub batch : advanced.batch ≡ length next.batches
   pub entries : map recorded_of advanced.entries.items ≡ served_entries turn n parts given
+  pub leaves : Leaves advanced.progress advanced.legacy n (length next.batches)
+      (h ++ advance_entries turn (advance_of n parts given next advanced.progress false))
   pub after : After (h ++ advance_entries turn (advance_of n parts given next advanced.progress false)) (with_stage n next stages)
   pub replies : Replies (called_so_far (h ++ advance_entries turn (advance_of n parts given next advanced.progress false)))

@@ -3,18 +3,19 @@
 //! | what | its definition in `specs/` |
 //! |---|---|
 //! | [`Roll`] | `Rolls.IsKept`, what the history tells of all sessions; `Rolls.IsRollOf`, and each that lives stands at its stage |
-//! | what is kept of a session | `Seats.IsSeat`: its standing, its opening, and the calls that its batches served; `Seats.StandsAt`, its stage |
+//! | what is kept of a session | `Seats.IsSeat`: its standing, and while it lives its opening and the calls that its batches served; `Seats.StandsAt`, its stage |
 //! | the busy sessions | `rip_course`'s `busy_in`; `Walks.waiting_in`, those that a walk over them has not passed |
 //! | [`Roll::named`], [`Roll::was_opened`] | `rip_course`'s `session_named`, `was_opened` |
 //! | [`Roll::room`] | `Rolls.room_in` |
 //! | [`Roll::standing`], [`Roll::opening`], [`Roll::served`] | `rip_course`'s `standing_of`, `opening_told`, `served_in` |
 //! | [`Roll::open`], [`Roll::admit`], [`Roll::close`] | the roll of one entry more, and of the stages after that decision (`rip_course`'s `decided_stages`); want of memory leaves all |
-//! | [`Roll::next_busy`], [`Roll::advance`], [`Roll::end_walk`] | `Rolls.WentOn`, as the machine of `rip_course` advances the session |
+//! | [`Roll::next_busy`], [`Roll::advance`], [`Roll::end_walk`] | `Rolls.WentOn`, as the machine of `rip_course` advances the session; `Seats.Leaves`, what one leaves that its batch ended |
 //!
-//! A layer above may rest on this: a session is found by its identifier and by its ordinal; one that ends gives up what it
-//! ran in, and its standing stays. An admission takes time in proportion to the busy sessions, an opening and an answer
-//! none that grows with the sessions, but for the copy when a list grows, and a walk the time of the busy sessions alone.
-//! To go on with a session takes no memory of the roll, so nothing fails there.
+//! A layer above may rest on this: a session is found by its identifier and by its ordinal; one that ends gives up all that
+//! it had, and its last number and the reason stay: 24 bytes, beside its entry in the table. An admission takes time in
+//! proportion to the busy sessions, an opening and an answer none that grows with the sessions, but for the copy when a list
+//! grows, and a walk the time of the busy sessions alone. To go on with a session takes no memory of the roll, so nothing
+//! fails there.
 #![tactic(auto)]
 
 mod busy;
@@ -22,4 +23,4 @@ mod roll;
 mod seat;
 
 pub use roll::{Roll, Room};
-pub use seat::Advanced;
+pub use seat::{Advanced, Legacy};

@@ -9,7 +9,7 @@ ghost use Rattle.rip_course.specs.Requests.{identifiers_in, session_named, was_o
 ghost use Rattle.rip_course.specs.Run.{busy_in, called_so_far, stage_of, with_batch_at};
 ghost use Rattle.rip_course.specs.Services.{Called, Service as Meant};
 ghost use Rattle.rip_course.specs.Stages.{Stage, begun, with_batch, is_done, MayAdmit};
-ghost use Rattle.rip_course.specs.Standings.{standing_of};
+ghost use Rattle.rip_course.specs.Standings.{standing_of, is_live};
 ghost use Rattle.rip_course.specs.declared.decision.BatchDecision.TheVariants.{Admit};
 ghost use Rattle.rip_course.specs.declared.decision.CloseDecision.TheVariants.{Close};
 ghost use Rattle.rip_course.specs.declared.standing.Standing.{Standing as Stood};
@@ -97,30 +97,31 @@ impl<T: Drop> Roll<T> {
             → result ≡ standing_of session h }
     {
         match self.table.any_at(session) {
-            Some(seat) => Some(seat.standing),
+            Some(seat) => Some(seat.standing()),
             None => None,
         }
     }
 
-    /// The opening of the session of an ordinal, if it was opened.
+    /// The opening of a session that lives. One that has ended gave it up.
     pub fn opening(&self, session: u32) -> Option<Opening>
-        ensures { (limit : ℕ) (h : List Recorded) → IsKept limit self.now h
+        ensures { (limit : ℕ) (h : List Recorded) (s : Stood) → IsKept limit self.now h
+            → standing_of session h ≡ Some s → is_live s ≡ true
             → result ≡ opening_told session h }
     {
         match self.table.any_at(session) {
-            Some(seat) => Some(seat.opening),
+            Some(seat) => seat.opening(),
             None => None,
         }
     }
 
-    /// The calls that the last batch of a session that was done served.
+    /// The calls that the last batch of a session that lives served. One that has ended gave them up.
     pub fn served(&self, session: u32) -> &[ServedCall]
         ensures { (limit number : ℕ) (h : List Recorded) (s : Stood) → IsKept limit self.now h
-            → standing_of session h ≡ Some s → s.done ≡ Some number
+            → standing_of session h ≡ Some s → is_live s ≡ true → s.done ≡ Some number
             → map served_of result.now ≡ served_in session number h }
     {
         match self.table.any_at(session) {
-            Some(seat) => seat.told.as_slice(),
+            Some(seat) => seat.told(),
             None => &[],
         }
     }
@@ -250,10 +251,10 @@ impl<T: Drop> Roll<T> {
         ensures limit { self.new.limit ≡ self.old.limit }
         ensures admitted { (st : Stage) (seat : Kept T)
             → at_ordinal (live_value self.old.table) session ≡ Some seat
-            → IsThere (S.stands sessions.now) seat.session st
+            → IsThere (S.stands sessions.now) seat st
             → MayAdmit (S.meaning sessions.now) st (contents_of batch)
             → OnOk result ((new : Kept T) × IsAdmitted batch.number seat new
-            × IsThere (S.stands sessions.now) new.session (with_batch (contents_of batch) st)
+            × IsThere (S.stands sessions.now) new (with_batch (contents_of batch) st)
             × IsChanged session self.old.table self.new.table new false) }
         ensures same { OnErr result (IsSame self.old.table self.new.table) }
         ensures back { IfErr result (λ b. b ≡ batch) }
@@ -337,7 +338,7 @@ impl<T: Drop> Roll<T> {
         ensures limit { self.new.limit ≡ self.old.limit }
         ensures advanced { (st : Stage) (meant : Meant) (calls : List Called) (seat : Kept T)
             → at_ordinal (live_value self.old.table) slice.now.session ≡ Some seat
-            → IsThere (S.stands sessions.now) seat.session st
+            → IsThere (S.stands sessions.now) seat st
             → is_done (S.meaning sessions.now) st ≡ false → V.replies_as service.old meant calls
             → (new : Kept T)
             × SliceOf (S.meaning sessions.now) st meant calls slice.now seat new result

@@ -1,32 +1,55 @@
-ghost use Rattle.std.specs.Prelude.{◌≡◌, ◌<◌, ◌^◌, ℕ, List, [], map, false, IfOk, IfErr, OnOk, OnErr, option_map};
-ghost use Rattle.rip_wire.specs.Answers.{served_of};
+ghost use Rattle.std.specs.Prelude.{◌≡◌, ◌<◌, ◌^◌, List, [], false, IfOk, IfErr, IfSome, OnOk, OnErr, option_map};
 ghost use Rattle.rip_wire.specs.Batches.{contents_of, IsBatch};
-ghost use Rattle.rip_wire.specs.Reasons.{reason_of};
 ghost use Rattle.rip_course.specs.Services.{Called, Service as Meant};
-ghost use Rattle.rip_course.specs.Stages.{Stage, begun, with_batch, is_done, MayAdmit, Resumed};
-ghost use Rattle.rip_course.specs.Standings.{when_done};
-ghost use Rattle.rip_roll.specs.Seats.{IsThere, IsOpened, IsAdmitted, IsClosed, IsSettled, SliceOf, ends_session, is_unfinished};
+ghost use Rattle.rip_course.specs.Stages.{Stage, begun, with_batch, is_done, MayAdmit};
+ghost use Rattle.rip_roll.specs.Seats.{standing_in, notes_in, opening_of, IsThere, IsOpened, IsAdmitted, HasBatch, IsClosed, IsSettled, IsGivenUp, LivingSlice, SeatSlice, SliceOf, ends_session, is_unfinished};
+ghost use Rattle.rip_roll.specs.declared.seat.Notes.{Notes as Noted};
 
 use rip_course::{Made, Progress, Service, Sessions, Slice, Standing};
 use rip_http::Opening;
 use rip_log::Entry;
 use rip_values::NoMemory;
-use rip_wire::{Batch, Ending, ServedCall};
+use rip_wire::{Batch, Ending, Reason, ServedCall};
 use std::alloc::Global;
 use std::mem;
 use uuid::Uuid;
 
-/// What is kept of a session, live or ended.
+/// What is kept of a session.
 #[derive(Drop)]
-pub struct Seat<T> {
-    /// There is none once the session has ended. It stands apart, so that a seat takes little room.
-    pub session: Option<Box<T>>,
+pub enum Seat<T> {
+    /// It lives. What it has stands apart, so that a seat takes little room.
+    Live(Box<Living<T>>),
+    /// It has ended: the number of its last batch, and why.
+    Ended { last: u64, reason: Reason },
+}
+
+// A seat takes so many bytes, whatever runs in it.
+const _: () = prove!(size_of::<Seat<Notes>>() == 24);
+
+/// What a session has that lives.
+#[derive(Drop)]
+pub struct Living<T> {
+    pub session: T,
     pub standing: Standing,
+    pub notes: Notes,
+}
+
+/// How a session was opened, and what its batches served.
+#[derive(Drop)]
+pub struct Notes {
     pub opening: Opening,
     /// The calls that the last batch that was done served.
     pub told: Vec<ServedCall>,
     /// The calls that the batch that is not done served so far.
     pub making: Vec<ServedCall>,
+}
+
+/// What a session that its batch ended leaves for the answer to that.
+#[derive(Drop)]
+pub struct Legacy {
+    pub opening: Opening,
+    /// The calls that the batch served.
+    pub told: Vec<ServedCall>,
 }
 
 /// What a busy session did in a slice.
@@ -38,6 +61,63 @@ pub struct Advanced {
     pub entries: Vec<Entry>,
     /// Whether its batch is done.
     pub progress: Progress,
+    /// What it leaves, if its batch ended it.
+    pub legacy: Option<Legacy>,
+}
+
+impl<T: Drop> Seat<T> {
+    /// How the session stands.
+    pub fn standing(&self) -> Standing
+        ensures { result ≡ standing_in self.now }
+    {
+        match self {
+            Seat::Live(living) => living.standing,
+            Seat::Ended { last, reason } => Standing {
+                last: *last,
+                done: Some(*last),
+                ended: Some(*reason),
+            },
+        }
+    }
+
+    /// The opening of a session that lives.
+    pub fn opening(&self) -> Option<Opening>
+        ensures { result ≡ option_map (λ (n : Noted). n.opening) (notes_in self.now) }
+    {
+        match self {
+            Seat::Live(living) => Some(living.notes.opening),
+            Seat::Ended { .. } => None,
+        }
+    }
+
+    /// The calls that the last batch of a session that lives served.
+    pub fn told(&self) -> &[ServedCall]
+        ensures { IfSome (notes_in self.now) (λ notes. result.now ≡ notes.told.items) }
+    {
+        match self {
+            Seat::Live(living) => living.notes.told.as_slice(),
+            Seat::Ended { .. } => &[],
+        }
+    }
+}
+
+impl Notes {
+    /// Of a session that is opened: no call yet.
+    fn first(alloc: Global, id: u128, seed: u32, time: u64) -> Notes
+        ensures opening { result.opening ≡ opening_of id seed time }
+        ensures told { result.told.items ≡ [] }
+        ensures making { result.making.items ≡ [] }
+    {
+        Notes {
+            opening: Opening {
+                id: Uuid::from_u128(id),
+                seed,
+                time,
+            },
+            told: Vec::new(alloc),
+            making: Vec::new(alloc),
+        }
+    }
 }
 
 impl Advanced {
@@ -47,6 +127,7 @@ impl Advanced {
             batch: 0,
             entries: Vec::new(alloc),
             progress: Progress::Busy,
+            legacy: None,
         }
     }
 
@@ -76,20 +157,15 @@ pub fn open<S: Sessions>(
     requires { time < 2 ^ 53 }
     ensures opened { IfOk result (IsOpened id seed time) }
     ensures stands { IfOk result
-        (λ seat. IsThere (S.stands sessions.now) seat.session (begun seed time)) }
+        (λ seat. IsThere (S.stands sessions.now) seat (begun seed time)) }
 {
     let session = sessions.begin(alloc, seed, time)?;
-    Ok(Seat {
-        session: Some(Box::new(alloc, session)?),
+    let living = Living {
+        session,
         standing: Standing::opened(),
-        opening: Opening {
-            id: Uuid::from_u128(id),
-            seed,
-            time,
-        },
-        told: Vec::new(alloc),
-        making: Vec::new(alloc),
-    })
+        notes: Notes::first(alloc, id, seed, time),
+    };
+    Ok(Seat::Live(Box::new(alloc, living)?))
 }
 
 /// Admits a batch. It is handed back for want of memory, and then the session is as before.
@@ -101,48 +177,52 @@ pub fn admit<S: Sessions>(
 ) -> Result<(), Batch>
     requires { IsBatch (contents_of batch) }
     ensures admitted { OnOk result (IsAdmitted batch.number seat.old seat.new) }
-    ensures stands { (st : Stage) → IsThere (S.stands sessions.now) seat.old.session st
+    ensures stands { (st : Stage) → IsThere (S.stands sessions.now) seat.old st
         → MayAdmit (S.meaning sessions.now) st (contents_of batch)
         → OnOk result
-        (IsThere (S.stands sessions.now) seat.new.session (with_batch (contents_of batch) st)) }
+        (IsThere (S.stands sessions.now) seat.new (with_batch (contents_of batch) st)) }
     ensures memory { OnErr result (seat.new ≡ seat.old) }
     ensures back { IfErr result (λ b. b ≡ batch) }
 {
-    let number = batch.number;
-    admit_to(alloc, sessions, &mut seat.session, batch)?;
-    seat.standing = seat.standing.admit(number);
-    Ok(())
+    match seat {
+        Seat::Live(living) => admit_to(alloc, sessions, living, batch),
+        Seat::Ended { .. } => Err(batch),
+    }
 }
 
 fn admit_to<S: Sessions>(
     alloc: Global,
     sessions: &S,
-    session: &mut Option<Box<S::Session>>,
+    living: &mut Living<S::Session>,
     batch: Batch,
 ) -> Result<(), Batch>
     requires { IsBatch (contents_of batch) }
-    ensures stands { (st : Stage) → IsThere (S.stands sessions.now) session.old st
+    ensures admitted { OnOk result (HasBatch batch.number living.old living.new) }
+    ensures stands { (st : Stage) → S.stands sessions.now living.old.session st
         → MayAdmit (S.meaning sessions.now) st (contents_of batch)
         → OnOk result
-        (IsThere (S.stands sessions.now) session.new (with_batch (contents_of batch) st)) }
-    ensures memory { OnErr result (session.new ≡ session.old) }
+        (S.stands sessions.now living.new.session (with_batch (contents_of batch) st)) }
+    ensures memory { OnErr result (living.new ≡ living.old) }
     ensures back { IfErr result (λ b. b ≡ batch) }
 {
-    match session {
-        Some(session) => sessions.admit(alloc, session, batch),
-        None => Err(batch),
-    }
+    let number = batch.number;
+    sessions.admit(alloc, &mut living.session, batch)?;
+    living.standing = living.standing.admit(number);
+    Ok(())
 }
 
 /// Ends the session for its client.
 pub fn close<T: Drop>(seat: &mut Seat<T>)
     ensures { IsClosed seat.old seat.new }
 {
-    seat.session = None;
-    seat.standing = seat.standing.close();
+    let last = seat.standing().last;
+    *seat = Seat::Ended {
+        last,
+        reason: Reason::Closed,
+    };
 }
 
-/// Goes on with a busy session for a slice.
+/// Goes on with a busy session for a slice. If its batch ends it, what it has is given up.
 pub fn advance<S: Sessions, V: Service>(
     alloc: Global,
     sessions: &S,
@@ -152,30 +232,14 @@ pub fn advance<S: Sessions, V: Service>(
 ) -> Advanced
     requires { slice.now.time < 2 ^ 53 }
     ensures { (st : Stage) (meant : Meant) (calls : List Called)
-        → IsThere (S.stands sessions.now) seat.old.session st
+        → IsThere (S.stands sessions.now) seat.old st
         → is_done (S.meaning sessions.now) st ≡ false → V.replies_as service.old meant calls
         → SliceOf (S.meaning sessions.now) st meant calls slice.now seat.old seat.new result
         (S.stands sessions.now) (V.replies_as service.new meant) }
 {
-    let mut made = Made {
-        entries: Vec::new(alloc),
-        served: mem::replace(&mut seat.making, Vec::new(alloc)),
-    };
-    let progress = resume(
-        alloc,
-        sessions,
-        service,
-        slice,
-        &mut seat.session,
-        &mut made,
-    );
-    let batch = seat.standing.last;
-    settle(seat, &progress, made.served);
-    Advanced {
-        batch,
-        entries: made.entries,
-        progress,
-    }
+    let advanced = resume(alloc, sessions, service, slice, seat);
+    give_up(seat, &advanced);
+    advanced
 }
 
 fn resume<S: Sessions, V: Service>(
@@ -183,42 +247,97 @@ fn resume<S: Sessions, V: Service>(
     sessions: &S,
     service: &mut V,
     slice: &Slice,
-    session: &mut Option<Box<S::Session>>,
-    made: &mut Made,
-) -> Progress
+    seat: &mut Seat<S::Session>,
+) -> Advanced
     requires { slice.now.time < 2 ^ 53 }
     ensures { (st : Stage) (meant : Meant) (calls : List Called)
-        → IsThere (S.stands sessions.now) session.old st
+        → IsThere (S.stands sessions.now) seat.old st
         → is_done (S.meaning sessions.now) st ≡ false → V.replies_as service.old meant calls
-        → Resumed (S.meaning sessions.now) st meant calls slice.now made.old made.new result
-        (IsThere (S.stands sessions.now) session.new) (V.replies_as service.new meant) }
+        → SeatSlice (S.meaning sessions.now) st meant calls slice.now seat.old seat.new result
+        (S.stands sessions.now) (V.replies_as service.new meant) }
 {
-    match session {
-        Some(session) => sessions.resume(alloc, session, service, slice, made),
-        None => Progress::Busy,
+    match seat {
+        Seat::Live(living) => go_on(alloc, sessions, service, slice, living),
+        Seat::Ended { .. } => Advanced::none(alloc),
     }
 }
 
-/// Keeps what the batch served: it is not done, or it is, and may have ended the session.
-fn settle<T: Drop>(seat: &mut Seat<T>, progress: &Progress, served: Vec<ServedCall>)
-    ensures { IsSettled progress.now served.items seat.old seat.new }
+/// A session that its batch ended is given up.
+fn give_up<T: Drop>(seat: &mut Seat<T>, advanced: &Advanced)
+    ensures { IsGivenUp advanced.now.progress advanced.now.batch seat.old seat.new }
+{
+    if let Progress::Finished(Some(how)) = &advanced.progress {
+        *seat = Seat::Ended {
+            last: advanced.batch,
+            reason: how.reason(),
+        };
+    }
+}
+
+/// Goes on with a session that is busy.
+fn go_on<S: Sessions, V: Service>(
+    alloc: Global,
+    sessions: &S,
+    service: &mut V,
+    slice: &Slice,
+    living: &mut Living<S::Session>,
+) -> Advanced
+    requires { slice.now.time < 2 ^ 53 }
+    ensures { (st : Stage) (meant : Meant) (calls : List Called)
+        → S.stands sessions.now living.old.session st
+        → is_done (S.meaning sessions.now) st ≡ false → V.replies_as service.old meant calls
+        → LivingSlice (S.meaning sessions.now) st meant calls slice.now living.old living.new result
+        (S.stands sessions.now) (V.replies_as service.new meant) }
+{
+    let mut made = Made {
+        entries: Vec::new(alloc),
+        served: mem::replace(&mut living.notes.making, Vec::new(alloc)),
+    };
+    let progress = sessions.resume(alloc, &mut living.session, service, slice, &mut made);
+    let batch = living.standing.last;
+    let legacy = settle(living, &progress, made.served);
+    Advanced {
+        batch,
+        entries: made.entries,
+        progress,
+        legacy,
+    }
+}
+
+/// Keeps what the batch served: it is not done, or it is. If it ended the session, that is handed on.
+fn settle<T: Drop>(
+    living: &mut Living<T>,
+    progress: &Progress,
+    served: Vec<ServedCall>,
+) -> Option<Legacy>
+    ensures { IsSettled progress.now served.items living.old living.new result }
 {
     match progress {
-        Progress::Busy => seat.making = served,
-        Progress::Finished(how) => finish(seat, how, served),
+        Progress::Busy => {
+            living.notes.making = served;
+            None
+        }
+        Progress::Finished(how) => finish(living, how, served),
     }
 }
 
 /// The batch is done so, and served these calls.
-fn finish<T: Drop>(seat: &mut Seat<T>, how: &Option<Ending>, served: Vec<ServedCall>)
-    ensures { IsSettled (Progress.Finished how.now) served.items seat.old seat.new }
+fn finish<T: Drop>(
+    living: &mut Living<T>,
+    how: &Option<Ending>,
+    served: Vec<ServedCall>,
+) -> Option<Legacy>
+    ensures { IsSettled (Progress.Finished how.now) served.items living.old living.new result }
 {
-    seat.told = served;
-    if how.is_some() {
-        seat.session = None;
+    match how {
+        None => {
+            living.notes.told = served;
+            living.standing = living.standing.finish(living.standing.last, None);
+            None
+        }
+        Some(_) => Some(Legacy {
+            opening: living.notes.opening,
+            told: served,
+        }),
     }
-    let number = seat.standing.last;
-    seat.standing = seat
-        .standing
-        .finish(number, how.as_ref().map(Ending::reason));
 }

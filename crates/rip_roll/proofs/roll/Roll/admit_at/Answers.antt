@@ -20,7 +20,7 @@ returns-in-Some-clause-admitted g c = λ st seat live there may.
       put_changed c.args.session c.args.self.now.table c.admit.new.seat,
     ))
     c.admit.ensures.admitted
-    (c.admit.ensures.stands st (subst (λ (x : Seat g.row.T.Denot). IsThere stands x.session st) (sym same) there) may)
+    (c.admit.ensures.stands st (subst (λ (x : Seat g.row.T.Denot). IsThere stands x st) (sym same) there) may)
 
 pub returns-in-Some-clause-same : goal.returns-in-Some-clause-same
 returns-in-Some-clause-same g c =

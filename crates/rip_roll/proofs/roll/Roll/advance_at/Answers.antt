@@ -15,7 +15,7 @@ returns-then-has_ended-clause-advanced g c = λ st meant calls seat live there u
     let a = c.advance-advanced in (
       a.new.seat,
       subst (λ (x : Seat g.row.T.Denot). SliceOf (g.S.Sessions.meaning c.args.sessions.now) st meant calls c.args.slice.now x a.new.seat a.result stands (g.V.Service.replies_as a.new.service meant)) same
-          (a.ensures st meant calls (subst (λ (x : Seat g.row.T.Denot). IsThere stands x.session st) (sym same) there) undone replied),
+          (a.ensures st meant calls (subst (λ (x : Seat g.row.T.Denot). IsThere stands x st) (sym same) there) undone replied),
       subst (λ (b : Bool). IsChanged c.args.slice.now.session c.args.self.now.table c.end_at.new.self a.new.seat b) (sym c.if-has_ended.true ∙ c.has_ended.ensures)
           (end_changed c.args.slice.now.session c.args.self.now.table c.end_at.new.self a.new.seat c.end_at.ensures.ends),
     )
@@ -28,7 +28,7 @@ returns-else-has_ended-clause-advanced g c = λ st meant calls seat live there u
     let a = c.advance-advanced in (
       a.new.seat,
       subst (λ (x : Seat g.row.T.Denot). SliceOf (g.S.Sessions.meaning c.args.sessions.now) st meant calls c.args.slice.now x a.new.seat a.result stands (g.V.Service.replies_as a.new.service meant)) same
-          (a.ensures st meant calls (subst (λ (x : Seat g.row.T.Denot). IsThere stands x.session st) (sym same) there) undone replied),
+          (a.ensures st meant calls (subst (λ (x : Seat g.row.T.Denot). IsThere stands x st) (sym same) there) undone replied),
       subst (λ (b : Bool). IsChanged c.args.slice.now.session c.args.self.now.table (with_value c.args.self.now.table (c.args.slice.now.session - 1) a.new.seat) a.new.seat b) (sym c.if-has_ended.false ∙ c.has_ended.ensures)
           (put_changed c.args.slice.now.session c.args.self.now.table a.new.seat),
     )
