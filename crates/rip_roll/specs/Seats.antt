@@ -29,6 +29,7 @@ use Rattle.rip_roll.specs.declared.seat.Seat.TheVariants.{Live, Ended}
 abbrev pub Held : Type 0 → Type 0
 Held T = Box (Living T) Global
 
+-- the opening of this identifier, seed and time
 abbrev pub opening_of : ℕ → ℕ → ℕ → Opening
 opening_of id seed time = record { id = to_be_bytes w128 id; seed = seed; time = time }
 
@@ -117,6 +118,7 @@ module _ {T : Type 0} where
     pub standing : new.standing ≡ when_admitted number old.standing
     pub notes : new.notes ≡ old.notes
 
+  -- the same of its seat
   pub record IsAdmitted (number : ℕ) (old new : Seat T) : Type 0 where
     pub standing : standing_in new ≡ when_admitted number (standing_in old)
     pub notes : notes_in new ≡ notes_in old

@@ -79,12 +79,22 @@ both_true : (a b : Bool) → (a && b) ≡ true → b ≡ true
 both_true true b e = e
 both_true false b e = absurd (let f : false ≡ true = e in cc)
 
-pub repeats_done : (s : Standing) (number : ℕ) → again.Repeat ≡ batch_decision s number → s.done ≡ Some number
-repeats_done s number e = by (is_live s && has_done s.done number) refl
+first_true : (a b : Bool) → (a && b) ≡ true → a ≡ true
+first_true true b e = refl
+first_true false b e = e
+
+repeats : (s : Standing) (number : ℕ) → again.Repeat ≡ batch_decision s number → (is_live s && has_done s.done number) ≡ true
+repeats s number e = by (is_live s && has_done s.done number) refl
   where
-    by : (b : Bool) → (is_live s && has_done s.done number) ≡ b → s.done ≡ Some number
-    by true same = was_done s.done number (both_true (is_live s) (has_done s.done number) same)
+    by : (b : Bool) → (is_live s && has_done s.done number) ≡ b → (is_live s && has_done s.done number) ≡ true
+    by true same = same
     by false same =
         absurd (never_again (is_live s) (is_busy s) (nat_lt number s.last) (nat_lt 1 (number - s.last))
         (e ∙ ap (λ (b : Bool). if b then again.Repeat else if not (is_live s) then again.Gone else if is_busy s then again.Busy else if nat_lt number s.last then again.Old
         else if nat_lt 1 (number - s.last) then again.Gap else again.Admit) same))
+
+pub repeats_done : (s : Standing) (number : ℕ) → again.Repeat ≡ batch_decision s number → s.done ≡ Some number
+repeats_done s number e = was_done s.done number (both_true (is_live s) (has_done s.done number) (repeats s number e))
+
+pub repeats_live : (s : Standing) (number : ℕ) → again.Repeat ≡ batch_decision s number → is_live s ≡ true
+repeats_live s number e = first_true (is_live s) (has_done s.done number) (repeats s number e)

@@ -5,6 +5,7 @@ pub mod DecidedLemmas
 pub mod FrontLemmas
 pub mod HandleLemmas
 pub mod KnockLemmas
+pub mod LegacyLemmas
 pub mod LoopLemmas
 pub mod MessageLemmas
 pub mod PlaceLemmas

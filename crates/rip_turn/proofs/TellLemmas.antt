@@ -22,9 +22,10 @@ use Rattle.rip_course.specs.declared.standing.Standing.{Standing}
 use Rattle.rip_course.proofs.StandingLemmas.{standings_follow}
 use Rattle.rip_roll.specs.Ordinals.{get_at}
 use Rattle.rip_roll.specs.Rolls.{IsKept, IsRollOf, IsAtStage, WentOn, advance_of, seats}
-use Rattle.rip_roll.specs.Seats.{IsKeptAt}
+use Rattle.rip_roll.specs.Seats.{standing_in, IsKeptAt, Leaves}
 use Rattle.rip_roll.specs.declared.roll.Roll.{Roll}
 use Rattle.rip_roll.specs.declared.seat.Advanced.{Advanced}
+use Rattle.rip_roll.specs.declared.seat.Legacy.{Legacy}
 use Rattle.rip_roll.specs.declared.seat.Seat.{Seat}
 use Rattle.rip_server.specs.Acts.{Seen, Acted, Did, Stopped}
 use Rattle.rip_server.specs.Links.{answered_with, links_of, there_of}
@@ -33,7 +34,7 @@ use Rattle.rip_server.specs.declared.connections.Connections.{Connections}
 use Rattle.rip_server.specs.declared.halt.Halt.{Halt}
 use Rattle.rip_server.specs.declared.send.Reached.{Reached}
 use Rattle.rip_server.proofs.ActLemmas.{stopped_more}
-use Rattle.rip_turn.specs.Advancing.{Answered, IsDoneIn, Told, AdvancedOne}
+use Rattle.rip_turn.specs.Advancing.{Answered, IsDoneIn, IsDoneSo, Told, AdvancedOne}
 use Rattle.rip_turn.specs.Handling.{state_of, AreAt}
 use Rattle.rip_turn.specs.Turning.{site_of}
 use Rattle.rip_turn.proofs.SeenLemmas.{acted_held, acted_then, acted_as, did_put, put_stopped}
@@ -41,7 +42,7 @@ use Rattle.rip_turn.proofs.SeenLemmas.{acted_held, acted_then, acted_as, did_put
 -- ---- a batch that is done is told by the history
 
 done_last : (n number turn : ℕ) (how : Option Ending) (h : List Recorded) (s : Standing) → standing_of n (h ++ done turn n number how ∷ []) ≡ Some s
-    → s.done ≡ Some number
+    → (s.done ≡ Some number) × (s.ended ≡ option_map reason_of how)
 done_last n number turn how h s e = by (standing_of n h) (sym last ∙ e)
   where
     before : Option Standing
@@ -51,11 +52,12 @@ done_last n number turn how h s e = by (standing_of n h) (sym last ∙ e)
     last = standings_follow n h (done turn n number how)
         ∙ ap (λ (b : Bool). cond b (option_map (when_done number (option_map reason_of how)) before) before) (eq-eqb n n refl)
 
-    by : (o : Option Standing) → option_map (when_done number (option_map reason_of how)) o ≡ Some s → s.done ≡ Some number
+    by : (o : Option Standing) → option_map (when_done number (option_map reason_of how)) o ≡ Some s
+        → (s.done ≡ Some number) × (s.ended ≡ option_map reason_of how)
     by None e = cc
     by (Some x) e =
         let same : when_done number (option_map reason_of how) x ≡ s = cc in
-        sym (ap (λ (y : Standing). y.done) same)
+        (sym (ap (λ (y : Standing). y.done) same), sym (ap (λ (y : Standing). y.ended) same))
 
 stage-set : (n : ℕ) (stages : List Stage) (st x : Stage) → stage_of n stages ≡ Some st → stage_of n (with_stage n x stages) ≡ Some x
 stage-set zero stages st x e = cc
@@ -71,15 +73,17 @@ module _ {T : Type 0} where
     where
       by : (o : Option (Seat T)) → IsKeptAt h n o → IsAtStage stands m o (stage_of n stages) → (s : Standing) × (standing_of n h ≡ Some s)
       by None kept none = let both : None ≡ Some st = sym none ∙ at in cc
-      by (Some seat) kept there = (seat.standing, kept.standing)
+      by (Some seat) kept there = (standing_in seat, kept.standing)
 
   pub done_in : (stands : T → Stage → Type 0) (m : Meaning) (limit n number turn : ℕ) (roll : Roll T) (h es : List Recorded) (stages : List Stage) (st : Stage)
-      (progress : Progress) → IsRollOf stands m limit roll (h ++ (es ++ done_entries turn n number progress)) stages → stage_of n stages ≡ Some st
-      → IsDoneIn progress n number (h ++ (es ++ done_entries turn n number progress))
-  done_in stands m limit n number turn roll h es stages st Busy is at = tt
-  done_in stands m limit n number turn roll h es stages st (Finished how) is at =
+      (progress : Progress) (legacy : Option Legacy) → IsRollOf stands m limit roll (h ++ (es ++ done_entries turn n number progress)) stages
+      → stage_of n stages ≡ Some st → Leaves progress legacy n number (h ++ (es ++ done_entries turn n number progress))
+      → IsDoneIn progress legacy n number (h ++ (es ++ done_entries turn n number progress))
+  done_in stands m limit n number turn roll h es stages st Busy legacy is at leaves = tt
+  done_in stands m limit n number turn roll h es stages st (Finished how) legacy is at leaves =
       let (s, e) = there_is stands m limit n roll (h ++ (es ++ done turn n number how ∷ [])) stages st is at in
-      (s, e, done_last n number turn how (h ++ es) s (ap (standing_of n) (append_assoc h es (done turn n number how ∷ [])) ∙ e))
+      let told = done_last n number turn how (h ++ es) s (ap (standing_of n) (append_assoc h es (done turn n number how ∷ [])) ∙ e) in
+      record { standing = s; stands = e; done = told.0; ended = told.1; leaves = leaves }
 
 -- ---- a batch that is done is answered
 
@@ -215,15 +219,14 @@ told_idle site turn n number es progress h there a held e put =
     subst (λ (p : Progress). Told site turn n number es p h (Ok tt) there there a (record a { held = held })) (sym e)
     (told_busy site turn n number es h (Ok tt) there there a held refl refl put)
 
-pub told_finished : (site : Site) (turn n number : ℕ) (es : List Recorded) (progress : Progress) (how : Option Ending) (h : List Recorded)
-    (r : Result (Unit {0}) Halt) (there now : List Link) (a c : Seen) (held : Option (List ℕ)) → progress ≡ Finished how → IsDoneIn progress n number h
-    → held ≡ also (history_text es) a.held
-    → ((s : Standing) → standing_of n h ≡ Some s → s.done ≡ Some number → Answered site turn n number how h r there now (record a { held = held }) c)
+pub told_finished : (site : Site) (turn n number : ℕ) (es : List Recorded) (progress : Progress) (how : Option Ending) (legacy : Option Legacy)
+    (h : List Recorded) (r : Result (Unit {0}) Halt) (there now : List Link) (a c : Seen) (held : Option (List ℕ)) → progress ≡ Finished how
+    → IsDoneIn progress legacy n number h → held ≡ also (history_text es) a.held
+    → (IsDoneSo how legacy n number h → Answered site turn n number how h r there now (record a { held = held }) c)
     → Told site turn n number es progress h r there now a c
-told_finished site turn n number es progress how h r there now a c held e ends put answered =
-    let told : IsDoneIn (Finished how) n number h = subst (λ (p : Progress). IsDoneIn p n number h) e ends in
+told_finished site turn n number es progress how legacy h r there now a c held e ends put answered =
     subst (λ (p : Progress). Told site turn n number es p h r there now a c) (sym e)
-    (told_done site turn n number es how h r there now a c held put (answered told.0 told.1 told.2))
+    (told_done site turn n number es how h r there now a c held put (answered (subst (λ (p : Progress). IsDoneIn p legacy n number h) e ends)))
 
 -- ---- a session went on
 
@@ -286,7 +289,7 @@ pub stepped : {T : Type 0} (stands : T → Stage → Type 0) (m : Meaning) (mean
     (before connections : Connections) (roll : Roll T) (h : List Recorded) (stages : List Stage) (advanced : Advanced)
     (Replies : List Called → Type 0) (r : Result (Unit {0}) Halt) (old new : Seen) → connections.opened ≡ before.opened
     → WentOn m meant turn time n h stages advanced (IsRollOf stands m limit roll) Replies
-    → ((site : Site) (bound : ℕ) (g es : List Recorded) → site.page ≡ page → IsKept bound roll g → IsDoneIn advanced.progress n advanced.batch g
+    → ((site : Site) (bound : ℕ) (g es : List Recorded) → site.page ≡ page → IsKept bound roll g → IsDoneIn advanced.progress advanced.legacy n advanced.batch g
     → map recorded_of advanced.entries.items ≡ es
     → Told site turn n advanced.batch es advanced.progress g r (there_of before.list.items) (there_of connections.list.items) old new)
     → AdvancedOne (site_of m meant limit page) turn time n (state_of (links_of before) h stages) r
@@ -295,10 +298,10 @@ stepped stands m meant limit page turn time n before connections roll h stages a
     let site = site_of m meant limit page in
     let es = served_entries turn n went.parts went.given in
     let next_h = h ++ advance_entries turn (advance_of n went.parts went.given went.next advanced.progress false) in
-    let done : IsDoneIn advanced.progress n advanced.batch next_h =
-    subst (λ (k : ℕ). IsDoneIn advanced.progress n k next_h) (sym went.batch)
-    (done_in stands m limit n (length went.next.batches) turn roll h es (with_stage n went.next stages) went.next advanced.progress went.after
-    (stage-set n stages went.stage went.next went.stands)) in
+    let done : IsDoneIn advanced.progress advanced.legacy n advanced.batch next_h =
+    subst (λ (k : ℕ). IsDoneIn advanced.progress advanced.legacy n k next_h) (sym went.batch)
+    (done_in stands m limit n (length went.next.batches) turn roll h es (with_stage n went.next stages) went.next advanced.progress advanced.legacy went.after
+    (stage-set n stages went.stage went.next went.stands) went.leaves) in
     advanced-map site turn time n (state_of (links_of before) h stages) r _ _ old new
     (λ s p. (record { links = same-links connections s.connections p.0 (p.1 ∙ sym opened); roll_is = p.2 }, p.3))
     (advanced_so m meant limit page turn time n (links_of before) h stages advanced (IsRollOf stands m limit roll) Replies r

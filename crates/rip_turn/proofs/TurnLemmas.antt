@@ -1,5 +1,5 @@
 -- A turn is its knock, the requests that are handled behind it, and then the busy sessions.
-use Rattle.std.proofs.Common.{◌≡◌, inl, inr, ◌⊎◌, ℕ, Bool, List, [], ◌∷◌, ◌++◌, Option, None, refl, sym, ap, subst, ◌∙◌, append-nil}
+use Rattle.std.proofs.Common.{◌≡◌, inl, inr, ◌⊎◌, ℕ, ◌<◌, ◌^◌, Bool, List, [], ◌∷◌, ◌++◌, Option, None, refl, sym, ap, subst, ◌∙◌, arith, append-nil}
 use Rattle.std.specs.Prelude.{Ok, Err}
 use Rattle.rip_log.specs.Entries.{Recorded, opened, admitted, served, done, closed, ended}
 use Rattle.rip_outer.specs.declared.connections.TraceKnock.{TraceKnock}
@@ -63,6 +63,7 @@ stops_at_knock site turn s old new (inl fails) clock words =
       moments = [];
       at = inl refl;
       moment = clock;
+      timely = omega arith;
       words = words;
     }
 stops_at_knock site turn s old new (inr stops) clock words =
@@ -76,6 +77,7 @@ stops_at_knock site turn s old new (inr stops) clock words =
       moments = [];
       at = inl refl;
       moment = clock;
+      timely = omega arith;
       words = words;
     }
 
@@ -86,8 +88,8 @@ knocked_so s knock = record s { connections = after_knock knock s.connections }
 pub stops_in_handling : {A : Type 0} (site : Site) (turn time : ℕ) (s : State) (closed : Bool) (halt : Halt) (k : Links) (After : A → State → Type 0)
     (knocked : Seen) (old new : Outer) → (kn : Knocked s closed (λ x. k ≡ x) old.seen knocked)
     → HandledSo site turn time (knocked_so s kn.knock) (Err halt) After knocked new.seen old.words new.words
-    → Gives (time ∷ []) old.clock new.clock → Halted site turn s old new
-stops_in_handling site turn time s is_closed halt k After knocked old new kn handled clock =
+    → Gives (time ∷ []) old.clock new.clock → time < 2 ^ 53 → Halted site turn s old new
+stops_in_handling site turn time s is_closed halt k After knocked old new kn handled clock timely =
     let t : Coming = record { knock = kn.knock; moment = time; words = handled.words; handlings = handled.handlings; advances = [] } in
     let hs = handlings_acts site turn time (knocked_so s kn.knock) handled.handlings in
     record {
@@ -99,6 +101,7 @@ stops_in_handling site turn time s is_closed halt k After knocked old new kn han
       moments = time ∷ [];
       at = inr refl;
       moment = clock;
+      timely = timely;
       words = handled.gives;
     }
 
@@ -108,8 +111,8 @@ pub stops_in_advance : {A : Type 0} (site : Site) (turn time : ℕ) (s : State) 
     → AreQuiet (let x = (after_handlings site turn time (knocked_so s kn.knock) handled.handlings).connections in x.there)
     → AdvancedSo site turn time (busy_in (let x = after_handlings site turn time (knocked_so s kn.knock) handled.handlings in x.history))
     (after_handlings site turn time (knocked_so s kn.knock) handled.handlings) (Err halt) Next mid new.seen
-    → Gives (time ∷ []) old.clock new.clock → Halted site turn s old new
-stops_in_advance site turn time s is_closed a halt k After Next knocked mid old new kn handled quiet advanced clock =
+    → Gives (time ∷ []) old.clock new.clock → time < 2 ^ 53 → Halted site turn s old new
+stops_in_advance site turn time s is_closed a halt k After Next knocked mid old new kn handled quiet advanced clock timely =
     let t : Coming = record { knock = kn.knock; moment = time; words = handled.words; handlings = handled.handlings; advances = advanced.advances } in
     let hs = handlings_acts site turn time (knocked_so s kn.knock) handled.handlings in
     let next = after_handlings site turn time (knocked_so s kn.knock) handled.handlings in
@@ -126,6 +129,7 @@ stops_in_advance site turn time s is_closed a halt k After Next knocked mid old 
       moments = time ∷ [];
       at = inr refl;
       moment = clock;
+      timely = timely;
       words = handled.gives;
     }
 
@@ -137,10 +141,10 @@ pub turns_whole : {A : Type 0} (site : Site) (turn time : ℕ) (s : State) (clos
     → AreQuiet (let x = (after_handlings site turn time (knocked_so s kn.knock) handled.handlings).connections in x.there)
     → (advanced : AdvancedSo site turn time (busy_in (let x = after_handlings site turn time (knocked_so s kn.knock) handled.handlings in x.history))
     (after_handlings site turn time (knocked_so s kn.knock) handled.handlings) (Ok tt) Next mid new.seen)
-    → Gives (time ∷ []) old.clock new.clock
+    → Gives (time ∷ []) old.clock new.clock → time < 2 ^ 53
     → EndsSo end kn.knock (after_advances turn (after_handlings site turn time (knocked_so s kn.knock) handled.handlings) advanced.advances)
     → Turned site turn s end Next old new
-turns_whole site turn time s is_closed a k After Next end knocked mid old new kn handled quiet advanced clock ends =
+turns_whole site turn time s is_closed a k After Next end knocked mid old new kn handled quiet advanced clock timely ends =
     let t : Coming = record { knock = kn.knock; moment = time; words = handled.words; handlings = handled.handlings; advances = advanced.advances } in
     let hs = handlings_acts site turn time (knocked_so s kn.knock) handled.handlings in
     let next = after_handlings site turn time (knocked_so s kn.knock) handled.handlings in
@@ -162,6 +166,7 @@ turns_whole site turn time s is_closed a k After Next end knocked mid old new kn
         did = did_then (knock_acts kn.knock s.connections ++ hs) (advances_acts site turn next advanced.advances) kn.mid mid new.seen
             (did_then (knock_acts kn.knock s.connections) hs kn.mid knocked mid kn.did handled.acts) advanced.acts;
         moment = clock;
+        timely = timely;
         words = handled.gives;
       };
     }

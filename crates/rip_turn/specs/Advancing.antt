@@ -1,6 +1,7 @@
 -- The busy sessions go on: private to this crate.
-use Rattle.std.specs.Prelude.{◌≡◌, ℕ, Bool, List, [], ◌∷◌, ◌++◌, Option, Some, Result, OnOk}
+use Rattle.std.specs.Prelude.{◌≡◌, ℕ, Bool, List, [], ◌∷◌, ◌++◌, Option, Some, Result, OnOk, option_map}
 use Rattle.rip_log.specs.Entries.{Recorded, done}
+use Rattle.rip_wire.specs.Reasons.{reason_of}
 use Rattle.rip_wire.specs.declared.ending.Ending.{Ending}
 use Rattle.rip_course.specs.Connections.{all_put, Connection as Link, owing}
 use Rattle.rip_course.specs.Run.{Site, State, Advance, IsAdvance, AreAdvancedSo, after_advance, advance_acts, after_advances, advances_acts, answered_there, answered_acts, done_entries, progress_there, progress_acts}
@@ -8,6 +9,8 @@ use Rattle.rip_course.specs.Standings.{standing_of}
 use Rattle.rip_course.specs.declared.sessions.Progress.{Progress}
 use Rattle.rip_course.specs.declared.sessions.Progress.TheVariants.{Busy, Finished}
 use Rattle.rip_course.specs.declared.standing.Standing.{Standing}
+use Rattle.rip_roll.specs.Seats.{Leaves}
+use Rattle.rip_roll.specs.declared.seat.Legacy.{Legacy}
 use Rattle.rip_server.specs.Acts.{Seen, Acted}
 use Rattle.rip_server.specs.declared.halt.Halt.{Halt}
 
@@ -18,10 +21,18 @@ pub record Answered (site : Site) (turn n number : ℕ) (how : Option Ending) (h
   pub after : OnOk r (now ≡ answered_there gone (owing n there) there)
   pub acts : Acted r (all_put (done turn n number how ∷ []) ++ answered_acts site gone (owing n there) n number how h) old new
 
+-- the history tells that a batch of this number is done, and ended the session so, if it did; and what that leaves
+pub record IsDoneSo (how : Option Ending) (legacy : Option Legacy) (n number : ℕ) (h : List Recorded) : Type 0 where
+  pub standing : Standing
+  pub stands : standing_of n h ≡ Some standing
+  pub done : standing.done ≡ Some number
+  pub ended : standing.ended ≡ option_map reason_of how
+  pub leaves : Leaves (Finished how) legacy n number h
+
 -- a batch that is done, so that the history tells it
-abbrev pub IsDoneIn : Progress → ℕ → ℕ → List Recorded → Type 0
-IsDoneIn Busy n number h = Unit {0}
-IsDoneIn (Finished how) n number h = (s : Standing) × (standing_of n h ≡ Some s) × (s.done ≡ Some number)
+abbrev pub IsDoneIn : Progress → Option Legacy → ℕ → ℕ → List Recorded → Type 0
+IsDoneIn Busy legacy n number h = Unit {0}
+IsDoneIn (Finished how) legacy n number h = IsDoneSo how legacy n number h
 
 -- the entries of what a session did are put, and its batch answered, where that is done
 pub record Told (site : Site) (turn n number : ℕ) (es : List Recorded) (progress : Progress) (h : List Recorded) (r : Result (Unit {0}) Halt)

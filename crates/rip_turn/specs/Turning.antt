@@ -1,5 +1,5 @@
 -- What a server does in a turn, and what is told of it outside.
-use Rattle.std.specs.Prelude.{◌≡◌, ◌⊎◌, ℕ, ◌+◌, Bool, List, [], ◌∷◌, length, Option, Some, None, IfSome, Result, Ok, Err}
+use Rattle.std.specs.Prelude.{◌≡◌, ◌⊎◌, ℕ, ◌+◌, ◌<◌, ◌^◌, Bool, List, [], ◌∷◌, length, Option, Some, None, IfSome, Result, Ok, Err}
 use Rattle.rip_outer.specs.Connections.{Goes}
 use Rattle.rip_outer.specs.Outside.{Rose, also, IsOver as NothingLeft}
 use Rattle.rip_outer.specs.declared.connections.TraceKnock.{TraceKnock}
@@ -85,12 +85,13 @@ abbrev pub EndsSo : TurnEnd → Option TraceKnock → State → Type 0
 EndsSo On knock s = ¬ IsOver knock s
 EndsSo Over knock s = IsOver knock s
 
--- what is told of a turn: its knock, all that is done behind that, its moment and the words that are drawn
+-- what is told of a turn: its knock, all that is done behind that, its moment, of at most 53 bits, and the words that are drawn
 pub record TellsTurn (site : Site) (turn : ℕ) (s : State) (t : Coming) (old new : Outer) : Type 0 where
   pub knocked : Seen
   pub knocks : Knocks s t.knock old.seen knocked
   pub did : Did (turn_acts site turn t s) knocked new.seen
   pub moment : Gives (t.moment ∷ []) old.clock new.clock
+  pub timely : t.moment < 2 ^ 53
   pub words : Gives t.words old.words new.words
 
 -- a turn was made, and all that it does was done; so the server stands
@@ -114,6 +115,7 @@ pub record Halted (site : Site) (turn : ℕ) (s : State) (old new : Outer) : Typ
   pub moments : List ℕ
   pub at : (moments ≡ []) ⊎ (moments ≡ coming.moment ∷ [])
   pub moment : Gives moments old.clock new.clock
+  pub timely : coming.moment < 2 ^ 53
   pub words : Gives coming.words old.words new.words
 
 -- what a turn comes to

@@ -3,13 +3,11 @@ ghost use Rattle.rip_log.specs.Entries.{Recorded, recorded_of};
 ghost use Rattle.rip_course.specs.Run.{Site, called_so_far};
 ghost use Rattle.rip_course.specs.Services.{Service as Meant};
 ghost use Rattle.rip_course.specs.Stages.{Stage};
-ghost use Rattle.rip_course.specs.Standings.{standing_of};
-ghost use Rattle.rip_course.specs.declared.standing.Standing.{Standing as Stood};
 ghost use Rattle.rip_roll.specs.Rolls.{IsAtRest, IsKept, IsRollOf, IsSound, waiting};
 ghost use Rattle.rip_server.specs.Acts.{seen};
 ghost use Rattle.rip_server.specs.Links.{links_of, there_of, AreLinks};
 ghost use Rattle.rip_wire.specs.Reasons.{reason_of};
-ghost use Rattle.rip_turn.specs.Advancing.{Answered, IsDoneIn, Told, AdvancedOne, AdvancedSo};
+ghost use Rattle.rip_turn.specs.Advancing.{Answered, IsDoneIn, IsDoneSo, Told, AdvancedOne, AdvancedSo};
 ghost use Rattle.rip_turn.specs.Handling.{state_of, AreAt};
 ghost use Rattle.rip_turn.specs.Turning.{Faults, site_of};
 
@@ -18,17 +16,18 @@ use crate::decide::Moment;
 use rip_course::{Progress, SLICE, Service, Sessions, Slice};
 use rip_log::Entry;
 use rip_outer::{Door, Sink};
-use rip_roll::{Advanced, Roll};
+use rip_roll::{Advanced, Legacy, Roll};
 use rip_server::{Connections, Halt, put_entries, put_entry};
 use rip_wire::{Ending, Reason};
 use std::alloc::Global;
 
-/// A batch that is done: its session, its number, and how it ended that.
+/// A batch that is done: its session, its number, how it ended that, and what that leaves.
 #[derive(Drop)]
 struct DoneBatch {
     session: u32,
     batch: u64,
     how: Option<Ending>,
+    legacy: Option<Legacy>,
 }
 
 /// Why a session ended, if it did.
@@ -55,9 +54,9 @@ fn finish<T: Drop, D: Door, K: Sink>(
     requires { AreLinks (D.is_open door.old) (links_of connections.old) }
     ensures links { OnOk result (AreLinks (D.is_open door.new) (links_of connections.new)) }
     ensures opened { connections.new.opened ≡ connections.old.opened }
-    ensures finished { (site : Site) (limit : ℕ) (h : List Recorded) (s : Stood)
+    ensures finished { (site : Site) (limit : ℕ) (h : List Recorded)
         → site.page ≡ page.now → IsKept limit roll.now h
-        → standing_of done.session h ≡ Some s → s.done ≡ Some done.batch
+        → IsDoneSo done.how done.legacy done.session done.batch h
         → Answered site turn done.session done.batch done.how h result
         (there_of connections.old.list.items) (there_of connections.new.list.items)
         (seen (D.sent door.old) (D.knocks door.old) (D.shuts door.old)
@@ -71,6 +70,7 @@ fn finish<T: Drop, D: Door, K: Sink>(
         session,
         batch,
         how,
+        legacy,
     } = done;
     let ended = reason_in(&how);
     let entry = Entry::Done {
@@ -80,7 +80,7 @@ fn finish<T: Drop, D: Door, K: Sink>(
         ended: how,
     };
     put_entry(alloc, out, &entry)?;
-    let answer = batch_answer(alloc, roll, page, session, batch, ended)?;
+    let answer = batch_answer(alloc, roll, page, session, batch, ended, &legacy)?;
     connections.answer(alloc, door, session, answer)?;
     Ok(())
 }
@@ -102,7 +102,7 @@ fn tell<T: Drop, D: Door, K: Sink>(
     ensures opened { connections.new.opened ≡ connections.old.opened }
     ensures told { (site : Site) (limit : ℕ) (h es : List Recorded)
         → site.page ≡ page.now → IsKept limit roll.now h
-        → IsDoneIn advanced.progress session advanced.batch h
+        → IsDoneIn advanced.progress advanced.legacy session advanced.batch h
         → map recorded_of advanced.entries.items ≡ es
         → Told site turn session advanced.batch es advanced.progress h result
         (there_of connections.old.list.items) (there_of connections.new.list.items)
@@ -117,6 +117,7 @@ fn tell<T: Drop, D: Door, K: Sink>(
         batch,
         entries,
         progress,
+        legacy,
     } = advanced;
     put_entries(alloc, out, entries.as_slice())?;
     match progress {
@@ -133,6 +134,7 @@ fn tell<T: Drop, D: Door, K: Sink>(
                 session,
                 batch,
                 how,
+                legacy,
             },
         ),
     }

@@ -4,19 +4,19 @@ ghost use Rattle.rip_http.specs.declared.request.Refusal.{Refusal};
 ghost use Rattle.rip_http.specs.declared.request.RefusedHead.{RefusedHead};
 ghost use Rattle.rip_log.specs.Entries.{Recorded};
 ghost use Rattle.rip_course.specs.Answering.{json_answer, refusal_word, refusal_answer, opening_told, batch_answer, opening_answer};
-ghost use Rattle.rip_course.specs.Requests.{error_body};
-ghost use Rattle.rip_course.specs.Standings.{standing_of};
-ghost use Rattle.rip_course.specs.declared.standing.Standing.{Standing as Stood};
+ghost use Rattle.rip_course.specs.Requests.{error_body, served_in};
 ghost use Rattle.rip_roll.specs.Rolls.{IsKept};
+ghost use Rattle.rip_turn.specs.Advancing.{IsDoneSo};
 ghost use Rattle.rip_turn.specs.Saying.{opened_body};
+ghost use Rattle.rip_wire.specs.Answers.{served_of};
 ghost use Rattle.rip_wire.specs.Reasons.{reason_of};
 ghost use Rattle.rip_wire.specs.declared.ending.Ending.{Ending};
 
 use crate::said::{error_body, said_body};
 use rip_http::{Conn, HttpAnswer, Method, Opening};
-use rip_roll::Roll;
+use rip_roll::{Legacy, Roll};
 use rip_values::{Bytes, NoMemory};
-use rip_wire::Reason;
+use rip_wire::{Reason, ServedCall};
 use std::alloc::Global;
 
 /// An answer of JSON.
@@ -132,6 +132,34 @@ fn opening_answer(
     })
 }
 
+/// The opening of a session whose batch is done: that of one that lives, or what one left that the batch ended.
+fn opening_of<T: Drop>(roll: &Roll<T>, session: u32, legacy: &Option<Legacy>) -> Option<Opening>
+    ensures { (limit number : ℕ) (h : List Recorded) (how : Option Ending)
+        → IsKept limit roll.now h → IsDoneSo how legacy.now session number h
+        → result ≡ opening_told session h }
+{
+    match legacy {
+        Some(left) => Some(left.opening),
+        None => roll.opening(session),
+    }
+}
+
+/// The calls that a batch that is done served: those of a session that lives, or what one left that the batch ended.
+fn served_of<'a, T: Drop>(
+    roll: &'a Roll<T>,
+    session: u32,
+    legacy: &'a Option<Legacy>,
+) -> &'a [ServedCall]
+    ensures { (limit number : ℕ) (h : List Recorded) (how : Option Ending)
+        → IsKept limit roll.now h → IsDoneSo how legacy.now session number h
+        → map served_of result.now ≡ served_in session number h }
+{
+    match legacy {
+        Some(left) => left.told.as_slice(),
+        None => roll.served(session),
+    }
+}
+
 /// The answer to a batch of a session that is done; the opening is batch 0.
 pub(crate) fn batch_answer<T: Drop>(
     alloc: Global,
@@ -140,15 +168,16 @@ pub(crate) fn batch_answer<T: Drop>(
     session: u32,
     number: u64,
     ended: Option<Reason>,
+    legacy: &Option<Legacy>,
 ) -> Result<HttpAnswer, NoMemory>
-    ensures { (limit : ℕ) (h : List Recorded) (s : Stood) (how : Option Ending)
-        → IsKept limit roll.now h → standing_of session h ≡ Some s → s.done ≡ Some number
+    ensures { (limit : ℕ) (h : List Recorded) (how : Option Ending)
+        → IsKept limit roll.now h → IsDoneSo how legacy.now session number h
         → ended ≡ option_map reason_of how
         → IfOk result (λ a. a ≡ batch_answer page.now session number how h false) }
 {
     if number == 0 {
-        return opening_answer(alloc, page, roll.opening(session), ended);
+        return opening_answer(alloc, page, opening_of(roll, session, legacy), ended);
     }
-    let body = said_body(alloc, number, ended, roll.served(session))?;
+    let body = said_body(alloc, number, ended, served_of(roll, session, legacy))?;
     Ok(json_answer(200, body, false))
 }

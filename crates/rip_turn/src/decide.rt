@@ -1,10 +1,10 @@
-ghost use Rattle.std.specs.Prelude.{◌≡◌, ◌<◌, ◌^◌, [], List, ℕ, Bool, Some, None, IfOk, IfSome, option_map};
+ghost use Rattle.std.specs.Prelude.{◌≡◌, ◌<◌, ◌^◌, [], List, ℕ, Bool, true, Some, None, IfOk, IfSome, option_map};
 ghost use Rattle.rip_http.specs.declared.request.Route.TheVariants.{Events as AtEvents, Quit as AtQuit};
 ghost use Rattle.rip_log.specs.Entries.{Recorded, closed, entry_text};
 ghost use Rattle.rip_course.specs.Decisions.{batch_decision, close_decision};
 ghost use Rattle.rip_course.specs.Requests.{answers, closes, fails, gone, identifier_in, named_by, no_lack, on_batch_of, on_batch_to, on_close_of, on_drawn, opens, served_in, admits};
 ghost use Rattle.rip_course.specs.Stages.{Stage};
-ghost use Rattle.rip_course.specs.Standings.{standing_of};
+ghost use Rattle.rip_course.specs.Standings.{standing_of, is_live};
 ghost use Rattle.rip_course.specs.declared.decision.BatchDecision.TheVariants.{Admit};
 ghost use Rattle.rip_course.specs.declared.decision.CloseDecision.TheVariants.{Close};
 ghost use Rattle.rip_course.specs.declared.standing.Standing.{Standing as Stood};
@@ -263,7 +263,7 @@ fn repeat<T: Drop>(
     number: u64,
 ) -> Result<Decided, NoMemory>
     ensures { (limit turn time : ℕ) (h : List Recorded) (s : Stood) → IsKept limit roll.now h
-        → standing_of session h ≡ Some s → s.done ≡ Some number
+        → standing_of session h ≡ Some s → is_live s ≡ true → s.done ≡ Some number
         → IfOk result (Tells turn time close (answers 200 (answer_text
         (record { number = number; ended = None; served = served_in session number h })))) }
 {

@@ -19,7 +19,7 @@ returns-in-Busy-clause-told g c = λ site limit h es page kept done entries.
 
 pub returns-clause-told : goal.returns-clause-told
 returns-clause-told g c = λ site limit h es page kept done entries.
-    told_finished site c.args.turn c.args.session c.args.advanced.batch es c.args.advanced.progress c.in-Finished.how h c.finish.result _ _ _ _ _ c.in-Finished.is done
+    told_finished site c.args.turn c.args.session c.args.advanced.batch es c.args.advanced.progress c.in-Finished.how c.args.advanced.legacy h c.finish.result _ _ _ _ _ c.in-Finished.is done
     (c.in_ok-put_entries.ensures.logged
     ∙ ap (λ (xs : List Recorded). also (history_text xs) (g.K.Sink.held c.args.out.now)) (ap (map recorded_of) c.as_slice.ensures.value ∙ entries))
-    (λ s at last. c.finish.ensures.finished site limit h s page kept at last)
+    (λ so. c.finish.ensures.finished site limit h page kept so)

@@ -6,7 +6,7 @@ use Rattle.rip_course.specs.Decisions.{batch_decision}
 use Rattle.rip_course.specs.Requests.{error_body, on_batch_of, served_in}
 use Rattle.rip_course.specs.declared.decision.BatchDecision.{BatchDecision}
 use Rattle.rip_roll.specs.Rolls.{IsRollOf}
-use Rattle.rip_turn.proofs.DecidedLemmas.{refused_as, repeats_done}
+use Rattle.rip_turn.proofs.DecidedLemmas.{refused_as, repeats_done, repeats_live}
 use Rattle.rip_turn.proofs.decide.on_batch_of.Goals as goal
 
 pub returns-in-Repeat-clause-comes : goal.returns-in-Repeat-clause-comes
@@ -16,7 +16,7 @@ returns-in-Repeat-clause-comes g c = λ limit h stages roll stands.
     refused_as c.args.at.turn c.args.at.time 200 c.args.close (answer_text (record { number = c.args.batch.number; ended = None; served = served_in c.args.session c.args.batch.number h })) h stages
     (IsRollOf (s.stands c.args.sessions.now) (s.meaning c.args.sessions.now) limit c.args.roll.now)
     (on_batch_of c.args.session h st (contents_of c.args.batch) (batch_decision st c.args.batch.number)) c.repeat.result
-    (ap (λ (d : BatchDecision). on_batch_of c.args.session h st (contents_of c.args.batch) d) c.in-Repeat.ensures) (c.repeat.ensures limit c.args.at.turn c.args.at.time h st roll.kept stands (repeats_done st c.args.batch.number c.in-Repeat.ensures)) roll
+    (ap (λ (d : BatchDecision). on_batch_of c.args.session h st (contents_of c.args.batch) d) c.in-Repeat.ensures) (c.repeat.ensures limit c.args.at.turn c.args.at.time h st roll.kept stands (repeats_live st c.args.batch.number c.in-Repeat.ensures) (repeats_done st c.args.batch.number c.in-Repeat.ensures)) roll
 
 pub returns-in-Gone-clause-comes : goal.returns-in-Gone-clause-comes
 returns-in-Gone-clause-comes g c = λ limit h stages roll stands.

@@ -52,7 +52,7 @@ returns-in_err-handle_all-clause-turned g c = λ state meant is replies.
     (stops_in_handling site turn time state c.in_ok-closed.closed halt k After knocked old new kn
     (handled_behind site turn time state kn.knock k (Err halt) After knocked new.seen old.words new.words kn.after
     (c.in_err-handle_all.ensures.handled site state.history state.stages is.roll))
-    (gives_one time old.clock new.clock c.now.ensures.told c.now.ensures.first c.now.ensures.others))
+    (gives_one time old.clock new.clock c.now.ensures.told c.now.ensures.first c.now.ensures.others) c.now.ensures.bound)
 
 pub returns-in_err-advance_all-clause-turned : goal.returns-in_err-advance_all-clause-turned
 returns-in_err-advance_all-clause-turned g c = λ state meant is replies.
@@ -87,7 +87,7 @@ returns-in_err-advance_all-clause-turned g c = λ state meant is replies.
     c.in_ok-handle_all.ensures.rest handled.after.0 (λ roll. c.in_err-advance_all.ensures.advanced meant limit next.history next.stages roll calls) in
     turns_err site turn state c.from_residual-in_err-advance_all.result _ old new c.from_residual-in_err-advance_all.ensures.0
     (stops_in_advance site turn time state c.in_ok-closed.closed tt halt k After Next knocked mid old new kn handled handled.after.1 advanced
-    (gives_one time old.clock new.clock c.now.ensures.told c.now.ensures.first c.now.ensures.others))
+    (gives_one time old.clock new.clock c.now.ensures.told c.now.ensures.first c.now.ensures.others) c.now.ensures.bound)
 
 pub returns-clause-turned : goal.returns-clause-turned
 returns-clause-turned g c = λ state meant is replies.
@@ -123,5 +123,5 @@ returns-clause-turned g c = λ state meant is replies.
     let at = advanced.after.1.0 in
     turned_map site turn state c.end_of.result Next _ old new (λ x p. (record { connections = p.0.links; roll = p.0.roll_is }, p.1))
     (turns_whole site turn time state c.in_ok-closed.closed tt k After Next c.end_of.result knocked mid old new kn handled handled.after.1 advanced
-    (gives_one time old.clock new.clock c.now.ensures.told c.now.ensures.first c.now.ensures.others)
+    (gives_one time old.clock new.clock c.now.ensures.told c.now.ensures.first c.now.ensures.others) c.now.ensures.bound
     (c.end_of.ensures kn.knock last kn.closes (c.is_asking.ensures limit last at.links at.roll_is.kept)))
