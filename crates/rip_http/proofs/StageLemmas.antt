@@ -7,13 +7,12 @@ use Rattle.httparse.specs.Spans.{IsWithin, span_bytes}
 use Rattle.rip_http.specs.Heads.{after, blank, head_end, head_at}
 use Rattle.rip_http.specs.Routes.{segment_of}
 use Rattle.rip_http.specs.Verdicts.{Verdict, Refuses, Goes, IsVerdict}
-use Rattle.rip_http.specs.Stream.{Next, waits, refuses, takes, behind, IsNextAt, IsNext, code_of, allowed_by}
+use Rattle.rip_http.specs.Stream.{Next, waits, refuses, takes, behind, IsNextAt, IsNext, allowed_by, allowed_at, bare_at}
 use Rattle.rip_http.specs.Stages.{IsStage, IsWhole, IsJudged, verdict_in, refused_of}
 use Rattle.rip_http.specs.declared.head.Scan.{Scan}
 use Rattle.rip_http.specs.declared.head.Scan.TheVariants.{Before}
 use Rattle.rip_http.specs.declared.request.Method.TheVariants.{Get}
-use Rattle.rip_http.specs.declared.request.Refusal.{Refusal}
-use Rattle.rip_http.specs.declared.request.Refusal.TheVariants.{Head as BadHead, Fields, Path, WrongMethod, Coding, NoLength, TooLarge}
+use Rattle.rip_http.specs.declared.request.Refusal.TheVariants.{Fields}
 use Rattle.rip_http.specs.declared.request.RefusedHead.{RefusedHead}
 use Rattle.rip_http.specs.declared.request.Message.{Message}
 use Rattle.rip_http.specs.declared.stage.Awaited.{Awaited}
@@ -157,14 +156,26 @@ never_refused bytes (Body a) r n is none next =
     (cases_lt (length bytes) (a.end + a.going.size))
 never_refused bytes (Refused p) r n is none next = cc
 
-pub named_by_405 : (x : Refusal) → code_of x ≡ 405 → allowed_by x ≡ Some (unwrap_or (allowed_by x) Get)
-named_by_405 (WrongMethod m) e = refl
-named_by_405 BadHead e = absurd (omega (arith, e))
-named_by_405 Fields e = absurd (omega (arith, e))
-named_by_405 Path e = absurd (omega (arith, e))
-named_by_405 Coding e = absurd (omega (arith, e))
-named_by_405 NoLength e = absurd (omega (arith, e))
-named_by_405 TooLarge e = absurd (omega (arith, e))
+-- what is at the front of bytes whose stage keeps a refusal, and of bytes whose stage keeps none
+pub refused_front : (bytes : List ℕ) (s : Stage) (q : RefusedHead) (next : Next) → IsStage bytes s → refused_of s ≡ Some q → IsNext bytes next
+    → (allowed_at next ≡ unwrap_or (allowed_by q.refusal) Get) × (bare_at next ≡ q.bare)
+refused_front bytes s q (refuses n r) is e next =
+    let same = refused_is bytes s q r n is e next in
+    (ap (λ (x : RefusedHead). unwrap_or (allowed_by x.refusal) Get) same, ap (λ (x : RefusedHead). x.bare) same)
+refused_front bytes (Head scan) q waits is e next = cc
+refused_front bytes (Body a) q waits is e next = cc
+refused_front bytes (Refused p) q waits (k, here) e next =
+    let same = next_one bytes waits (refuses k p) next here in cc
+refused_front bytes (Head scan) q (takes n m) is e next = cc
+refused_front bytes (Body a) q (takes n m) is e next = cc
+refused_front bytes (Refused p) q (takes n m) (k, here) e next =
+    let same = next_one bytes (takes n m) (refuses k p) next here in cc
+
+pub unrefused_front : (bytes : List ℕ) (s : Stage) (next : Next) → IsStage bytes s → refused_of s ≡ None → IsNext bytes next
+    → (allowed_at next ≡ Get) × (bare_at next ≡ false)
+unrefused_front bytes s waits is none next = (refl, refl)
+unrefused_front bytes s (takes n m) is none next = (refl, refl)
+unrefused_front bytes s (refuses n r) is none next = absurd (never_refused bytes s r n is none next)
 
 -- ---- readiness
 

@@ -1,8 +1,9 @@
 -- The requests of a connection: a relation between all its bytes and what is asked in them.
-use Rattle.std.specs.Prelude.{◌≡◌, ℕ, ◌+◌, ◌-◌, List, [], ◌∷◌, ◌++◌, length, take, drop, Option, Some, None, nat_le, if◌then◌else◌, false}
+use Rattle.std.specs.Prelude.{◌≡◌, ℕ, ◌+◌, ◌-◌, Bool, List, [], ◌∷◌, ◌++◌, length, take, drop, Option, Some, None, unwrap_or, nat_le, if◌then◌else◌, false}
 use Rattle.rip_http.specs.Heads.{head_at, head_end}
 use Rattle.rip_http.specs.Verdicts.{Verdict, Refuses, Goes, IsVerdict}
 use Rattle.rip_http.specs.declared.request.Method.{Method}
+use Rattle.rip_http.specs.declared.request.Method.TheVariants.{Get}
 use Rattle.rip_http.specs.declared.request.Refusal.{Refusal}
 use Rattle.rip_http.specs.declared.request.Refusal.TheVariants.{Head, Fields, Path, WrongMethod, Coding, NoLength, TooLarge}
 use Rattle.rip_http.specs.declared.request.RefusedHead.{RefusedHead}
@@ -36,6 +37,18 @@ pub data Next : Type 0 where
   refuses : ℕ → RefusedHead → Next
   -- a message, and how many bytes it has
   takes : ℕ → Message → Next
+
+-- the method that an answer to it names: that of a 405, else GET
+abbrev pub allowed_at : Next → Method
+allowed_at waits = Get
+allowed_at (refuses n r) = unwrap_or (allowed_by r.refusal) Get
+allowed_at (takes n m) = Get
+
+-- whether the answer to it has no body: it is a refusal, and the head's method is HEAD
+abbrev pub bare_at : Next → Bool
+bare_at waits = false
+bare_at (refuses n r) = r.bare
+bare_at (takes n m) = false
 
 -- behind a head of n bytes
 abbrev pub behind : List ℕ → ℕ → Verdict → Next

@@ -1,8 +1,7 @@
-ghost use Rattle.std.specs.Prelude.{◌≡◌, ◌≤◌, ◌<◌, ◌+◌, ◌++◌, ◌↔◌, [], ℕ, length, drop, Some, IsTrue, IfOk, OnOk, OnErr, IsErrOf};
+ghost use Rattle.std.specs.Prelude.{◌≡◌, ◌≤◌, ◌<◌, ◌+◌, ◌++◌, ◌↔◌, [], length, drop, IsTrue, IfOk, OnOk, OnErr, IsErrOf};
 ghost use Rattle.std.specs.Bool.{OnFalse};
-ghost use Rattle.rip_http.specs.Stream.{waits, refuses, IsNext, code_of, allowed_by};
+ghost use Rattle.rip_http.specs.Stream.{Next, waits, IsNext, allowed_at, bare_at};
 ghost use Rattle.rip_http.specs.Conns.{IsTaken};
-ghost use Rattle.rip_http.specs.declared.request.RefusedHead.{RefusedHead};
 
 use crate::head::Scan;
 use crate::request::{Message, Method};
@@ -159,8 +158,7 @@ impl Conn {
 
     /// The method that the answer 405 names; where the head is not refused by 405, GET.
     pub fn allowed(&self) -> Method
-        ensures { (n : ℕ) (r : RefusedHead) → IsNext self.now (refuses n r)
-            → code_of r.refusal ≡ 405 → allowed_by r.refusal ≡ Some result }
+        ensures { (next : Next) → IsNext self.now next → result ≡ allowed_at next }
     {
         match self.stage.refused() {
             Some(refused) => refused.refusal.allowed().unwrap_or(Method::Get),
@@ -168,9 +166,9 @@ impl Conn {
         }
     }
 
-    /// Whether the refused head at the front is answered without a body: its method is HEAD.
+    /// Whether a refused head is at the front that is answered without a body: its method is HEAD.
     pub fn bare(&self) -> bool
-        ensures { (n : ℕ) (r : RefusedHead) → IsNext self.now (refuses n r) → result ≡ r.bare }
+        ensures { (next : Next) → IsNext self.now next → result ≡ bare_at next }
     {
         match self.stage.refused() {
             Some(refused) => refused.bare,
