@@ -3,6 +3,7 @@ pub mod Beginnings
 pub mod Children
 pub mod Clauses
 pub mod Filling
+pub mod InPlace
 pub mod Loads
 pub mod LoopRuns
 pub mod PlanLaws

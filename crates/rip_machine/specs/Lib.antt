@@ -1,4 +1,5 @@
 pub mod Does
+pub mod InPlace
 pub mod Law
 pub mod Loading
 pub mod PlanLaws

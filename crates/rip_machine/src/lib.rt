@@ -13,6 +13,7 @@
 //! |---|---|
 //! | the row of each form | `Table.row_by`; what remains of it at each place where it waits `Table.own_rest`, `Table.hosted_rest` |
 //! | that what is answered is a row | `Does.Does`, `Does.DoesPurely`, `Does.DoesWithHost` and those beside them |
+//! | parts that are done in place: no part of theirs is entered by itself | `InPlace.antt`, by `Done.Done` of `rip_runs` |
 //! | names, and the errors that are thrown | `Rows/Names.antt` |
 //! | expressions; literals of arrays and objects | `Rows/Expressions.antt`, `Rows/Literals.antt` |
 //! | functions; calls; `new` | `Rows/Functions.antt`, `Rows/Calls.antt`, `Rows/Constructing.antt` |

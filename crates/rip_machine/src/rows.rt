@@ -9,8 +9,9 @@ pub(crate) mod calls;
 pub(crate) mod constructing;
 pub(crate) mod exceptions;
 pub(crate) mod functions;
+pub(crate) mod had;
 pub(crate) mod host;
-pub(crate) mod leaves;
+pub(crate) mod in_place;
 pub(crate) mod literals;
 pub(crate) mod members;
 pub(crate) mod names;
@@ -18,6 +19,7 @@ pub(crate) mod operators;
 pub(crate) mod scripts;
 pub(crate) mod statements;
 pub(crate) mod switch;
+pub(crate) mod tried;
 pub(crate) mod unary;
 
 use crate::rows::answers::{Answer, end, give};
@@ -31,7 +33,7 @@ use crate::rows::exceptions::{
     after_finally_block, after_throw_value, after_try_block, begin_throw, begin_try, finally,
 };
 use crate::rows::functions::begin_function;
-use crate::rows::leaves::value_at_once;
+use crate::rows::in_place::done;
 use crate::rows::literals::{after_element, after_entry, begin_array, begin_object};
 use crate::rows::members::{
     after_index_base, after_member_base, after_subscript, begin_index, begin_member,
@@ -53,9 +55,12 @@ use crate::rows::switch::{
 use crate::rows::unary::{after_operand, begin_unary};
 use crate::source::Source;
 use rip_heap::{Heap, Host};
-use rip_runs::{Completion, Frame, HostedWait, Next, OwnWait, Part, Rows, Wait};
+use rip_runs::{Completed, Completion, Frame, HostedWait, Next, OwnWait, Part, Rows, Wait};
 use rip_tree::Form;
 use rip_values::{NoMemory, Value};
+
+/// How many levels of nodes below a part are done in place.
+const HEIGHT: u32 = 8;
 
 impl Rows for Source<'_> {
     ghost use Rattle.rip_machine.specs.Table.{table as table_of};
@@ -66,8 +71,11 @@ impl Rows for Source<'_> {
         begin_form(self, heap, at, &self.form(at.node))
     }
 
-    fn value_at_once(&self, heap: &Heap, at: &Part) -> Option<Value> {
-        value_at_once(self, heap, at)
+    fn at_once(&self, heap: &mut Heap, at: &Part, most: u64) -> Option<Completed> {
+        if at.room == 0 || most == 0 {
+            return None;
+        }
+        done(self, heap, at, HEIGHT, most)
     }
 
     fn finish<H: Host>(

@@ -1,3 +1,4 @@
+pub mod Doing
 pub mod Joined
 pub mod Later
 pub mod Laws

@@ -1,4 +1,5 @@
 pub mod Cut
+pub mod Done
 pub mod Evaluation
 pub mod Frame
 pub mod Joining

@@ -16,6 +16,13 @@ pub enum Completion {
     Method { function: Value, this: Value },
 }
 
+/// How a part has ended that was done at once, and how many units it has taken.
+#[derive(Clone, Copy, Debug, PartialEq, Eq)]
+pub struct Completed {
+    pub completion: Completion,
+    pub units: u64,
+}
+
 /// Why a run stops with no completion. It leaves through every open part, and nothing can catch it.
 #[derive(Clone, Copy, Debug, PartialEq, Eq)]
 pub enum Stop {

@@ -17,6 +17,7 @@
 //! | a part inside an open one, and the depth left inside it | `Frame.inside`, `Rest.room_in` |
 //! | what an open part does next ([`Next`]) as a row | `Rest.as_row` |
 //! | a row once the host has answered all that it asks before any part | `Settle.settle` |
+//! | a part that is done at once, without a cut and without the host | `Done.Done`, by `Done.Comes` of its row |
 //! | what is left of a run that stands | `Rest.rest`, by `Rest.finish` and `Rest.unwind` |
 //! | a run cut after any unit, and its fuel | `Cut.run_of`, `Cut.rest_of` |
 //! | [`Run`] | contracts see `Law.Standing`; what each keeps is `Keeping.IsRun`, with `Nesting.IsInside` |
@@ -33,6 +34,7 @@
 //! | the run of a row that asks for a part, or begins a turn | `run-asks`, `run-again` |
 //! | the innermost frame is finished first; a stop and a cut leave through all | `proofs/Laws.antt`: `unwind-push`, `unwind-stops`, `unwind-cuts` |
 //! | what is left after a step is what was left | `rest-next`, `rest-enters`, `rest-gives` |
+//! | a part that is done at once completes with these units, whatever is left | `proofs/Doing.antt`: `ev-done`, `rest-done` |
 //! | more units change no run that has come to its end | `proofs/Later.antt`: `of-later` |
 //! | a row whose calls of the host were made runs on as the row did | `proofs/Settles.antt`: `run-settles`, `settled` |
 //! | open parts are nested within the depth | `proofs/Nested.antt`: `next_inside` |
@@ -56,7 +58,7 @@ mod step;
 mod steps;
 
 pub use close::Close;
-pub use completion::{Completion, Stop};
+pub use completion::{Completed, Completion, Stop};
 pub use evaluator::{Advance, Evaluator};
 pub use frame::{Ending, Frame, HostedWait, OwnWait, Wait};
 pub use next::{Control, Next};

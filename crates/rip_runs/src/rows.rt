@@ -1,4 +1,4 @@
-use crate::completion::Completion;
+use crate::completion::{Completed, Completion};
 use crate::frame::Frame;
 use crate::next::Next;
 use crate::part::Part;
@@ -8,11 +8,12 @@ use rip_values::{NoMemory, Value};
 /// The rows of a program, as code. What the table of its meaning says, these do, each time up to the next part. No error but
 /// want of memory has a place here: a fault and a limit are a `Next`. Whoever has the rows has the allocator too.
 pub trait Rows {
-    ghost use Rattle.std.specs.Prelude.{◌≡◌, ⊤, List, IfOk, MatchOption};
+    ghost use Rattle.std.specs.Prelude.{◌≡◌, ◌≤◌, List, IfOk, MatchOption};
     ghost use Rattle.rip_values.specs.declared.value.Value.{Value as ScriptValue};
     ghost use Rattle.rip_heap.specs.Growth.{Grows};
+    ghost use Rattle.rip_runs.specs.Done.{Done};
     ghost use Rattle.rip_runs.specs.Rest.{as_row};
-    ghost use Rattle.rip_runs.specs.Row.{Ends, Table};
+    ghost use Rattle.rip_runs.specs.Row.{Table};
     ghost use Rattle.rip_runs.specs.Settle.{settle};
     ghost use Rattle.rip_runs.specs.Stack.{framed};
 
@@ -26,11 +27,13 @@ pub trait Rows {
             ≡ (table self.now).row at.now heap.old) }
         ensures grows { Grows heap.old heap.new };
 
-    /// The value of a part whose row ends with it at once and changes nothing. Of any part it may be none, and then the row
-    /// is asked.
-    fn value_at_once(&self, heap: &Heap, at: &Part) -> Option<Value>
-        ensures { MatchOption result ⊤ (λ v. (table self.now).row at.now heap.now
-            ≡ Ends (Completion.Normal v) heap.now) };
+    /// What a part comes to that is done at once, with at most so many units. Of any part it may be none, and then nothing
+    /// is changed, and the row is asked.
+    fn at_once(&self, heap: &mut Heap, at: &Part, most: u64) -> Option<Completed>
+        ensures done { MatchOption result (heap.new ≡ heap.old) (λ done.
+            Done (table self.now) at.now done.units heap.old done.completion heap.new
+            × (done.units ≤ most)) }
+        ensures grows { Grows heap.old heap.new };
 
     /// What an open part does with the completion of the part that it waits for, where these values are beside its frame.
     /// The calls of the host with which its row goes on are made.

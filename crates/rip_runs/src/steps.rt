@@ -174,7 +174,7 @@ pub(crate) fn keep_values(
     Ok(())
 }
 
-/// A part is entered, whose unit was taken.
+/// A part is entered, for which at least one unit is left.
 fn enter<R: Rows, H: Host>(
     rows: &R,
     heap: &mut Heap,
@@ -182,33 +182,41 @@ fn enter<R: Rows, H: Host>(
     stack: &mut Stack,
     part: &Part,
     control: &mut Control,
+    left: &mut u64,
 ) -> Result<(), NoMemory>
-    requires { IsInside stack.old.most (Control.Enter part.now) stack.old.frames }
-    ensures rest { OnOk result ((u : ℕ) → rest H.answers (R.table rows.now) control.new
-        stack.new.frames u heap.new host.now ≡ rest H.answers (R.table rows.now)
-        (Control.Enter part.now) stack.old.frames (u + 1) heap.old host.now) }
+    requires inside { IsInside stack.old.most (Control.Enter part.now) stack.old.frames }
+    requires some { 0 < left.old }
+    ensures rest { OnOk result ((k : ℕ) → rest H.answers (R.table rows.now) control.new
+        stack.new.frames (left.new + k) heap.new host.now ≡ rest H.answers (R.table rows.now)
+        (Control.Enter part.now) stack.old.frames (left.old + k) heap.old host.now) }
     ensures weight { OnOk result (weight control.new stack.new.frames ≤ 2 * length stack.old.frames
         + 2) }
     ensures inside { OnOk result (IsInside stack.new.most control.new stack.new.frames) }
     ensures kept { OnErr result ((stack.new ≡ stack.old) × (control.new ≡ control.old)) }
+    ensures less { left.new < left.old }
     ensures most { stack.new.most ≡ stack.old.most }
     ensures grows { Grows heap.old heap.new }
 {
     if part.room == 0 {
+        *left -= 1;
         let stop = Stop::Limit(Limit::Depth);
         *control = Control::Halted { stop, room: 0 };
         return Ok(());
     }
-    match rows.value_at_once(heap, part) {
-        Some(v) => {
-            *control = Control::Give(Completion::Normal(v));
+    match rows.at_once(heap, part, *left) {
+        Some(done) => {
+            *left -= done.units;
+            *control = Control::Give(done.completion);
             Ok(())
         },
-        None => enter_row(rows, heap, host, stack, part, control),
+        None => {
+            *left -= 1;
+            enter_row(rows, heap, host, stack, part, control)
+        },
     }
 }
 
-/// A part is entered by its row.
+/// A part is entered by its row, whose unit was taken.
 fn enter_row<R: Rows, H: Host>(
     rows: &R,
     heap: &mut Heap,
@@ -305,9 +313,8 @@ fn step<R: Rows, H: Host>(
             if *left == 0 {
                 return Ok(false);
             }
-            *left -= 1;
             let part = *part;
-            enter(rows, heap, host, stack, &part, control)?;
+            enter(rows, heap, host, stack, &part, control, left)?;
             Ok(true)
         },
         Control::Give(c) => {

@@ -27,7 +27,7 @@ const HEAP: HeapLimits = HeapLimits {
 const DEPTH: u32 = 50;
 
 /// Scripts that come to their end within these limits.
-static ENDING: [&str; 23] = [
+static ENDING: [&str; 24] = [
     r#""use strict";var o={b:1};function f(){o.b=10;return 5}o.b+=f();var r=o.b"#,
     r#""use strict";var a=[1,2],i=0;a[i++]=i;var r=[a,i]"#,
     r#""use strict";var r=0;var u;try{u.x=r=1}catch(e){r=[r,e.name]}"#,
@@ -51,16 +51,21 @@ static ENDING: [&str; 23] = [
     r#""use strict";var s="abc".substring(1),r=Math.max(1,"5",null)"#,
     r#""use strict";var i,r;if(0){;}else{r="abc"[1]}for(i=0;i<2;i++){}while(i)i--"#,
     r#""use strict";var r=[];for(var i=0,j=3;i<j;i++,j--)r.push(i)"#,
+    r#""use strict";var a=[3,4],o={k:2},r=0;for(var i=0;i<a.length;i++){if(a[i]>3||!i)r=r*10+a[i]-o.k;else r+=o["k"]}r=-r%7"#,
 ];
 
 /// How a run ends otherwise, and a script that ends so.
-static STOPPED: [[&str; 2]; 8] = [
+static STOPPED: [[&str; 2]; 9] = [
     ["outcome thrown {a:1}\n", r#""use strict";throw {a:1}"#],
     [
         "outcome fault NotInProfile\n",
         r#""use strict";var r=0;function P(){};try{new P.x(r=1)}catch(e){r=[r,e.name]}"#,
     ],
     ["outcome fault NotInProfile\n", r#""use strict";ripley.x"#],
+    [
+        "outcome fault OutOfRange\n",
+        r#""use strict";var i=9007199254740991,r=0;r=1-(i+1)"#,
+    ],
     ["outcome fault Hole\n", r#""use strict";var a=[1];a[2]=0"#],
     [
         "outcome limit Fuel\n",

@@ -108,6 +108,10 @@ abbrev pub else_row : Part → Option ℕ → World → Row
 else_row at None w = done w
 else_row at (Some s) w = last (part at s) w
 
+-- the statement that it goes on with, or none
+abbrev pub branch_of : Loaded → Part → Value → World → Option ℕ
+branch_of p at v w = if boolean_of w.pool v then Some (child p at.node 1) else child_at p at.node 2
+
 -- the row of `if`
 abbrev pub if_row : Loaded → Part → World → Row
 if_row p at w =

@@ -327,7 +327,11 @@ fn stepped<H: Host>(
 }
 
 /// The number that a value is, and that one up or down, as values.
-fn numbers_of_step(heap: &Heap, op: StepOperator, v: Value) -> Result<(Value, Value), Fault>
+pub(crate) fn numbers_of_step(
+    heap: &Heap,
+    op: StepOperator,
+    v: Value,
+) -> Result<(Value, Value), Fault>
     ensures { result ≡ numbers_of_step heap.now op v }
 {
     match to_number(heap, v) {

@@ -70,7 +70,7 @@ pub(crate) fn after_logical_left(p: &Source, heap: &Heap, at: &Part, c: &Complet
 }
 
 /// Whether the left operand decides.
-fn is_decided(op: LogicalOperator, truth: bool) -> bool
+pub(crate) fn is_decided(op: LogicalOperator, truth: bool) -> bool
     ensures { result ≡ is_decided op truth }
 {
     match op {

@@ -348,7 +348,7 @@ pub(crate) fn after_for_update(p: &Source, at: &Part, c: &Completion) -> Answer
 
 // DECLARATIONS
 
-fn is_for(form: Form) -> bool
+pub(crate) fn is_for(form: Form) -> bool
     ensures { result ≡ is_for form }
 {
     matches!(form, Form::For)

@@ -42,7 +42,7 @@ fn is_unread(p: &Source, at: &Part) -> bool
     is_type_of(p.unary_operator(at.node)) && is_name(p.form(p.child(at.node, 0)))
 }
 
-fn is_type_of(op: UnaryOperator) -> bool
+pub(crate) fn is_type_of(op: UnaryOperator) -> bool
     ensures { result ≡ is_type_of op }
 {
     matches!(op, UnaryOperator::TypeOf)
@@ -60,7 +60,7 @@ fn is_deleted(p: &Source, at: &Part) -> bool
     is_delete(p.unary_operator(at.node)) && is_member(p.form(p.child(at.node, 0)))
 }
 
-fn is_delete(op: UnaryOperator) -> bool
+pub(crate) fn is_delete(op: UnaryOperator) -> bool
     ensures { result ≡ is_delete op }
 {
     matches!(op, UnaryOperator::Delete)

@@ -1,0 +1,73 @@
+-- Parts that are done at once: their runs, whatever the host and whatever is left.
+use Rattle.std.proofs.Common.{◌≡◌, ℕ, suc, ◌+◌, ◌-◌, ◌<◌, if◌then◌else◌, List, ap, sym, subst, ◌∙◌, arith}
+use Rattle.std.proofs.lemmas.Bool.{ne_eqb}
+use Rattle.rip_heap.specs.World.{World}
+use Rattle.rip_values.specs.declared.value.Limit.TheVariants.{Depth}
+use Rattle.rip_runs.specs.declared.completion.Completion.{Completion}
+use Rattle.rip_runs.specs.declared.completion.Stop.TheVariants.{Limit as AtLimit}
+use Rattle.rip_runs.specs.declared.next.Control.TheVariants.{Enter, Give}
+use Rattle.rip_runs.specs.declared.part.Part.{Part}
+use Rattle.rip_runs.specs.Done.{Comes, Ended, Went, Turned, Done}
+use Rattle.rip_runs.specs.Rest.{rest, unwind}
+use Rattle.rip_runs.specs.Row.{Row, Ends, Halts, Asks, Again, Table}
+use Rattle.rip_runs.specs.Run.{Completes, Calling, follow, run_to, run, ev}
+use Rattle.rip_runs.specs.Stack.{Open}
+use Rattle.rip_runs.proofs.Runs.{run-asks, run-again}
+
+-- a part for which some depth is left goes on as its row does
+ev-enters : {S : Type 0} (h : Calling S) (t : Table) (part : Part) (u : ℕ) (w : World) (s : S) → 0 < part.room
+    → ev h t part (suc u) w s ≡ run h t (part.room - 1) (t.row part w) u s
+ev-enters h t part u w s some =
+    let ne : part.room ≡ 0 → ⊥ = λ e. omega (arith, some, e) in
+    ap (λ full. run h t (part.room - 1) (if full then Halts (AtLimit Depth) w else t.row part w) u s) (ne_eqb part.room 0 ne)
+
+-- the run of a row that comes to a completion completes so, with what is left of the units
+comes-run : {S : Type 0} (h : Calling S) (t : Table) (row : Row) (n : ℕ) (c : Completion) (x : World) → Comes t row n c x
+    → (room u : ℕ) (s : S) → run h t room row (n + u) s ≡ Completes c u x s
+unfolding run_to
+comes-run h t _ _ _ _ (Ended c w) room u s = ap (λ v. Completes c v w s) (omega arith)
+comes-run h t _ _ _ _ (Went part w go n m d c y x some first later) room u s =
+    let sum : 1 + n + m + u ≡ suc (n + (m + u)) = omega arith in
+    ap (λ v. run h t room (Asks part w go) v s) sum
+    ∙ run-asks h t room part w go (suc (n + (m + u))) s
+    ∙ ap (λ a. follow a (λ e v z r. run h t part.room (go e z) v r))
+    (ev-enters h t part (n + (m + u)) w s some ∙ comes-run h t (t.row part w) n d y first (part.room - 1) (m + u) s)
+    ∙ comes-run h t (go d y) m c x later part.room u s
+comes-run h t _ _ _ _ (Turned part w o n m d c y x some first later) room u s =
+    let sum : 1 + n + m + u ≡ suc (n + (m + u)) = omega arith in
+    ap (λ v. run h t room (Again part w o) v s) sum
+    ∙ run-again h t room part w o (suc (n + (m + u))) s
+    ∙ ap (λ a. follow a (λ e v z r. run h t part.room (t.rest o e z) v r))
+    (ev-enters h t part (n + (m + u)) w s some ∙ comes-run h t (t.row part w) n d y first (part.room - 1) (m + u) s)
+    ∙ comes-run h t (t.rest o d y) m c x later part.room u s
+
+-- a part that is done at once completes with these units
+pub ev-done : {S : Type 0} (h : Calling S) (t : Table) (part : Part) (n u : ℕ) (c : Completion) (w x : World) (s : S) → Done t part n w c x
+    → ev h t part (n + u) w s ≡ Completes c u x s
+ev-done h t part n u c w x s done =
+    let sum : n + u ≡ suc (done.0 + u) = omega (arith, done.1) in
+    ap (λ v. ev h t part v w s) sum ∙ ev-enters h t part (done.0 + u) w s done.2
+    ∙ comes-run h t (t.row part w) done.0 c x done.3 (part.room - 1) u s
+
+-- and gives its completion to the innermost frame
+pub rest-done : {S : Type 0} (h : Calling S) (t : Table) (part : Part) (os : List Open) (n l m k : ℕ) (c : Completion) (w x : World) (s : S) → Done t part n w c x → l ≡ n + m
+    → rest h t (Give c) os (m + k) x s ≡ rest h t (Enter part) os (l + k) w s
+unfolding rest
+rest-done h t part os n l m k c w x s done units =
+    let sum : l + k ≡ n + (m + k) = omega (arith, units) in
+    sym (ap (λ v. unwind h t os (ev h t part v w s)) sum ∙ ap (unwind h t os) (ev-done h t part n (m + k) c w x s done))
+
+-- a row that asks for a part which is done at once
+pub asked : (t : Table) (part : Part) (w : World) (go : Completion → World → Row) (n m units : ℕ) (d c : Completion) (y x : World)
+    → Done t part n w d y → Comes t (go d y) m c x → units ≡ n + m → Comes t (Asks part w go) units c x
+asked t part w go n m units d c y x first later sum =
+    let same : 1 + first.0 + m ≡ units = omega (arith, first.1, sum) in
+    subst (λ u. Comes t (Asks part w go) u c x) same (Went part w go first.0 m d c y x first.2 first.3 later)
+
+-- a row that has ended
+pub ended_at : (t : Table) (row : Row) (c : Completion) (w : World) → row ≡ Ends c w → Comes t row 0 c w
+ended_at t row c w is = subst (λ r. Comes t r 0 c w) (sym is) (Ended c w)
+
+-- a row that is another comes where that comes
+pub same_row : (t : Table) (row other : Row) (n : ℕ) (c : Completion) (x : World) → row ≡ other → Comes t row n c x → Comes t other n c x
+same_row t row other n c x is comes = subst (λ r. Comes t r n c x) is comes
