@@ -15,7 +15,8 @@ use Rattle.rip_client.specs.Sizes.{ToldSo}
 use Rattle.rip_client.specs.Truth.{Playing, TellsGesture}
 use Rattle.rip_client.specs.declared.client.HowTold.{HowTold}
 use Rattle.rip_trace.specs.declared.gestures.LinedGesture.{LinedGesture}
-use Rattle.rip_drive.specs.Drivers.{DrivesFrom, EndsSo, IsDriven, IsRefused, Leads, RefusesFrom, RefusesSo, TellsSo}
+use Rattle.rip_whole.specs.declared.play.Over.{Over as Outcome}
+use Rattle.rip_drive.specs.Drivers.{DrivesFrom, EndsSo, IsDriven, IsOpenedAndRefused, IsRefused, Leads, Opening, RefusesFrom, RefusesSo, TellsSo}
 use Rattle.rip_drive.specs.Driving.{Drives, End, batch_lines, end_lines, refused, stopped, whole}
 use Rattle.rip_drive.specs.Driving as driving
 use Rattle.rip_drive.specs.declared.driver.DriveRefusal.{DriveRefusal}
@@ -142,3 +143,9 @@ driven_refused x a g text o m gestures i lined (refusal.Line n) starts within is
     let last = refuses (drop (i + 1) gestures) in
     (before.batches ++ last.0, started x a g text o gestures (before.batches ++ last.0) (refused n) starts (before.leads last.0 (refused n) last.1))
 driven_refused x a g text o m gestures i lined refusal.Memory starts within is reads refuses = tt
+
+-- a gesture is illegal at its place in a session that was opened
+pub opened_refused : {A : Type 0} (x : Playing A Store) (opens : Opening A) (a b : A) (g h : Store) (over : Outcome) (gestures : List LinedGesture) (why : DriveRefusal)
+    → opens a g over b h → over.close ≡ Fine → IsRefused x b h gestures why → IsOpenedAndRefused x opens a g gestures why
+opened_refused x opens a b g h over gestures (refusal.Line n) opened fine is = (over, b, h, opened, fine, is)
+opened_refused x opens a b g h over gestures refusal.Memory opened fine is = tt

@@ -26,7 +26,7 @@ use Rattle.rip_work.specs.declared.items.PageItems.{PageItems}
 use Rattle.rip_whole.specs.Wholes.{IsDoing, IsWhole, calls_behind, given_for}
 use Rattle.rip_whole.specs.declared.play.Over.{Over as Outcome}
 use Rattle.rip_honest.specs.Honest.{next_in}
-use Rattle.rip_drive.specs.Actors.{Does, IsBegun, IsOpened, Replicas, Sits, page_session, seat_of}
+use Rattle.rip_drive.specs.Actors.{Does, IsBegun, IsOpened, OpensPage, Replicas, Sits, page_session, seat_of}
 use Rattle.rip_drive.specs.Driving.{IsPlayed, driven}
 use Rattle.rip_drive.specs.declared.page_actor.PageActor.{PageActor}
 use Rattle.rip_drive.proofs.Simulation.{Follows}
@@ -211,3 +211,12 @@ goes_same s t w x goes e f = subst (λ (b : Browser). GoesWith b x) (sym e) (sub
 pub one_batch : (items : List Item) (item : Item) → items ≡ item ∷ [] → IsItem (reported_of item) → IsBatch (record { number = 1; items = map reported_of items })
 one_batch items item e is =
     subst (λ (xs : List Item). IsBatch (record { number = 1; items = map reported_of xs })) (sym e) (record { from_one = omega arith; bounded = omega arith; few = omega arith; items = (is, tt) })
+
+-- ---- its opening
+
+-- it was played so, whatever is done and whatever service replies
+pub opened_always : (a b : PageActor) (g h : Store) (r : Result Outcome NoMemory)
+    → ((d : Doing Task Browser) (service : Service) → IsBegun a.app d a.session.replica → RepliesAs g service [] → IfOk r (λ over. IsOpened b.app d over b.session.replica h service))
+    → IfOk r (λ over. OpensPage a g over b h)
+opened_always a b g h (Ok over) is = is
+opened_always a b g h (Err why) is = tt

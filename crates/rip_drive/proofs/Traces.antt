@@ -1,5 +1,5 @@
 -- The trace of an application, by what its session comes to.
-use Rattle.std.proofs.Common.{◌≡◌, ℕ, List, [], ◌++◌, ap, subst, ◌∙◌}
+use Rattle.std.proofs.Common.{◌≡◌, ℕ, List, [], ◌++◌, ap, refl, subst, ◌∙◌}
 use Rattle.std.specs.Prelude.{Err, IfErr, Ok, Result}
 use Rattle.rip_runs.specs.declared.close.Close.{Close}
 use Rattle.rip_runs.specs.declared.close.Close.TheVariants.{Fine, Stopped}
@@ -17,8 +17,9 @@ use Rattle.rip_whole.specs.declared.play.Over.{Over as Outcome}
 use Rattle.rip_client.specs.Truth.{Playing}
 use Rattle.rip_honest.specs.Honest.{next_in}
 use Rattle.rip_trace.specs.declared.gestures.LinedGesture.{LinedGesture}
-use Rattle.rip_drive.specs.Actors.{IsOpened, Replicas, Sits, page_session, seat_of}
-use Rattle.rip_drive.specs.Drivers.{IsDriven, IsRefused}
+use Rattle.rip_drive.specs.Actors.{IsBegun, IsOpened, OpensPage, Replicas, Sits, page_session, seat_of}
+use Rattle.rip_drive.specs.Drivers.{IsDriven, IsOpenedAndDriven, IsOpenedAndRefused, IsRefused}
+use Rattle.rip_drive.specs.Drivers as drivers
 use Rattle.rip_drive.specs.Driving.{Drives, DrivesApp, DrivesSession, End, IsRefusal, IsTrace, Opens, batch_lines, driven, end_lines, refused, stopped}
 use Rattle.rip_drive.specs.Driving as driving
 use Rattle.rip_drive.specs.declared.driver.DriveRefusal.{DriveRefusal}
@@ -55,7 +56,7 @@ session_driven d service over a g gestures batches end opened fine drives =
     let count = subst (λ n. Drives y gestures (record { world = r.heap; page = r.host; batch = 0; count = n }) [] 1 [] batches end) opened.begun batch in
     driving.goes_on over.fuel r.heap r.host batches end opens count
 
-pub trace_driven : (app : Loaded) (over : Outcome) (a : PageActor) (g : Store) (gestures : List LinedGesture) (old text : List ℕ)
+trace_driven : (app : Loaded) (over : Outcome) (a : PageActor) (g : Store) (gestures : List LinedGesture) (old text : List ℕ)
     → IsOpened a.app (doing_of app 3 0) over a.session.replica g (service_of app.manifest.functions) → over.close ≡ Fine → old ≡ opening_lines 0
     → IsDriven page_session a g gestures old text → IsTrace app gestures text
 unfolding DrivesApp
@@ -67,7 +68,7 @@ trace_driven app over a g gestures old text opened fine opening is = record {
   is = is.is ∙ ap (λ t. t ++ (batch_lines is.batches ++ end_lines is.end)) opening;
 }
 
-pub refusal_driven : (app : Loaded) (over : Outcome) (a : PageActor) (g : Store) (gestures : List LinedGesture) (r : DriveRefusal)
+refusal_driven : (app : Loaded) (over : Outcome) (a : PageActor) (g : Store) (gestures : List LinedGesture) (r : DriveRefusal)
     → IsOpened a.app (doing_of app 3 0) over a.session.replica g (service_of app.manifest.functions) → over.close ≡ Fine
     → IsRefused page_session a g gestures r → IsRefusal app gestures r
 unfolding DrivesApp
@@ -76,7 +77,7 @@ refusal_driven app over a g gestures (refusal.Line n) opened fine is =
 refusal_driven app over a g gestures refusal.Memory opened fine is = tt
 
 -- a session that a limit or a fault ended in its opening
-pub trace_stopped : (app made : Loaded) (over : Outcome) (r : Replicas) (g : Store) (gestures : List LinedGesture) (item : ℕ) (stop : Stop) (old text : List ℕ)
+trace_stopped : (app made : Loaded) (over : Outcome) (r : Replicas) (g : Store) (gestures : List LinedGesture) (item : ℕ) (stop : Stop) (old text : List ℕ)
     → IsOpened made (doing_of app 3 0) over r g (service_of app.manifest.functions) → over.close ≡ Stopped item stop → old ≡ opening_lines 0
     → text ≡ old ++ end_lines (stopped stop 0) → IsTrace app gestures text
 unfolding DrivesApp
@@ -87,6 +88,22 @@ trace_stopped app made over r g gestures item stop old text opened stops opening
   legal = tt;
   is = is ∙ ap (λ t. t ++ end_lines (stopped stop 0)) opening;
 }
+
+-- the session of an application that was opened and driven
+pub trace_of : (app : Loaded) (a : PageActor) (g : Store) (gestures : List LinedGesture) (text : List ℕ)
+    → IsBegun a.app (doing_of app 3 0) a.session.replica → RepliesAs g (service_of app.manifest.functions) []
+    → IsOpenedAndDriven page_session OpensPage a g gestures text → IsTrace app gestures text
+trace_of app a g gestures text begun replies (drivers.goes_on over b h opens fine is) =
+    trace_driven app over b h gestures (opening_lines 0) text (opens (doing_of app 3 0) (service_of app.manifest.functions) begun replies) fine refl is
+trace_of app a g gestures text begun replies (drivers.stops over b h item stop opens stops is) =
+    trace_stopped app b.app over b.session.replica h gestures item stop (opening_lines 0) text (opens (doing_of app 3 0) (service_of app.manifest.functions) begun replies) stops refl is
+
+pub refusal_of : (app : Loaded) (a : PageActor) (g : Store) (gestures : List LinedGesture) (why : DriveRefusal)
+    → IsBegun a.app (doing_of app 3 0) a.session.replica → RepliesAs g (service_of app.manifest.functions) []
+    → IsOpenedAndRefused page_session OpensPage a g gestures why → IsRefusal app gestures why
+refusal_of app a g gestures (refusal.Line n) begun replies is =
+    refusal_driven app is.0 is.1 is.2 gestures (refusal.Line n) (is.3 (doing_of app 3 0) (service_of app.manifest.functions) begun replies) is.4 is.5
+refusal_of app a g gestures refusal.Memory begun replies is = tt
 
 -- what holds of a refusal where another fact makes it so
 pub on-err : {A E : Type 0} {P Q : E → Type 0} (r : Result A E) → ((e : E) → P e → Q e) → IfErr r P → IfErr r Q

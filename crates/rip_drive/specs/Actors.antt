@@ -63,6 +63,12 @@ pub record IsOpened (app : Loaded) (d : Doing Task Browser) (over : Outcome) (r 
   pub begun : r.runner.planner.begun ≡ 1
   pub replies : RepliesAs g service []
 
+-- the session of a page is opened so, whatever is done in it and whatever service replies
+abbrev pub OpensPage : PageActor → Store → Outcome → PageActor → Store → Type 0
+OpensPage a g over b h =
+    (d : Doing Task Browser) (service : Service) → IsBegun a.app d a.session.replica → RepliesAs g service []
+    → IsOpened b.app d over b.session.replica h service
+
 -- ---- how it is played
 
 -- it turned to a batch, which has no item yet

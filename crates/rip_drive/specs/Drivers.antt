@@ -9,6 +9,8 @@ use Rattle.rip_client.specs.Sizes.{ToldSo}
 use Rattle.rip_client.specs.Truth.{Playing}
 use Rattle.rip_client.specs.declared.client.HowTold.{HowTold}
 use Rattle.rip_trace.specs.declared.gestures.LinedGesture.{LinedGesture}
+use Rattle.rip_said.specs.Said.{opening_lines}
+use Rattle.rip_whole.specs.declared.play.Over.{Over as Outcome}
 use Rattle.rip_drive.specs.Driving.{AreLegal, Drives, End, batch_lines, end_lines, refused, stopped}
 use Rattle.rip_drive.specs.declared.driver.DriveRefusal.{DriveRefusal}
 use Rattle.rip_drive.specs.declared.driver.DriveRefusal.TheVariants as refusal
@@ -62,3 +64,20 @@ pub record IsDriven {A : Type 0} (x : Playing A Store) (a : A) (g : Store) (gest
 abbrev pub IsRefused : {A : Type 0} → Playing A Store → A → Store → List LinedGesture → DriveRefusal → Type 0
 IsRefused x a g gestures (refusal.Line n) = (batches : List Contents) × Drives x gestures a g 1 [] batches (refused n)
 IsRefused x a g gestures refusal.Memory = Unit {0}
+
+-- a session opens so: it, what gives replies, how its opening came out, and both then
+abbrev pub Opening : Type 0 → Type 1
+Opening A = A → Store → Outcome → A → Store → Type 0
+
+-- a session was opened so and is fine, and these gestures were told in it, up to one at which it ended; or a limit or a fault
+-- ended it in its opening
+pub data IsOpenedAndDriven {A : Type 0} (x : Playing A Store) (opens : Opening A) (a : A) (g : Store) (gestures : List LinedGesture) (text : List ℕ) : Type 0 where
+  goes_on : (over : Outcome) (b : A) (h : Store) → opens a g over b h → over.close ≡ Fine → IsDriven x b h gestures (opening_lines 0) text → IsOpenedAndDriven x opens a g gestures text
+  stops : (over : Outcome) (b : A) (h : Store) (item : ℕ) (stop : Stop) → opens a g over b h → over.close ≡ Stopped item stop → text ≡ opening_lines 0 ++ end_lines (stopped stop 0)
+      → IsOpenedAndDriven x opens a g gestures text
+
+-- it was opened so and is fine, and a gesture was refused in it; or memory was wanting
+abbrev pub IsOpenedAndRefused : {A : Type 0} → Playing A Store → Opening A → A → Store → List LinedGesture → DriveRefusal → Type 0
+IsOpenedAndRefused {A} x opens a g gestures (refusal.Line n) =
+    (over : Outcome) × (b : A) × (h : Store) × opens a g over b h × (over.close ≡ Fine) × IsRefused x b h gestures (refusal.Line n)
+IsOpenedAndRefused x opens a g gestures refusal.Memory = Unit {0}

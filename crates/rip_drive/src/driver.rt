@@ -2,12 +2,12 @@ ghost use Rattle.std.specs.Prelude.{◌≡◌, ◌++◌, ◌∷◌, All, IfErr, 
 ghost use Rattle.rip_client.specs.Bytes.{batches_of};
 ghost use Rattle.rip_client.specs.Sizes.{IsGesture};
 ghost use Rattle.rip_trace.specs.declared.gestures.LinedGesture.{LinedGesture as Lined};
-ghost use Rattle.rip_drive.specs.Drivers.{EndsSo, IsDriven, IsRefused, RefusesFrom, RefusesSo, TellsSo};
+ghost use Rattle.rip_drive.specs.Drivers.{EndsSo, IsDriven, IsOpenedAndDriven, IsOpenedAndRefused, IsRefused, RefusesFrom, RefusesSo, TellsSo};
 ghost use Rattle.rip_drive.specs.Driving.{batch_lines, stop_reason};
 
 use rip_client::{Actor, Client, HowTold, ToldBatch};
 use rip_runs::{Close, Stop};
-use rip_said::{write_batch_line, write_ended};
+use rip_said::{write_batch_line, write_ended, write_opening};
 use rip_store::Store;
 use rip_trace::LinedGesture;
 use rip_values::{Bytes, NoMemory, Writer};
@@ -37,6 +37,24 @@ impl From<NoMemory> for DriveRefusal {
     }
 }
 
+/// A session whose opening is played before its first batch.
+pub(crate) trait Openable {
+    ghost use Rattle.std.specs.Prelude.{IfOk};
+    ghost use Rattle.rip_store.specs.declared.store.Store.{Store as Kept};
+    ghost use Rattle.rip_whole.specs.declared.play.Over.{Over as Outcome};
+
+    // Its opening is played so, with the store before and behind.
+    ghost opens: { Self → Kept → Outcome → Self → Kept → Type 0 };
+
+    /// Plays the one item of the opening.
+    fn play_opening(
+        &mut self,
+        alloc: Global,
+        store: &mut Store,
+    ) -> Result<rip_whole::Over, NoMemory>
+        ensures { IfOk result (λ over. opens self.old store.old over self.new store.new) };
+}
+
 /// A client that is driven, the store that gives it replies, and the trace so far.
 #[derive(Drop)]
 pub(crate) struct Driver<A> {
@@ -45,8 +63,31 @@ pub(crate) struct Driver<A> {
     text: Writer,
 }
 
+/// Opens a session, and tells the gestures in it: the trace of that.
+pub(crate) fn open_and_tell<A: Actor<Store> + Openable + Drop>(
+    alloc: Global,
+    mut actor: A,
+    mut store: Store,
+    gestures: &[LinedGesture],
+) -> Result<Bytes, DriveRefusal>
+    requires { All (λ lined. IsGesture lined.gesture) gestures.now }
+    ensures told { IfOk result (IsOpenedAndDriven A.session A.opens actor store gestures.now) }
+    ensures refused { IfErr result (IsOpenedAndRefused A.session A.opens actor store gestures.now) }
+{
+    let mut text = Writer::new(alloc);
+    write_opening(&mut text, 0)?;
+    match actor.play_opening(alloc, &mut store)?.close {
+        Close::Fine => tell_all(alloc, actor, store, text, gestures),
+        Close::Stopped { stop, .. } => {
+            write_ended(&mut text, reason_of(stop), 0)?;
+            Ok(text.into_bytes())
+        }
+        Close::Refused { .. } | Close::Mismatch { .. } => Err(DriveRefusal::Memory),
+    }
+}
+
 /// Tells the gestures in a session that was opened, up to one at which it ends. They go behind this text.
-pub(crate) fn tell_all<A: Actor<Store> + Drop>(
+fn tell_all<A: Actor<Store> + Drop>(
     alloc: Global,
     actor: A,
     store: Store,
@@ -110,7 +151,7 @@ fn stop_of(how: HowTold, line: u64) -> Result<Option<Stop>, DriveRefusal>
 }
 
 /// The reason of a limit or a fault.
-pub(crate) fn reason_of(stop: Stop) -> Reason
+fn reason_of(stop: Stop) -> Reason
     ensures { result ≡ stop_reason stop }
 {
     match stop {

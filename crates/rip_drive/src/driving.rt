@@ -3,14 +3,12 @@ ghost use Rattle.rip_client.specs.Sizes.{IsGesture};
 ghost use Rattle.rip_course.specs.Services.{RepliesAs, service_of};
 ghost use Rattle.rip_drive.specs.Driving.{IsRefusal, IsTrace};
 
-use crate::driver::{DriveRefusal, reason_of, tell_all};
+use crate::driver::{DriveRefusal, open_and_tell};
 use crate::page_actor::PageActor;
 use rip_app::App;
-use rip_runs::Close;
-use rip_said::{write_ended, write_opening};
 use rip_store::Store;
 use rip_trace::Gestures;
-use rip_values::{Bytes, NoMemory, Writer};
+use rip_values::{Bytes, NoMemory};
 use std::alloc::Global;
 
 /// The random seed of the session.
@@ -22,18 +20,9 @@ pub fn drive(alloc: Global, app: App, gestures: &Gestures) -> Result<Bytes, Driv
     ensures told { IfOk result (λ text. IsTrace app gestures.now text) }
     ensures refused { IfErr result (λ why. IsRefusal app gestures.now why) }
 {
-    let mut store = store_of(alloc, &app)?;
-    let mut actor = PageActor::make(alloc, app, SEED)?;
-    let mut text = Writer::new(alloc);
-    write_opening(&mut text, 0)?;
-    match actor.open(alloc, &mut store)?.close {
-        Close::Fine => tell_all(alloc, actor, store, text, gestures.as_slice()),
-        Close::Stopped { stop, .. } => {
-            write_ended(&mut text, reason_of(stop), 0)?;
-            Ok(text.into_bytes())
-        }
-        Close::Refused { .. } | Close::Mismatch { .. } => Err(DriveRefusal::Memory),
-    }
+    let store = store_of(alloc, &app)?;
+    let actor = PageActor::make(alloc, app, SEED)?;
+    open_and_tell(alloc, actor, store, gestures.as_slice())
 }
 
 /// The store of an application, before any call.

@@ -7,6 +7,7 @@ ghost use Rattle.rip_wire.specs.Items.{IsItem, reported_of};
 ghost use Rattle.rip_work.specs.Tasks.{Task, reports};
 ghost use Rattle.rip_drive.specs.Actors.{IsBegun, IsOpened};
 
+use crate::driver::Openable;
 use crate::opening::open_session;
 use rip_app::App;
 use rip_client::{Actor, Over, WaitingCall};
@@ -43,6 +44,20 @@ impl PageActor {
     {
         let program = self.app.program();
         play_next(alloc, &mut self.session.replica, program, store, 0)
+    }
+}
+
+impl Openable for PageActor {
+    ghost use Rattle.rip_drive.specs.Actors.{OpensPage};
+
+    ghost opens = { OpensPage };
+
+    fn play_opening(
+        &mut self,
+        alloc: Global,
+        store: &mut Store,
+    ) -> Result<rip_whole::Over, NoMemory> {
+        self.open(alloc, store)
     }
 }
 
