@@ -1,12 +1,13 @@
 -- What is put by serving is legal.
-use Rattle.std.proofs.Common.{◌≡◌, ◌⊎◌, inl, inr, ℕ, ◌+◌, ◌≤◌, List, [], ◌∷◌, ◌++◌, length, Option, Some, None, refl, sym, ap, ◌∙◌, subst, arith, append-nil}
+use Rattle.std.proofs.Common.{◌≡◌, ◌⊎◌, inl, inr, ℕ, ◌+◌, ◌<◌, ◌≤◌, ◌^◌, List, [], ◌∷◌, ◌++◌, length, Option, Some, None, refl, sym, ap, ◌∙◌, subst, arith, append-nil}
 use Rattle.std.specs.Prelude.{unwrap_or}
 use Rattle.std.proofs.lemmas.List.Concat.{flat_map-append}
 use Rattle.rip_outer.specs.Outside.{also, Front}
 use Rattle.rip_outer.specs.declared.connections.TraceKnock.{TraceKnock}
 use Rattle.rip_outer.proofs.Composing.{also-nil, Front-none, Front-after, Front-longer}
 use Rattle.rip_log.specs.Entries.{Recorded, ended, entry_text}
-use Rattle.rip_log.specs.Histories.{history_text}
+use Rattle.rip_log.specs.Histories.{history_text, IsHistory}
+use Rattle.rip_log.specs.Ranges.{IsLong}
 use Rattle.rip_course.specs.Connections.{Act, puts, sends, loses, shuts, put_in}
 use Rattle.rip_course.specs.Parts.{IsLawful}
 use Rattle.rip_course.specs.Run.{Site, State, first_state, Coming, turn_acts}
@@ -15,12 +16,15 @@ use Rattle.rip_legal.specs.Broken.{BreaksOff}
 use Rattle.rip_legal.specs.Legal.{history_of}
 use Rattle.rip_legal.proofs.BrokenLemmas.{broken_runs_put}
 use Rattle.rip_legal.proofs.EndLemmas.{runs_end, runs_put, turns-puts}
+use Rattle.rip_legal.proofs.MadeLemmas.{all-join, all-maps}
 use Rattle.rip_legal.proofs.RunLemmas.{runs_are_courses}
 use Rattle.rip_legal.proofs.StreamLemmas.{streams_are_handled}
+use Rattle.rip_ranged.specs.Ranged.{AreTimed}
+use Rattle.rip_ranged.proofs.RunLemmas.{logs_are_in_range, broken_runs_are_in_range}
 use Rattle.rip_server.specs.Acts.{Seen, InPart, Stopped}
 use Rattle.rip_turn.specs.Turning.{Source, Outer, Gives, StopsIn, at_knock, behind}
-use Rattle.rip_serve.specs.Legal.{AreLegal, IsDoneWith, AreGiven, IsLegalRun, IsLegalFront, IsCutRun, ServedIsLegal}
-use Rattle.rip_serve.specs.Serving.{moments_of, words_of, AreKnocks, Tells, Ran, BreaksInTurn, OnlyPuts, BreaksAtEnd, Breaks, unmade, in_turn, at_end}
+use Rattle.rip_serve.specs.Legal.{AreLegal, IsDoneWith, AreGiven, ArePutInRange, IsLegalRun, IsLegalFront, IsCutRun, ServedIsLegal}
+use Rattle.rip_serve.specs.Serving.{moments_of, words_of, AreTimely, AreKnocks, Tells, Ran, BreaksInTurn, OnlyPuts, BreaksAtEnd, Breaks, unmade, in_turn, at_end}
 use Rattle.rip_serve.specs.declared.serving.Stop.TheVariants.{Idle, TurnsSpent, Outside, Memory}
 use Rattle.rip_serve.proofs.TellLemmas.{log-append, gives_none}
 
@@ -46,6 +50,17 @@ done-with : (site : Site) (most status : ℕ) (ts : List Coming) (acts : List Ac
 done-with site most status ts acts lawful run none =
     (runs_end site (Some most) ts acts lawful).0 (subst (λ (n : ℕ). IsRun site (Some most) ts n acts) none run)
 
+-- a moment of 53 bits is one of 64
+timed : (ts : List Coming) → AreTimely ts → AreTimed ts
+timed ts timely = all-maps (λ (t : Coming). t.moment < 2 ^ 53) (λ (t : Coming). IsLong t.moment) (λ t lt. omega (arith, lt)) ts timely
+
+ranged : (site : Site) (most status : ℕ) (ts : List Coming) (acts : List Act) → IsLawful site.meaning → AreTimely ts
+    → IsRun site (Some most) ts status acts → ArePutInRange site most (history_of site ts ++ ended (length ts) status ∷ [])
+ranged site most status ts acts lawful timely run bound means replies =
+    let few : length ts ≤ most = few-turns site most status ts run.stops in
+    subst IsHistory (runs_put site (Some most) ts status acts run)
+    (logs_are_in_range site (Some most) ts status acts lawful means replies (omega (arith, few, bound)) (timed ts timely) run)
+
 pub legal_run : (site : Site) (most status : ℕ) (old new : Outer) → IsLawful site.meaning → Ran site most status old new
     → IsLegalRun site most status old new
 legal_run site most status old new lawful r = record {
@@ -55,6 +70,7 @@ legal_run site most status old new lawful r = record {
   legal = legal site r.turns lawful r.run.turns;
   stops = r.run.stops;
   done = done-with site most status r.turns r.acts lawful r.run;
+  in_range = ranged site most status r.turns r.acts lawful r.tells.timely r.run;
   put = r.tells.held ∙ ap (λ (h : List Recorded). also (history_text h) old.seen.held) (runs_put site (Some most) r.turns status r.acts r.run);
 }
 
@@ -108,6 +124,9 @@ front site ts t old new lawful are go is f =
           (Front-longer (history_text (put_in acts)) (history_text k.behind) old new f),
     )
 
+long : (moment : ℕ) → moment < 2 ^ 53 → IsLong moment
+long moment lt = omega (arith, lt)
+
 turn-front : (site : Site) (most : ℕ) (old new : Outer) → IsLawful site.meaning → BreaksInTurn site most old new → IsLegalFront site most old new
 turn-front site most old new lawful b =
     let before = turns_acts site 1 first_state b.turns in
@@ -131,6 +150,10 @@ turn-front site most old new lawful b =
       words = b.last.words;
       history = f.0;
       broken = f.1;
+      in_range = λ bound means replies.
+          broken_runs_are_in_range site b.turns b.last.coming f.0 lawful means replies (omega (arith, b.few, bound))
+          (all-join (λ (t : Coming). IsLong t.moment) b.turns (b.last.coming ∷ []) (timed b.turns b.tells.timely)
+          (long b.last.coming.moment b.last.timely, tt)) b.made b.last.broken f.1;
       put = f.2;
     }
 
@@ -158,6 +181,8 @@ unmade-front site most old new lawful e =
       words = subst (λ (o : Outer). Gives [] old.words o.words) (sym e) (gives_none old.words);
       history = f.0;
       broken = f.1;
+      in_range = λ bound means replies.
+          broken_runs_are_in_range site [] nothing f.0 lawful means replies (omega arith) (omega arith, tt) tt last f.1;
       put = f.2;
     }
 
@@ -176,6 +201,7 @@ cut-run site most old new lawful b =
       legal = legal site b.turns lawful b.run.turns;
       stops = b.run.stops;
       done = done-with site most b.status b.turns b.acts lawful b.run;
+      in_range = ranged site most b.status b.turns b.acts lawful b.tells.timely b.run;
       put = subst (λ (t : List ℕ). Front t old.seen.held new.seen.held) (sym text)
           (Front-after (history_text (put_in before)) (entry_text last) old.seen.held b.between.seen.held new.seen.held b.tells.held b.line);
     }

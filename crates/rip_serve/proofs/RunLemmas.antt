@@ -145,6 +145,7 @@ ran site most status made old mid new m put only =
         asks = m.tells.asks;
         asked = ap (λ (s : Seen). s.asked) only.seen ∙ m.tells.asked;
         moments = subst (λ (s : Source). Gives (moments_of m.turns) old.clock s) (sym only.clock) m.tells.moments;
+        timely = m.tells.timely;
         words = subst (λ (s : Source). Gives (words_of m.turns) old.words s) (sym only.words) m.tells.words;
       };
     }

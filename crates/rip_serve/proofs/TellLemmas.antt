@@ -15,7 +15,7 @@ use Rattle.rip_course.specs.Runs.{after_turns, turns_acts, knock_told, turns_tol
 use Rattle.rip_legal.proofs.EndLemmas.{put-join}
 use Rattle.rip_server.specs.Acts.{shut_by}
 use Rattle.rip_turn.specs.Turning.{Source, Outer, Come, Gives, knocks_of, TellsTurn}
-use Rattle.rip_serve.specs.Serving.{moments_of, words_of, AreKnocks, Tells}
+use Rattle.rip_serve.specs.Serving.{moments_of, words_of, AreTimely, AreKnocks, Tells}
 use Rattle.rip_serve.proofs.TurnLemmas.{first-number, next-number}
 
 -- what is told of turns, one after another
@@ -247,6 +247,10 @@ words site turn s (t ∷ ts) old new (mid, one, more) =
     gives_then t.words (words_of ts) old.words mid.words new.words one.words
     (words site (turn + 1) (after_turn site turn t s) ts mid new more)
 
+timely : (site : Site) (turn : ℕ) (s : State) (ts : List Coming) (old new : Outer) → EachTold site turn s ts old new → AreTimely ts
+timely site turn s [] old new e = tt
+timely site turn s (t ∷ ts) old new (mid, one, more) = (one.timely, timely site (turn + 1) (after_turn site turn t s) ts mid new more)
+
 -- ---- all that is told
 
 pub all_told : (site : Site) (ts : List Coming) (old new : Outer) → EachTold site 1 first_state ts old new
@@ -263,6 +267,7 @@ all_told site ts old new each =
       asks = questions.asks;
       asked = questions.asked;
       moments = moments site 1 first_state ts old new each;
+      timely = timely site 1 first_state ts old new each;
       words = words site 1 first_state ts old new each;
     }
 

@@ -1,8 +1,8 @@
 -- What is put by serving is a legal course.
-use Rattle.std.specs.Prelude.{◌≡◌, ◌⊎◌, ℕ, ◌≤◌, List, [], ◌∷◌, ◌++◌, length, Some}
+use Rattle.std.specs.Prelude.{◌≡◌, ◌⊎◌, ℕ, ◌<◌, ◌≤◌, ◌^◌, List, [], ◌∷◌, ◌++◌, length, Some}
 use Rattle.rip_outer.specs.Outside.{Front, also}
 use Rattle.rip_log.specs.Entries.{Recorded, ended}
-use Rattle.rip_log.specs.Histories.{history_text}
+use Rattle.rip_log.specs.Histories.{history_text, IsHistory}
 use Rattle.rip_course.specs.Course.{IsCourse}
 use Rattle.rip_course.specs.Parts.{IsLawful}
 use Rattle.rip_course.specs.Run.{Site, first_state, Coming}
@@ -12,6 +12,7 @@ use Rattle.rip_course.specs.declared.standing.Standing.{Standing}
 use Rattle.rip_legal.specs.Broken.{BreaksOff}
 use Rattle.rip_legal.specs.Legal.{course_turns, told_in, history_of}
 use Rattle.rip_legal.specs.Streams.{IsStream}
+use Rattle.rip_ranged.specs.Ranged.{MeansInRange, RepliesInRange}
 use Rattle.rip_turn.specs.Turning.{Outer, Gives}
 use Rattle.rip_serve.specs.Serving.{moments_of, words_of, AreKnocks, Serves}
 use Rattle.rip_serve.specs.declared.serving.Stop.{Stop}
@@ -33,6 +34,11 @@ pub record AreGiven (site : Site) (ts : List Coming) (old new : Outer) : Type 0 
   pub moments : Gives (moments_of ts) old.clock new.clock
   pub words : Gives (words_of ts) old.words new.words
 
+-- each entry that is put is in range, where what sessions and service do is, and turns are counted by 64 bits
+abbrev pub ArePutInRange : Site → ℕ → List Recorded → Type 0
+ArePutInRange site most history =
+    most < 2 ^ 64 → MeansInRange site.meaning → RepliesInRange site.service → IsHistory history
+
 -- the sink holds the text of a legal course of at most so many turns, and its status, behind what it held
 pub record IsLegalRun (site : Site) (most status : ℕ) (old new : Outer) : Type 0 where
   pub turns : List Coming
@@ -41,6 +47,7 @@ pub record IsLegalRun (site : Site) (most status : ℕ) (old new : Outer) : Type
   pub legal : AreLegal site turns
   pub stops : StopsWith site (Some most) turns status
   pub done : IsDoneWith status (history_of site turns)
+  pub in_range : ArePutInRange site most (history_of site turns ++ ended (length turns) status ∷ [])
   pub put : new.seen.held ≡ also (history_text (history_of site turns ++ ended (length turns) status ∷ [])) old.seen.held
 
 -- or a front of the text of a legal course and its status
@@ -52,6 +59,7 @@ pub record IsCutRun (site : Site) (most : ℕ) (old new : Outer) : Type 0 where
   pub legal : AreLegal site turns
   pub stops : StopsWith site (Some most) turns status
   pub done : IsDoneWith status (history_of site turns)
+  pub in_range : ArePutInRange site most (history_of site turns ++ ended (length turns) status ∷ [])
   pub put : Front (history_text (history_of site turns ++ ended (length turns) status ∷ [])) old.seen.held new.seen.held
 
 -- or a front of the text of a legal course, and of what a turn that broke off did behind it: its words were given, and its
@@ -69,6 +77,7 @@ pub record IsLegalFront (site : Site) (most : ℕ) (old new : Outer) : Type 0 wh
   pub words : Gives last.words between.words new.words
   pub history : List Recorded
   pub broken : BreaksOff site (length turns) (history_of site turns) last history
+  pub in_range : ArePutInRange site most history
   pub put : Front (history_text history) old.seen.held new.seen.held
 
 -- what is put is a legal course and its status; or a front of one, where serving breaks off

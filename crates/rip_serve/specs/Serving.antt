@@ -1,6 +1,6 @@
 -- What serving does: a run of the machine, and what is told of it outside.
-use Rattle.std.specs.Prelude.{◌≡◌, ◌⊎◌, ℕ, ◌+◌, ◌<◌, Bool, List, [], ◌∷◌, length, map, count_by, Option, Some}
-use Rattle.std.specs.List.{flat_map}
+use Rattle.std.specs.Prelude.{◌≡◌, ◌⊎◌, ℕ, ◌+◌, ◌<◌, ◌^◌, Bool, List, [], ◌∷◌, length, map, count_by, Option, Some}
+use Rattle.std.specs.List.{AllByRecursion, flat_map}
 use Rattle.rip_outer.specs.Connections.{Told, is_knock}
 use Rattle.rip_outer.specs.Outside.{Rose, Front, also, before}
 use Rattle.rip_outer.specs.declared.connections.TraceKnock.{TraceKnock}
@@ -20,6 +20,10 @@ moments_of ts = map (λ (t : Coming). t.moment) ts
 
 abbrev pub words_of : List Coming → List ℕ
 words_of ts = flat_map (λ (t : Coming). t.words) ts
+
+-- the moments of turns have at most 53 bits
+abbrev pub AreTimely : List Coming → Type 0
+AreTimely ts = AllByRecursion (λ (t : Coming). t.moment < 2 ^ 53) ts
 
 -- the knock of each turn is the first that is left, or none is; and then nothing is told any more of a connection that was
 -- found gone or is shut
@@ -41,6 +45,7 @@ pub record Tells (site : Site) (ts : List Coming) (acts : List Act) (old new : O
   pub asks : AreAsked site 1 first_state ts busy
   pub asked : new.seen.asked ≡ also busy old.seen.asked
   pub moments : Gives (moments_of ts) old.clock new.clock
+  pub timely : AreTimely ts
   pub words : Gives (words_of ts) old.words new.words
 
 -- a whole run of at most so many turns, with its last line

@@ -1,2 +1,3 @@
+pub mod LimitLemmas
 pub mod OpeningLemmas
 pub mod SessionLemmas

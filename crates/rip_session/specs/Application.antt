@@ -16,6 +16,7 @@ use Rattle.rip_work.specs.Endings.{ending_of}
 use Rattle.rip_work.specs.Plans.{left_of_work, work_plan}
 use Rattle.rip_work.specs.Serving.{may_serve, moment_of, served}
 use Rattle.rip_work.specs.Tasks.{Task, opens, fact_of, tasks_of}
+use Rattle.rip_session.specs.Limits.{HasLimits, PassesNoLimit}
 use Rattle.rip_session.specs.Opening.{opened_of}
 
 -- what runs of its program mean over a browser
@@ -41,6 +42,8 @@ doing_of app seed time = record {
 abbrev pub meaning_of_app : Loaded → Meaning
 meaning_of_app app = meaning_of (doing_of app)
 
--- a session of it stands at a stage
-abbrev pub StandsAt : Loaded → Replica Standing PageItems Task Browser → Stage → Type 0
-StandsAt app r st = IsAtStage (runs_of app) (doing_of app) (λ items. work_plan items.batches.batch) left_of_work may_serve r st
+-- a session of it stands at a stage; its heap has the limits of the manifest, and passes none of them
+pub record StandsAt (app : Loaded) (r : Replica Standing PageItems Task Browser) (st : Stage) : Type 0 where
+  pub stage : IsAtStage (runs_of app) (doing_of app) (λ items. work_plan items.batches.batch) left_of_work may_serve r st
+  pub limits : HasLimits app.manifest.limits r.heap
+  pub within : PassesNoLimit app.manifest.limits r.heap

@@ -1,4 +1,5 @@
 pub mod Application
 pub mod Kept
 pub mod Lawful
+pub mod Limits
 pub mod Opening

@@ -1,10 +1,11 @@
-ghost use Rattle.std.specs.Prelude.{◌≡◌};
+ghost use Rattle.std.specs.Prelude.{◌≡◌, ◌≤◌};
 ghost use Rattle.std.proofs.Props.{props};
 ghost use Rattle.rip_session.specs.Kept.{GoesWith};
 
 use crate::opening::{Opened, open};
 use rip_app::App;
 use rip_course::{Made, Progress, Service, Sessions, Slice};
+use rip_heap::Heap;
 use rip_host::Browser;
 use rip_machine::Machine;
 use rip_replica::Replica;
@@ -60,6 +61,7 @@ impl<'a> Sessions for Application<'a> {
             browser,
             start,
         } = open(alloc, self.app, seed, moment_of(time))?;
+        is_within(&heap);
         let limits = self.app.limits();
         let items = PageItems::make(alloc, limits.nodes)?;
         let opening = Work::opens(start);
@@ -87,6 +89,24 @@ impl<'a> Sessions for Application<'a> {
         made: &mut Made,
     ) -> Progress {
         let program = self.app.program();
-        rip_lawful::resume(&mut session.replica, alloc, program, service, slice, made)
+        let progress = rip_lawful::resume(
+            &mut session.replica,
+            alloc,
+            program,
+            service,
+            slice,
+            made,
+        );
+        is_within(&session.replica.heap);
+        progress
     }
+}
+
+/// No work, and what holds of each heap: it passes no limit of its own.
+fn is_within(heap: &Heap)
+    ensures cells { heap.now.cells ≤ heap.now.limit }
+    ensures units { heap.now.pool.used ≤ heap.now.pool.limit }
+{
+    let _ = heap.free_cells();
+    let _ = heap.pool().free();
 }

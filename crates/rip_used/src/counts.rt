@@ -1,10 +1,15 @@
 ghost use Rattle.std.specs.Prelude.{◌≡◌, ◌≤◌};
+ghost use Rattle.rip_app.specs.App.{Loaded};
+ghost use Rattle.rip_course.specs.Stages.{Stage};
+ghost use Rattle.rip_session.specs.Application.{StandsAt};
+ghost use Rattle.rip_used.specs.Sessions.{IsAllowed};
 ghost use Rattle.rip_used.specs.Within.{IsWithin, used_in};
 
 use rip_heap::Heap;
 use rip_host::Browser;
 use rip_machine::Machine;
 use rip_replica::Replica;
+use rip_session::Session;
 
 /// What a session has taken of its limits.
 #[derive(Clone, Copy, Debug, PartialEq, Eq)]
@@ -55,4 +60,15 @@ pub fn used_by<I, T>(replica: &Replica<Machine, I, T, Browser>) -> Used
         waiting: replica.host.calls.used(),
         replies: replica.host.undelivered.count(),
     }
+}
+
+/// What a session of an application has taken, at whatever stage it stands: no count passes its limit, and the heap passes
+/// none of the manifest's.
+pub fn used_by_session(session: &Session) -> Used
+    ensures used { result ≡ used_in session.now.replica.heap session.now.replica.runner.evaluator session.now.replica.host }
+    ensures within { IsWithin result session.now.replica.heap session.now.replica.runner.evaluator session.now.replica.host }
+    ensures allowed { (app : Loaded) (st : Stage) → StandsAt app session.now.replica st
+        → IsAllowed app.manifest.limits result }
+{
+    used_by(&session.replica)
 }

@@ -1,10 +1,17 @@
-//! How much of its limits a session has taken: no count passes its limit.
+//! How much of its limits a session has taken: no count passes its limit, and no heap passes a limit of the manifest.
 //!
 //! | what | its definition in `specs/` |
 //! |---|---|
 //! | [`used_by`] | `Within.used_in`, within `Within.IsWithin` |
+//! | [`used_by_session`] | the same, and within `Sessions.IsAllowed` |
+//!
+//! | law | its definition |
+//! |---|---|
+//! | [`sessions_stay_within`] | `Sessions.SessionsStayWithin` |
 #![tactic(auto)]
 
 mod counts;
+mod laws;
 
-pub use counts::{Used, used_by};
+pub use counts::{Used, used_by, used_by_session};
+pub use laws::sessions_stay_within;

@@ -1,10 +1,11 @@
 use Rattle.std.proofs.Common.{◌≡◌, refl, sym, ap, ◌∙◌}
+use Rattle.rip_course.specs.Stages.{begun}
 use Rattle.rip_work.specs.Serving.{moment_of}
 use Rattle.rip_work.specs.Tasks.{opens}
 use Rattle.rip_session.specs.declared.opening.Opened.{Opened}
 use Rattle.rip_session.specs.Application.{doing_of, runs_of}
 use Rattle.rip_session.specs.Opening.{opened_of}
-use Rattle.rip_session.proofs.SessionLemmas.{done_by, opened_goes}
+use Rattle.rip_session.proofs.SessionLemmas.{begin_stands, done_by, opened_goes}
 use Rattle.rip_session.proofs.application.ApplicationSessions.begin.Goals as goal
 
 pub invariant_of-result : goal.invariant_of-result
@@ -17,9 +18,11 @@ pub returns : goal.returns
 returns c =
     let is : c.in_ok-heap.field-0 ≡ opened_of c.args.self.now.app.now c.args.seed (moment_of c.args.time) =
     c.in_ok-heap.ensures.opened ∙ ap (opened_of c.args.self.now.app.now c.args.seed) c.moment_of.ensures in
-    c.in_ok-open.ensures.begun c.args.self.now.app.now.program (doing_of c.args.self.now.app.now) c.args.seed c.args.time (done_by c.args.self.now.app.now)
+    begin_stands c.args.self.now.app.now c.args.seed (moment_of c.args.time) c.in_ok-heap.field-0 (begun c.args.seed c.args.time) c.in_ok-open.field-0 is
+    c.in_ok-open.ensures.world.0 c.is_within.ensures.cells c.is_within.ensures.units
+    (c.in_ok-open.ensures.begun c.args.self.now.app.now.program (doing_of c.args.self.now.app.now) c.args.seed c.args.time (done_by c.args.self.now.app.now)
     (ap (λ m. (runs_of c.args.self.now.app.now).run m) (sym (ap (λ (o : Opened). o.machine) is)))
     (sym (ap (λ l. l.fuel) c.limits-limits.ensures.value))
     (ap opens (sym (ap (λ (o : Opened). o.start) is)) ∙ sym c.opens-opening.ensures)
     (sym (ap (λ (o : Opened). o.heap) is))
-    (sym (ap (λ (o : Opened). o.browser) is))
+    (sym (ap (λ (o : Opened). o.browser) is)))

@@ -4,6 +4,7 @@ use Rattle.rip_session.proofs.application.ApplicationSessions.resume.Goals as go
 
 pub returns : goal.returns
 returns g c = λ st replies calls at undone served.
-    resume_stands c.args.self.now.app.now c.program-program.result.now st replies calls c.args.slice.now c.args.made.now c.resume.new.made c.resume.result
-    c.args.session.now.replica c.resume.new.replica (g.V.Service.replies_as c.resume.new.service replies) c.program-program.ensures
-    (λ x y. c.resume.ensures.resumed (doing_of c.args.self.now.app.now) st replies calls (done_by c.args.self.now.app.now) x y served) at undone
+    resume_stands c.args.self.now.app.now c.program-program.result.now st replies calls c.args.slice.now c.args.made.now c.resume-progress.new.made c.resume-progress.result
+    c.args.session.now.replica c.resume-progress.new.replica (g.V.Service.replies_as c.resume-progress.new.service replies) c.program-program.ensures
+    (λ x y. c.resume-progress.ensures.resumed (doing_of c.args.self.now.app.now) st replies calls (done_by c.args.self.now.app.now) x y served)
+    c.resume-progress.ensures.grows c.is_within.ensures.cells c.is_within.ensures.units at undone

@@ -1,0 +1,2 @@
+mod CloseLemmas
+pub mod PartLemmas

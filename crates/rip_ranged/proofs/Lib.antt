@@ -1,0 +1,5 @@
+mod DecidedLemmas
+mod IdentifierLemmas
+mod MadeLemmas
+pub mod RunLemmas
+mod ServiceLemmas

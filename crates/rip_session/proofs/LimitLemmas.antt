@@ -1,0 +1,103 @@
+-- The heap of a session has the limits of the manifest as it is opened, and keeps them.
+use Rattle.std.proofs.Common.{◌≡◌, ℕ, ℤ, ◌≤◌, Bool, true, false, List, [], ◌∷◌, length, Option, None, Some, refl, sym, ap, ◌∙◌, subst}
+use Rattle.std.specs.Prelude.{◌+◌, nat_le, nat_lt, is_some, if◌then◌else◌}
+use Rattle.rip_values.specs.FixedTexts.{fixed_span}
+use Rattle.rip_values.specs.Pool.{Texts, with_text}
+use Rattle.rip_values.specs.declared.limits.Limits.{Limits}
+use Rattle.rip_values.specs.declared.page.Attribute.{Attribute}
+use Rattle.rip_values.specs.declared.page.PageNode.{PageNode}
+use Rattle.rip_values.specs.declared.value.Limit.{Limit}
+use Rattle.rip_values.specs.declared.value.Limit.TheVariants.{Cells, Units, Nodes}
+use Rattle.rip_values.specs.declared.value.Span.{Span}
+use Rattle.rip_app.specs.App.{Loaded}
+use Rattle.rip_heap.specs.Growth.{Grows}
+use Rattle.rip_heap.specs.World.{World, empty_world}
+use Rattle.rip_dom.specs.Opening.{Opening, attribute_step, attributes_in, count_of_nodes, count_of_units, node_step, nodes_in, no_tree, with_name}
+use Rattle.rip_dom.proofs.OpeningLemmas.{bare_step}
+use Rattle.rip_host.specs.declared.browser.Browser.{Browser}
+use Rattle.rip_machine.specs.Loading.{cost_of_literals, world_loaded}
+use Rattle.rip_visit.specs.declared.opening.Start.TheVariants.{Passes, Loads}
+use Rattle.rip_session.specs.declared.opening.Opened.{Opened}
+use Rattle.rip_session.specs.Limits.{HasLimits, PassesNoLimit}
+use Rattle.rip_session.specs.Opening.{browser_of, by_scope, document_of, heap_limits, idle_machine, loaded_machine, opened_of, texts_of, with_page, with_scope, without_page}
+
+-- TEXTS
+
+-- both limits of texts stand
+abbrev SameLimits : Texts → Texts → Type 0
+SameLimits old new = (new.limit ≡ old.limit) × (new.text_limit ≡ old.text_limit)
+
+name-same-by : (o : Option Span) (pool : Texts) (name : List ℕ) → SameLimits pool (if is_some o then pool else with_text pool name 0)
+name-same-by None pool name = (refl, refl)
+name-same-by (Some span) pool name = (refl, refl)
+
+name-same : (pool : Texts) (name : List ℕ) → SameLimits pool (with_name pool name)
+name-same pool name = name-same-by (fixed_span name) pool name
+
+attributes-same : (n : ℕ) (s : Opening) (xs : List Attribute) → SameLimits s.pool (attributes_in n s xs).pool
+attributes-same n s [] = (refl, refl)
+attributes-same n s (a ∷ xs) =
+    let first : SameLimits s.pool (with_name s.pool a.name) = name-same s.pool a.name in
+    let rest : SameLimits (attribute_step n s a).pool (attributes_in n (attribute_step n s a) xs).pool = attributes-same n (attribute_step n s a) xs in
+    (rest.0 ∙ first.0, rest.1 ∙ first.1)
+
+nodes-same : (s : Opening) (xs : List PageNode) → SameLimits s.pool (nodes_in s xs).pool
+nodes-same s [] = (refl, refl)
+nodes-same s (x ∷ xs) =
+    let name : SameLimits s.pool (with_name s.pool x.name) = name-same s.pool x.name in
+    let attributes : SameLimits (bare_step s x).pool (node_step s x).pool = attributes-same (length s.tree.nodes) (bare_step s x) x.attributes in
+    let rest : SameLimits (node_step s x).pool (nodes_in (node_step s x) xs).pool = nodes-same (node_step s x) xs in
+    (rest.0 ∙ attributes.0 ∙ name.0, rest.1 ∙ attributes.1 ∙ name.1)
+
+-- HEAPS
+
+-- a heap with the texts of a document
+with-document : (limits of : Limits) (w : World) (nodes : List PageNode) → HasLimits limits w
+    → HasLimits limits (record w { pool = texts_of (document_of nodes of w.pool) })
+with-document limits of w nodes h =
+    let same : SameLimits w.pool (document_of nodes of w.pool).pool = nodes-same (record { pool = w.pool; tree = no_tree of.nodes }) nodes in
+    record { cells = h.cells; units = same.0 ∙ h.units; text = same.1 ∙ h.text }
+
+either : (limits : Limits) (b : Bool) (x y : Opened) → HasLimits limits x.heap → HasLimits limits y.heap → HasLimits limits (if b then x else y).heap
+either limits true x y f g = f
+either limits false x y f g = g
+
+page-limits : (app : Loaded) (w : World) (s : Browser) → HasLimits app.manifest.limits w → HasLimits app.manifest.limits (with_page app w s).heap
+page-limits app w s h =
+    either app.manifest.limits (nat_le (w.pool.used + cost_of_literals app.program) w.pool.limit)
+    (record { heap = world_loaded app.program w; machine = loaded_machine app w; browser = s; start = Loads (length app.program.grove.roots) })
+    (record { heap = w; machine = idle_machine app.manifest.limits.depth; browser = s; start = Passes Units })
+    (record { cells = h.cells; units = h.units; text = h.text }) h
+
+no-page-limits : (app : Loaded) (limit : Limit) (w : World) (seed : ℕ) (time : ℤ) → HasLimits app.manifest.limits w
+    → HasLimits app.manifest.limits (without_page app limit w seed time).heap
+no-page-limits app limit w seed time h = with-document app.manifest.limits app.manifest.limits w [] h
+
+scope-limits : (app : Loaded) (w : World) (seed : ℕ) (time : ℤ) → HasLimits app.manifest.limits w → HasLimits app.manifest.limits (with_scope app w seed time).heap
+scope-limits app w seed time h =
+    let d : Opening = document_of app.page.nodes app.manifest.limits w.pool in
+    let browser : Browser = browser_of d app.page.nodes app.manifest.limits seed time in
+    let paged : Opened = with_page app (record w { pool = texts_of d }) browser in
+    let fewer : Opened = if nat_lt w.pool.limit (w.pool.used + count_of_units app.page.nodes) then without_page app Units w seed time else paged in
+    either app.manifest.limits (nat_lt app.manifest.limits.nodes (count_of_nodes app.page.nodes)) (without_page app Nodes w seed time) fewer
+    (no-page-limits app Nodes w seed time h)
+    (either app.manifest.limits (nat_lt w.pool.limit (w.pool.used + count_of_units app.page.nodes)) (without_page app Units w seed time) paged
+    (no-page-limits app Units w seed time h)
+    (page-limits app (record w { pool = texts_of d }) browser (with-document app.manifest.limits app.manifest.limits w app.page.nodes h)))
+
+by-scope-limits : (app : Loaded) (seed : ℕ) (time : ℤ) (b : Bool) (n : ℕ) (x : World) → HasLimits app.manifest.limits x
+    → HasLimits app.manifest.limits (by_scope app (if◌then◌else◌ {A = Option (ℕ × World)} b (Some (n, x)) None) seed time).heap
+by-scope-limits app seed time true n x h = scope-limits app x seed time h
+by-scope-limits app seed time false n x h = no-page-limits app Cells (empty_world (heap_limits app.manifest.limits)) seed time (record { cells = refl; units = refl; text = refl })
+
+-- as it is opened
+pub opened-limits : (app : Loaded) (seed : ℕ) (time : ℤ) → HasLimits app.manifest.limits (opened_of app seed time).heap
+opened-limits app seed time = by-scope-limits app seed time _ _ _ (record { cells = refl; units = refl; text = refl })
+
+-- a heap that grew has the limits that it had
+pub grown-limits : (limits : Limits) (w x : World) → Grows w x → HasLimits limits w → HasLimits limits x
+grown-limits limits w x g h = record { cells = g.limit ∙ h.cells; units = g.unit_limit ∙ h.units; text = g.text_limit ∙ h.text }
+
+-- one that passes no limit of its own passes none of these
+pub passes-none : (limits : Limits) (w : World) → HasLimits limits w → w.cells ≤ w.limit → w.pool.used ≤ w.pool.limit → PassesNoLimit limits w
+passes-none limits w h cells units = record { cells = subst (λ n. w.cells ≤ n) h.cells cells; units = subst (λ n. w.pool.used ≤ n) h.units units }
