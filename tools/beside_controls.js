@@ -45,13 +45,13 @@ function compare(what, ours, theirs) {
 }
 
 const nodes = pageOf();
-for (const row of part("fn values_begin_as_the_tree_says", "let mut s").matchAll(/\((\d+), "([^"]*)"\)/g)) {
+for (const row of part("const FIRST_VALUES", "];\n").matchAll(/\((\d+), "([^"]*)"\)/g)) {
   const node = nodes[+row[1]];
   if ("value" in node) compare(`value of ${row[1]}`, row[2], node.value);
 }
 compare("checked of 5", true, nodes[5].checked);
 compare("selectedIndex of 8", 1, nodes[8].selectedIndex);
-for (const row of part("fn a_written_value_chooses", "let s =").matchAll(/\("([^"]*)", (-?\d+)\)/g)) {
+for (const row of part("const CHOSEN", "];\n").matchAll(/\("([^"]*)", (-?\d+)\)/g)) {
   nodes[8].value = row[1];
   compare(`selectedIndex after "${row[1]}"`, +row[2], nodes[8].selectedIndex);
 }

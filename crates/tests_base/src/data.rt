@@ -350,15 +350,22 @@ fn nested_texts_are_answered(rt: HostRuntime) -> Result<(), Fail> {
     Ok(())
 }
 
+/// Bytes that are no UTF-8, and a byte order mark, which no text begins with.
+const NOT_UTF8: [&[u8]; 6] = [
+    b"\xff",
+    b"\"\xc3\"",
+    b"\"\xc0\xaf\"",
+    b"\"\xed\xa0\xb4\"",
+    b"\"\xf4\x90\x80\x80\"",
+    b"\xef\xbb\xbf1",
+];
+
 #[test]
 fn bytes_that_are_no_utf8_are_refused(rt: HostRuntime) -> Result<(), Fail> {
     let alloc = rt.alloc();
-    assert!(rt; is_answered(alloc, b"\xff", Want::Syntax)?);
-    assert!(rt; is_answered(alloc, b"\"\xc3\"", Want::Syntax)?);
-    assert!(rt; is_answered(alloc, b"\"\xc0\xaf\"", Want::Syntax)?);
-    assert!(rt; is_answered(alloc, b"\"\xed\xa0\xb4\"", Want::Syntax)?);
-    assert!(rt; is_answered(alloc, b"\"\xf4\x90\x80\x80\"", Want::Syntax)?);
-    assert!(rt; is_answered(alloc, b"\xef\xbb\xbf1", Want::Syntax)?);
+    for bytes in NOT_UTF8 {
+        assert!(rt; is_answered(alloc, bytes, Want::Syntax)?, "at {bytes:?}");
+    }
     Ok(())
 }
 
@@ -385,12 +392,22 @@ fn quoted(alloc: Global, bytes: usize) -> Result<Vec<u8>, Fail> {
     Ok(text)
 }
 
+/// How many brackets stand in each other, and what is answered.
+const DEEP: [(usize, Want<'static>); 3] = [
+    (127, Want::TooDeep),
+    (128, Want::Syntax),
+    (5000, Want::Syntax),
+];
+
 #[test]
 fn limits_are_kept(rt: HostRuntime) -> Result<(), Fail> {
     let alloc = rt.alloc();
-    assert!(rt; is_answered(alloc, nested(alloc, 127)?.as_slice(), Want::TooDeep)?);
-    assert!(rt; is_answered(alloc, nested(alloc, 128)?.as_slice(), Want::Syntax)?);
-    assert!(rt; is_answered(alloc, nested(alloc, 5000)?.as_slice(), Want::Syntax)?);
+    for (levels, want) in DEEP {
+        assert!(rt;
+            is_answered(alloc, nested(alloc, levels)?.as_slice(), want)?,
+            "at {levels}"
+        );
+    }
     assert!(rt; is_answered(alloc, quoted(alloc, 16_383)?.as_slice(), Want::DataTooLong)?);
 
     let longest = quoted(alloc, 16_382)?;
@@ -413,11 +430,18 @@ fn limits_are_kept(rt: HostRuntime) -> Result<(), Fail> {
     Ok(())
 }
 
+/// Texts that are refused wherever there is no limit of length, and why.
+const LONG_REFUSED: [(&[u8], DataError); 3] = [
+    (b"[1.0]", DataError::NotWhole),
+    (b"[[[[[[[[[]]]]]]]]]", DataError::TooDeep),
+    (b"[1", DataError::Syntax),
+];
+
 #[test]
 fn long_data_is_refused_for_all_but_its_length(rt: HostRuntime) -> Result<(), Fail> {
     let alloc = rt.alloc();
-    assert!(rt; read_long(alloc, b"[1.0]").err() == Some(DataError::NotWhole));
-    assert!(rt; read_long(alloc, b"[[[[[[[[[]]]]]]]]]").err() == Some(DataError::TooDeep));
-    assert!(rt; read_long(alloc, b"[1").err() == Some(DataError::Syntax));
+    for (text, error) in LONG_REFUSED {
+        assert!(rt; read_long(alloc, text).err() == Some(error), "at {text:?}");
+    }
     Ok(())
 }

@@ -230,12 +230,13 @@ fn limits_are_answered(rt: HostRuntime) -> Result<(), Fail> {
     Ok(())
 }
 
+/// A manifest that names two limits, one of them twice.
+const SOME_LIMITS: &[u8] =
+    b"{\"version\":1,\"functions\":{},\"limits\":{\"depth\":7,\"sessions\":1,\"depth\":8}}";
+
 #[test]
 fn what_is_named_stands_beside_the_defaults(rt: HostRuntime) -> Result<(), Fail> {
-    let manifest = read_manifest(
-        rt.alloc(),
-        b"{\"version\":1,\"functions\":{},\"limits\":{\"depth\":7,\"sessions\":1,\"depth\":8}}",
-    )?;
+    let manifest = read_manifest(rt.alloc(), SOME_LIMITS)?;
     assert_eq!(rt;
         *manifest.limits(),
         Limits {
@@ -248,24 +249,27 @@ fn what_is_named_stands_beside_the_defaults(rt: HostRuntime) -> Result<(), Fail>
     Ok(())
 }
 
+/// A manifest whose functions stand in another order than that of their names.
+const OUT_OF_ORDER: &[u8] =
+    b"{\"version\":1,\"limits\":{},\"functions\":{\"f.g_1\":[\"list\",\"p.\"],\"b\":[\"put\",\"p\"],\
+      \"a\":[\"get\",\"\"],\"d\":[\"take\",\"p\"],\"e\":[\"push\",\"p\"],\"c\":[\"add\",\"p\"]}}";
+
+/// Its functions in the order of their names.
+const IN_ORDER: [(&str, Operation, &str); 6] = [
+    ("a", Operation::Get, ""),
+    ("b", Operation::Put, "p"),
+    ("c", Operation::Add, "p"),
+    ("d", Operation::Take, "p"),
+    ("e", Operation::Push, "p"),
+    ("f.g_1", Operation::List, "p."),
+];
+
 #[test]
 fn functions_are_read_in_order_of_names(rt: HostRuntime) -> Result<(), Fail> {
     let alloc = rt.alloc();
-    let manifest = read_manifest(
-        alloc,
-        b"{\"version\":1,\"limits\":{},\"functions\":{\"f.g_1\":[\"list\",\"p.\"],\"b\":[\"put\",\"p\"],\
-          \"a\":[\"get\",\"\"],\"d\":[\"take\",\"p\"],\"e\":[\"push\",\"p\"],\"c\":[\"add\",\"p\"]}}",
-    )?;
-    let want = [
-        ("a", Operation::Get, ""),
-        ("b", Operation::Put, "p"),
-        ("c", Operation::Add, "p"),
-        ("d", Operation::Take, "p"),
-        ("e", Operation::Push, "p"),
-        ("f.g_1", Operation::List, "p."),
-    ];
-    assert_eq!(rt; manifest.functions().len(), want.len());
-    for (function, (name, op, prefix)) in manifest.functions().iter().zip(want) {
+    let manifest = read_manifest(alloc, OUT_OF_ORDER)?;
+    assert_eq!(rt; manifest.functions().len(), IN_ORDER.len());
+    for (function, (name, op, prefix)) in manifest.functions().iter().zip(IN_ORDER) {
         assert!(rt;
             function.name == Units::from_utf8(alloc, name.as_bytes())?,
             "at {name}"
@@ -314,10 +318,17 @@ fn letters(alloc: Global, count: u32) -> Result<String, AllocError> {
     Ok(text)
 }
 
+/// How many letters a name and a prefix have, and what is answered.
+const LETTERS: [(u32, u32, Option<ManifestRefusal>); 3] = [
+    (64, 64, None),
+    (65, 0, FUNCTION),
+    (1, 65, FUNCTION),
+];
+
 #[test]
 fn letters_are_counted(rt: HostRuntime) -> Result<(), Fail> {
     let alloc = rt.alloc();
-    for (name, prefix, want) in [(64, 64, None), (65, 0, FUNCTION), (1, 65, FUNCTION)] {
+    for (name, prefix, want) in LETTERS {
         let name = letters(alloc, name)?;
         let prefix = letters(alloc, prefix)?;
         let function = format!(in alloc; "\"{name}\":[\"get\",\"{prefix}\"]")?;
@@ -327,20 +338,23 @@ fn letters_are_counted(rt: HostRuntime) -> Result<(), Fail> {
     Ok(())
 }
 
+/// Refusals, and what is printed of each.
+const PRINTED: [(ManifestRefusal, &str); 7] = [
+    (ManifestRefusal::Kind(ManifestKind::Syntax), "Syntax"),
+    (ManifestRefusal::Kind(ManifestKind::Member), "Member"),
+    (ManifestRefusal::Kind(ManifestKind::Version), "Version"),
+    (ManifestRefusal::Kind(ManifestKind::Function), "Function"),
+    (
+        ManifestRefusal::Kind(ManifestKind::LimitRange),
+        "LimitRange",
+    ),
+    (ManifestRefusal::LimitsTooLarge, "LimitsTooLarge"),
+    (ManifestRefusal::Memory, "memory"),
+];
+
 #[test]
 fn refusals_are_printed(rt: HostRuntime) -> Result<(), Fail> {
-    for (refusal, want) in [
-        (ManifestRefusal::Kind(ManifestKind::Syntax), "Syntax"),
-        (ManifestRefusal::Kind(ManifestKind::Member), "Member"),
-        (ManifestRefusal::Kind(ManifestKind::Version), "Version"),
-        (ManifestRefusal::Kind(ManifestKind::Function), "Function"),
-        (
-            ManifestRefusal::Kind(ManifestKind::LimitRange),
-            "LimitRange",
-        ),
-        (ManifestRefusal::LimitsTooLarge, "LimitsTooLarge"),
-        (ManifestRefusal::Memory, "memory"),
-    ] {
+    for (refusal, want) in PRINTED {
         assert!(rt;
             format!(in rt.alloc(); "{refusal}")?.as_str() == want,
             "at {want}"
@@ -349,17 +363,17 @@ fn refusals_are_printed(rt: HostRuntime) -> Result<(), Fail> {
     Ok(())
 }
 
+/// Bytes that are no UTF-8.
+const NOT_UTF8: [&[u8]; 2] = [
+    b"\xff",
+    b"{\"version\":1,\"functions\":{\"\xc3\":1},\"limits\":{}}",
+];
+
 #[test]
 fn bytes_that_are_no_utf8_are_refused(rt: HostRuntime) -> Result<(), Fail> {
     let alloc = rt.alloc();
-    assert!(rt; read_manifest(alloc, b"\xff").err() == SYNTAX);
-    assert!(rt;
-        read_manifest(
-            alloc,
-            b"{\"version\":1,\"functions\":{\"\xc3\":1},\"limits\":{}}"
-        )
-        .err()
-            == SYNTAX
-    );
+    for bytes in NOT_UTF8 {
+        assert!(rt; read_manifest(alloc, bytes).err() == SYNTAX, "at {bytes:?}");
+    }
     Ok(())
 }

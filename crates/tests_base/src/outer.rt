@@ -81,20 +81,22 @@ fn draw<C: Clock, W: Words>(clock: &mut C, random: &mut W) -> (u64, u64)
     (clock.now(), random.word())
 }
 
+/// Texts, and the pieces of each.
+const PIECES: [(&[u8], &[&[u8]]); 9] = [
+    (b"", &[]),
+    (b"a", &[b"a"]),
+    (b"a\n", &[b"a"]),
+    (b"\n", &[b""]),
+    (b"a\n\n", &[b"a", b""]),
+    (b"\n\na", &[b"", b"", b"a"]),
+    (b"one\ntwo\nthree", &[b"one", b"two", b"three"]),
+    (b"one\n\ntwo\n", &[b"one", b"", b"two"]),
+    (b"one\r\ntwo\r\n", &[b"one\r", b"two\r"]),
+];
+
 #[test]
 fn pieces_lie_between_line_feeds(rt: HostRuntime) -> Result<(), Fail> {
-    let cases: [(&[u8], &[&[u8]]); 9] = [
-        (b"", &[]),
-        (b"a", &[b"a"]),
-        (b"a\n", &[b"a"]),
-        (b"\n", &[b""]),
-        (b"a\n\n", &[b"a", b""]),
-        (b"\n\na", &[b"", b"", b"a"]),
-        (b"one\ntwo\nthree", &[b"one", b"two", b"three"]),
-        (b"one\n\ntwo\n", &[b"one", b"", b"two"]),
-        (b"one\r\ntwo\r\n", &[b"one\r", b"two\r"]),
-    ];
-    for (text, wanted) in cases {
+    for (text, wanted) in PIECES {
         for (line, other) in lines(text).zip(wanted) {
             assert!(rt; line == *other);
         }
@@ -104,24 +106,36 @@ fn pieces_lie_between_line_feeds(rt: HostRuntime) -> Result<(), Fail> {
     Ok(())
 }
 
+/// What is put, and what is answered where the second and the fourth call fail.
+const PUTS: [(&[u8], Result<(), SinkError>); 5] = [
+    (b"ab", Ok(())),
+    (b"cd", Err(SinkError::Failed)),
+    (b"ef", Ok(())),
+    (b"gh", Err(SinkError::Failed)),
+    (b"ij", Ok(())),
+];
+
 #[test]
 fn a_sink_fails_at_the_listed_calls(rt: HostRuntime) -> Result<(), Fail> {
     let alloc = rt.alloc();
     let mut sink = MemorySink::make(alloc, &NumberList::from_slice(alloc, &[2, 4])?)?;
-    let wanted = [
-        Ok(()),
-        Err(SinkError::Failed),
-        Ok(()),
-        Err(SinkError::Failed),
-        Ok(()),
-    ];
-    for (piece, answer) in [b"ab", b"cd", b"ef", b"gh", b"ij"].iter().zip(wanted) {
-        assert_eq!(rt; sink.put(*piece), answer);
+    for (piece, answer) in PUTS {
+        assert_eq!(rt; sink.put(piece), answer);
     }
     assert!(rt; sink.bytes() == b"abefij".as_slice());
     assert_eq!(rt; sink.faults(), 2);
     Ok(())
 }
+
+/// Files that are copied in turn: the name, what is answered, the bytes of the sink and the faults of the files then.
+const COPIES: [(&str, Copied, usize, u64); 6] = [
+    ("page", Copied::Done, 2, 0),
+    ("none", Copied::Outside, 2, 1),
+    ("page", Copied::Outside, 2, 2),
+    ("long", Copied::TooLong, 2, 2),
+    ("whole", Copied::Done, 16_777_218, 2),
+    ("page", Copied::Done, 16_777_220, 2),
+];
 
 #[test]
 fn files_fail_at_listed_calls_and_at_other_names(rt: HostRuntime) -> Result<(), Fail> {
@@ -134,15 +148,7 @@ fn files_fail_at_listed_calls_and_at_other_names(rt: HostRuntime) -> Result<(), 
     ]?);
     let mut files = MemoryFiles::make(alloc, &files, &NumberList::from_slice(alloc, &[3])?)?;
     let mut sink = MemorySink::make(alloc, &NumberList::new(alloc))?;
-    let cases = [
-        ("page", Copied::Done, 2, 0),
-        ("none", Copied::Outside, 2, 1),
-        ("page", Copied::Outside, 2, 2),
-        ("long", Copied::TooLong, 2, 2),
-        ("whole", Copied::Done, 16_777_218, 2),
-        ("page", Copied::Done, 16_777_220, 2),
-    ];
-    for (name, answer, length, faults) in cases {
+    for (name, answer, length, faults) in COPIES {
         assert_eq!(rt;
             copy_file(alloc, name, &mut files, &mut sink),
             answer,
@@ -163,35 +169,54 @@ fn named(alloc: Global, name: &[u8], contents: Vec<u8>) -> Result<NamedFile, Fai
     })
 }
 
-fn piece(alloc: Global, c: u64, bytes: &[u8]) -> Result<TraceKnock, Fail> {
-    Ok(TraceKnock::Bytes(c, Bytes::from_slice(alloc, bytes)?))
+/// What stands for a knock in a table.
+#[derive(Clone, Copy)]
+enum Listed {
+    Opened(u64),
+    Bytes(u64, &'static [u8]),
+    /// So many letters.
+    Letters(u64, usize),
+    Quiet,
+    Gone(u64),
 }
+
+fn knock_of(alloc: Global, listed: Listed) -> Result<TraceKnock, Fail> {
+    Ok(match listed {
+        Listed::Opened(c) => TraceKnock::Opened(c),
+        Listed::Bytes(c, bytes) => TraceKnock::Bytes(c, Bytes::from_slice(alloc, bytes)?),
+        Listed::Letters(c, count) => {
+            TraceKnock::Bytes(c, Bytes::from_vec(vec![in alloc; b'x'; count]?))
+        }
+        Listed::Quiet => TraceKnock::Quiet,
+        Listed::Gone(c) => TraceKnock::Gone(c),
+    })
+}
+
+/// Knocks, and whether the list takes each behind those above it.
+const PUSHED: [(Listed, bool); 15] = [
+    (Listed::Bytes(0, b"a"), false),
+    (Listed::Gone(0), false),
+    (Listed::Opened(1), false),
+    (Listed::Opened(0), true),
+    (Listed::Opened(0), false),
+    (Listed::Quiet, true),
+    (Listed::Bytes(0, b""), false),
+    (Listed::Letters(0, 4096), true),
+    (Listed::Letters(0, 4097), false),
+    (Listed::Bytes(1, b"a"), false),
+    (Listed::Opened(1), true),
+    (Listed::Gone(0), true),
+    (Listed::Gone(0), false),
+    (Listed::Bytes(0, b"a"), false),
+    (Listed::Bytes(1, b"a"), true),
+];
 
 #[test]
 fn a_list_of_knocks_keeps_the_rules(rt: HostRuntime) -> Result<(), Fail> {
     let alloc = rt.alloc();
     let mut knocks = KnockList::new(alloc);
-    let full = vec![in alloc; b'x'; 4096]?;
-    let long = vec![in alloc; b'x'; 4097]?;
-    let cases = vec![in alloc;
-        (piece(alloc, 0, b"a")?, false),
-        (TraceKnock::Gone(0), false),
-        (TraceKnock::Opened(1), false),
-        (TraceKnock::Opened(0), true),
-        (TraceKnock::Opened(0), false),
-        (TraceKnock::Quiet, true),
-        (piece(alloc, 0, b"")?, false),
-        (piece(alloc, 0, full.as_slice())?, true),
-        (piece(alloc, 0, long.as_slice())?, false),
-        (piece(alloc, 1, b"a")?, false),
-        (TraceKnock::Opened(1), true),
-        (TraceKnock::Gone(0), true),
-        (TraceKnock::Gone(0), false),
-        (piece(alloc, 0, b"a")?, false),
-        (piece(alloc, 1, b"a")?, true),
-    ]?;
-    for (knock, allowed) in cases {
-        let pushed = knocks.push(knock);
+    for (listed, allowed) in PUSHED {
+        let pushed = knocks.push(knock_of(alloc, listed)?);
         assert!(rt;
             pushed
                 == if allowed {
@@ -205,38 +230,42 @@ fn a_list_of_knocks_keeps_the_rules(rt: HostRuntime) -> Result<(), Fail> {
     Ok(())
 }
 
+/// What comes on two connections.
+const KNOCKS: [Listed; 6] = [
+    Listed::Opened(0),
+    Listed::Bytes(0, b"ab"),
+    Listed::Opened(1),
+    Listed::Bytes(1, b"cd"),
+    Listed::Gone(0),
+    Listed::Gone(1),
+];
+
+/// What is told of them, where the third and the ninth question fail.
+const GREETED: [Knock; 10] = [
+    Knock::Opened(0),
+    Knock::Quiet,
+    Knock::Failed,
+    Knock::Opened(1),
+    Knock::Bytes(1, 2),
+    Knock::Quiet,
+    Knock::Gone(1),
+    Knock::Closed,
+    Knock::Failed,
+    Knock::Closed,
+];
+
 #[test]
 fn a_door_in_memory_tells_its_knocks(rt: HostRuntime) -> Result<(), Fail> {
     let alloc = rt.alloc();
     let mut knocks = KnockList::new(alloc);
-    let listed = vec![in alloc;
-        TraceKnock::Opened(0),
-        piece(alloc, 0, b"ab")?,
-        TraceKnock::Opened(1),
-        piece(alloc, 1, b"cd")?,
-        TraceKnock::Gone(0),
-        TraceKnock::Gone(1),
-    ]?;
-    for knock in listed {
-        assert!(rt; knocks.push(knock) == Ok(()));
+    for listed in KNOCKS {
+        assert!(rt; knocks.push(knock_of(alloc, listed)?) == Ok(()));
     }
     let failing_next = NumberList::from_slice(alloc, &[3, 9])?;
     let failing_send = NumberList::from_slice(alloc, &[2])?;
     let mut door = MemoryDoor::make(alloc, &knocks, &failing_next, &failing_send)?;
     let mut room = [0; 4096];
-    let wanted = [
-        Knock::Opened(0),
-        Knock::Quiet,
-        Knock::Failed,
-        Knock::Opened(1),
-        Knock::Bytes(1, 2),
-        Knock::Quiet,
-        Knock::Gone(1),
-        Knock::Closed,
-        Knock::Failed,
-        Knock::Closed,
-    ];
-    for knock in wanted {
+    for knock in GREETED {
         assert_eq!(rt; greet(&mut door, &mut room), knock);
     }
     assert!(rt; room.starts_with(b"cd"));
@@ -247,17 +276,23 @@ fn a_door_in_memory_tells_its_knocks(rt: HostRuntime) -> Result<(), Fail> {
     Ok(())
 }
 
+/// The moments and words that are drawn where two of each are listed.
+const DRAWN: [(u64, u64); 4] = [(5, 9), (7, 4), (7, 3), (7, 4)];
+
+/// The moments and words that are drawn where none are listed.
+const DRAWN_OF_NOTHING: [(u64, u64); 3] = [(0, 1), (0, 2), (0, 3)];
+
 #[test]
 fn a_clock_and_words_in_memory(rt: HostRuntime) -> Result<(), Fail> {
     let alloc = rt.alloc();
     let mut clock = MemoryClock::make(alloc, &NumberList::from_slice(alloc, &[5, 7])?)?;
     let mut random = MemoryWords::make(alloc, &NumberList::from_slice(alloc, &[9, 4])?)?;
-    for pair in [(5, 9), (7, 4), (7, 3), (7, 4)] {
+    for pair in DRAWN {
         assert_eq!(rt; draw(&mut clock, &mut random), pair);
     }
     let mut clock = MemoryClock::make(alloc, &NumberList::new(alloc))?;
     let mut random = MemoryWords::make(alloc, &NumberList::new(alloc))?;
-    for pair in [(0, 1), (0, 2), (0, 3)] {
+    for pair in DRAWN_OF_NOTHING {
         assert_eq!(rt; draw(&mut clock, &mut random), pair);
     }
     Ok(())

@@ -29,65 +29,73 @@ fn row_of_numeral(numeral: Numeral) -> Row {
     }
 }
 
+/// Texts, and what each is as a number.
+const NUMERAL_TEXTS: [(&str, Row); 40] = [
+    ("", Row::Number(0)),
+    (" ", Row::Number(0)),
+    (" 12 ", Row::Number(12)),
+    ("\u{feff}7\u{2029}", Row::Number(7)),
+    ("0x1f", Row::Number(31)),
+    ("0X1F", Row::Number(31)),
+    ("0x", Row::NaN),
+    ("-0x1", Row::NaN),
+    ("12", Row::Number(12)),
+    ("-12", Row::Number(-12)),
+    ("+12", Row::Number(12)),
+    ("00012", Row::Number(12)),
+    ("-0", Row::Number(0)),
+    ("--1", Row::NaN),
+    ("+", Row::NaN),
+    ("1 2", Row::NaN),
+    ("12px", Row::NaN),
+    ("abc", Row::NaN),
+    ("1.", Row::NotWhole),
+    (".5", Row::NotWhole),
+    ("1.5", Row::NotWhole),
+    ("1.0", Row::NotWhole),
+    (".", Row::NaN),
+    ("1e5", Row::NotWhole),
+    ("-1e+5", Row::NotWhole),
+    ("1e", Row::NaN),
+    ("e5", Row::NaN),
+    ("Infinity", Row::Infinite),
+    ("-Infinity", Row::Infinite),
+    ("+Infinity", Row::Infinite),
+    ("infinity", Row::NaN),
+    ("Infinity1", Row::NaN),
+    ("9007199254740991", Row::Number(9_007_199_254_740_991)),
+    ("9007199254740992", Row::OutOfRange),
+    ("-9007199254740991", Row::Number(-9_007_199_254_740_991)),
+    ("-9007199254740992", Row::OutOfRange),
+    ("0x1fffffffffffff", Row::Number(9_007_199_254_740_991)),
+    ("0x20000000000000", Row::OutOfRange),
+    ("1e400", Row::NotWhole),
+    ("\u{180e}1", Row::NaN),
+];
+
 #[test]
 fn texts_are_read_as_numbers(rt: HostRuntime) -> Result<(), Fail> {
-    let rows = [
-        ("", Row::Number(0)),
-        (" ", Row::Number(0)),
-        (" 12 ", Row::Number(12)),
-        ("\u{feff}7\u{2029}", Row::Number(7)),
-        ("0x1f", Row::Number(31)),
-        ("0X1F", Row::Number(31)),
-        ("0x", Row::NaN),
-        ("-0x1", Row::NaN),
-        ("12", Row::Number(12)),
-        ("-12", Row::Number(-12)),
-        ("+12", Row::Number(12)),
-        ("00012", Row::Number(12)),
-        ("-0", Row::Number(0)),
-        ("--1", Row::NaN),
-        ("+", Row::NaN),
-        ("1 2", Row::NaN),
-        ("12px", Row::NaN),
-        ("abc", Row::NaN),
-        ("1.", Row::NotWhole),
-        (".5", Row::NotWhole),
-        ("1.5", Row::NotWhole),
-        ("1.0", Row::NotWhole),
-        (".", Row::NaN),
-        ("1e5", Row::NotWhole),
-        ("-1e+5", Row::NotWhole),
-        ("1e", Row::NaN),
-        ("e5", Row::NaN),
-        ("Infinity", Row::Infinite),
-        ("-Infinity", Row::Infinite),
-        ("+Infinity", Row::Infinite),
-        ("infinity", Row::NaN),
-        ("Infinity1", Row::NaN),
-        ("9007199254740991", Row::Number(9_007_199_254_740_991)),
-        ("9007199254740992", Row::OutOfRange),
-        ("-9007199254740991", Row::Number(-9_007_199_254_740_991)),
-        ("-9007199254740992", Row::OutOfRange),
-        ("0x1fffffffffffff", Row::Number(9_007_199_254_740_991)),
-        ("0x20000000000000", Row::OutOfRange),
-        ("1e400", Row::NotWhole),
-        ("\u{180e}1", Row::NaN),
-    ];
-    for (text, want) in &rows {
+    for (text, want) in &NUMERAL_TEXTS {
         let units = Units::from_utf8(rt.alloc(), text.as_bytes())?;
         assert_eq!(rt; row_of(number_of_text(units.as_slice())), *want, "{text:?}");
     }
     Ok(())
 }
 
+/// The units that are trimmed.
+const BLANKS: [u16; 25] = [
+    0x9, 0xA, 0xB, 0xC, 0xD, 0x20, 0xA0, 0x1680, 0x2000, 0x2001, 0x2002, 0x2003, 0x2004, 0x2005,
+    0x2006, 0x2007, 0x2008, 0x2009, 0x200A, 0x2028, 0x2029, 0x202F, 0x205F, 0x3000, 0xFEFF,
+];
+
+/// Units that are not trimmed, most of them beside one that is.
+const OTHER_UNITS: [u16; 14] = [
+    0x0, 0x8, 0xE, 0x1F, 0x21, 0x85, 0x9F, 0xA1, 0x180E, 0x1FFF, 0x200B, 0x202A, 0x2060, 0xFFFE,
+];
+
 #[test]
 fn blanks_are_trimmed(rt: HostRuntime) {
-    let blanks = [
-        0x9, 0xA, 0xB, 0xC, 0xD, 0x20, 0xA0, 0x1680, 0x2000, 0x2001, 0x2002, 0x2003, 0x2004,
-        0x2005, 0x2006, 0x2007, 0x2008, 0x2009, 0x200A, 0x2028, 0x2029, 0x202F, 0x205F, 0x3000,
-        0xFEFF,
-    ];
-    for blank in &blanks {
+    for blank in &BLANKS {
         let text = [*blank, *blank, 0x37, *blank];
         assert_eq!(rt;
             row_of(number_of_text(text.as_slice())),
@@ -95,10 +103,7 @@ fn blanks_are_trimmed(rt: HostRuntime) {
             "{blank:x}"
         );
     }
-    let others = [
-        0x0, 0x8, 0xE, 0x1F, 0x21, 0x85, 0x9F, 0xA1, 0x180E, 0x1FFF, 0x200B, 0x202A, 0x2060, 0xFFFE,
-    ];
-    for other in &others {
+    for other in &OTHER_UNITS {
         let text = [*other, 0x37];
         assert_eq!(rt;
             row_of(number_of_text(text.as_slice())),
@@ -108,18 +113,20 @@ fn blanks_are_trimmed(rt: HostRuntime) {
     }
 }
 
+/// Whole numbers, and the numeral of each.
+const WRITTEN: [(i64, &str); 7] = [
+    (0, "0"),
+    (7, "7"),
+    (-7, "-7"),
+    (10, "10"),
+    (-120, "-120"),
+    (9_007_199_254_740_991, "9007199254740991"),
+    (-9_007_199_254_740_991, "-9007199254740991"),
+];
+
 #[test]
 fn numerals_are_written_and_read_back(rt: HostRuntime) -> Result<(), Fail> {
-    let rows = [
-        (0, "0"),
-        (7, "7"),
-        (-7, "-7"),
-        (10, "10"),
-        (-120, "-120"),
-        (9_007_199_254_740_991, "9007199254740991"),
-        (-9_007_199_254_740_991, "-9007199254740991"),
-    ];
-    for (number, want) in &rows {
+    for (number, want) in &WRITTEN {
         let mut room = [0x2A; 17];
         let whole = Whole::new(*number).ok_or("out of range")?;
         let count = text_of_whole(whole, &mut room);
@@ -136,47 +143,49 @@ fn numerals_are_written_and_read_back(rt: HostRuntime) -> Result<(), Fail> {
     Ok(())
 }
 
+/// The first and the last character of each length, and those beside the surrogates.
+const EDGES: [(&[u8], &[u16]); 11] = [
+    (b"", &[]),
+    (b"\x00", &[0x0]),
+    (b"\x7F", &[0x7F]),
+    (b"\xC2\x80", &[0x80]),
+    (b"\xDF\xBF", &[0x7FF]),
+    (b"\xE0\xA0\x80", &[0x800]),
+    (b"\xED\x9F\xBF", &[0xD7FF]),
+    (b"\xEE\x80\x80", &[0xE000]),
+    (b"\xEF\xBF\xBF", &[0xFFFF]),
+    (b"\xF0\x90\x80\x80", &[0xD800, 0xDC00]),
+    (b"\xF4\x8F\xBF\xBF", &[0xDBFF, 0xDFFF]),
+];
+
+/// A byte alone, overlong forms, surrogates, past U+10FFFF, and what is cut short.
+const NOT_UTF8: [&[u8]; 16] = [
+    b"\x80",
+    b"\xBF",
+    b"\xC0\x80",
+    b"\xC1\xBF",
+    b"\xC2",
+    b"\xC2A",
+    b"\xE0\x9F\xBF",
+    b"\xE2\x82",
+    b"\xED\xA0\x80",
+    b"\xED\xBF\xBF",
+    b"\xF0\x8F\xBF\xBF",
+    b"\xF0\x90\x80",
+    b"\xF4\x90\x80\x80",
+    b"\xF5\x80\x80\x80",
+    b"\xFF",
+    b"a\xFE",
+];
+
 #[test]
 fn edges_of_utf8(rt: HostRuntime) -> Result<(), Fail> {
-    // The first and the last character of each length, and those beside the surrogates.
-    let texts: [(&[u8], &[u16]); 11] = [
-        (b"", &[]),
-        (b"\x00", &[0x0]),
-        (b"\x7F", &[0x7F]),
-        (b"\xC2\x80", &[0x80]),
-        (b"\xDF\xBF", &[0x7FF]),
-        (b"\xE0\xA0\x80", &[0x800]),
-        (b"\xED\x9F\xBF", &[0xD7FF]),
-        (b"\xEE\x80\x80", &[0xE000]),
-        (b"\xEF\xBF\xBF", &[0xFFFF]),
-        (b"\xF0\x90\x80\x80", &[0xD800, 0xDC00]),
-        (b"\xF4\x8F\xBF\xBF", &[0xDBFF, 0xDFFF]),
-    ];
-    for (bytes, want) in &texts {
+    for (bytes, want) in &EDGES {
         let units = Units::from_utf8(rt.alloc(), bytes)?;
         assert_eq!(rt; units.as_slice(), *want);
         assert_eq!(rt; units.to_utf8(rt.alloc())?.as_slice(), *bytes);
     }
-    // A byte alone, overlong forms, surrogates, past U+10FFFF, and what is cut short.
-    let refused: [&[u8]; 16] = [
-        b"\x80",
-        b"\xBF",
-        b"\xC0\x80",
-        b"\xC1\xBF",
-        b"\xC2",
-        b"\xC2A",
-        b"\xE0\x9F\xBF",
-        b"\xE2\x82",
-        b"\xED\xA0\x80",
-        b"\xED\xBF\xBF",
-        b"\xF0\x8F\xBF\xBF",
-        b"\xF0\x90\x80",
-        b"\xF4\x90\x80\x80",
-        b"\xF5\x80\x80\x80",
-        b"\xFF",
-        b"a\xFE",
-    ];
-    for bytes in &refused {
+    for bytes in &NOT_UTF8 {
         match Units::from_utf8(rt.alloc(), bytes) {
             Ok(_) => panic!(rt; "{bytes:?}"),
             Err(e) => assert_eq!(rt; e, TextError::NotUtf8, "{bytes:?}"),
@@ -185,20 +194,22 @@ fn edges_of_utf8(rt: HostRuntime) -> Result<(), Fail> {
     Ok(())
 }
 
+/// Units of which a surrogate has no partner.
+const LONE_SURROGATES: [&[u16]; 9] = [
+    &[0xD800],
+    &[0xDBFF],
+    &[0xDC00],
+    &[0xDFFF],
+    &[0xD800, 0x41],
+    &[0x41, 0xDC00],
+    &[0xDC00, 0xD800],
+    &[0xD800, 0xD800, 0xDC00],
+    &[0xD800, 0xDC00, 0xDC00],
+];
+
 #[test]
 fn surrogates_need_their_partner(rt: HostRuntime) -> Result<(), Fail> {
-    let refused: [&[u16]; 9] = [
-        &[0xD800],
-        &[0xDBFF],
-        &[0xDC00],
-        &[0xDFFF],
-        &[0xD800, 0x41],
-        &[0x41, 0xDC00],
-        &[0xDC00, 0xD800],
-        &[0xD800, 0xD800, 0xDC00],
-        &[0xD800, 0xDC00, 0xDC00],
-    ];
-    for units in &refused {
+    for units in &LONE_SURROGATES {
         match Units::from_slice(rt.alloc(), units)?.to_utf8(rt.alloc()) {
             Ok(_) => panic!(rt; "{units:?}"),
             Err(e) => assert_eq!(rt; e, TextError::LoneSurrogate, "{units:?}"),
@@ -290,20 +301,30 @@ fn built_ins_by_number(rt: HostRuntime) {
     assert!(rt; Limits::DEFAULT.are_in_range() && Limits::GREATEST.are_in_range());
 }
 
+/// Names that are no global's.
+const NO_GLOBALS: [&str; 6] = ["window", "Infinity", "nan", "Mat", "Maths", ""];
+
+/// Globals, and the value of each.
+const GLOBAL_VALUES: [(Global, Value); 5] = [
+    (Global::Document, Value::Object(FIRST_NODE)),
+    (Global::Math, Value::Object(0)),
+    (Global::RangeError, Value::Object(8)),
+    (Global::Undefined, Value::Undefined),
+    (Global::NaN, Value::NaN),
+];
+
 #[test]
 fn globals_by_name(rt: HostRuntime) -> Result<(), Fail> {
     for global in &GLOBALS {
         let name = Units::from_utf8(rt.alloc(), global.name().as_bytes())?;
         assert_eq!(rt; Global::named(name.as_slice()), Some(*global));
     }
-    for name in ["window", "Infinity", "nan", "Mat", "Maths", ""] {
+    for name in NO_GLOBALS {
         let name = Units::from_utf8(rt.alloc(), name.as_bytes())?;
         assert_eq!(rt; Global::named(name.as_slice()), None);
     }
-    assert_eq!(rt; Global::Document.value(), Value::Object(FIRST_NODE));
-    assert_eq!(rt; Global::Math.value(), Value::Object(0));
-    assert_eq!(rt; Global::RangeError.value(), Value::Object(8));
-    assert_eq!(rt; Global::Undefined.value(), Value::Undefined);
-    assert_eq!(rt; Global::NaN.value(), Value::NaN);
+    for (global, value) in GLOBAL_VALUES {
+        assert_eq!(rt; global.value(), value, "{global:?}");
+    }
     Ok(())
 }

@@ -38,45 +38,48 @@ fn asked(alloc: Global, line: &str) -> Result<String, AllocError> {
     }
 }
 
+/// Lines of words, and what each asks for.
+const LINES: [(&str, &str); 28] = [
+    ("check p a", "check p,a"),
+    ("replay p a t", "replay p,a,t,1000000000"),
+    ("replay p a t --turns=10", "replay p,a,t,10"),
+    ("replay p a --turns=5", "replay p,a,--turns=5,1000000000"),
+    (
+        "serve p a 127.0.0.1:80",
+        "serve p,a,127.0.0.1:80,9007199254740991",
+    ),
+    (
+        "serve p a b --turns=9007199254740991",
+        "serve p,a,b,9007199254740991",
+    ),
+    ("drive p a g", "drive p,a,g"),
+    ("generate 0", "generate 0"),
+    ("generate 4294967295", "generate 4294967295"),
+    ("", "none"),
+    ("check", "none"),
+    ("check p", "none"),
+    ("check p a t", "none"),
+    ("Check p a", "none"),
+    ("replay p a", "none"),
+    ("replay p a t u", "none"),
+    ("replay p a t --turns=0", "none"),
+    ("replay p a t --turns=01", "none"),
+    ("replay p a t --turns=9007199254740992", "none"),
+    ("replay --turns=5 p a t", "none"),
+    ("replay p a t --turns=5 --turns=5", "none"),
+    ("serve p a", "none"),
+    ("drive p a g --turns=5", "none"),
+    ("generate", "none"),
+    ("generate 01", "none"),
+    ("generate 4294967296", "none"),
+    ("generate -1", "none"),
+    ("--help", "none"),
+];
+
 #[test]
 fn words_are_read(rt: HostRuntime) -> Result<(), Fail> {
     let alloc = rt.alloc();
-    for (line, expected) in [
-        ("check p a", "check p,a"),
-        ("replay p a t", "replay p,a,t,1000000000"),
-        ("replay p a t --turns=10", "replay p,a,t,10"),
-        ("replay p a --turns=5", "replay p,a,--turns=5,1000000000"),
-        (
-            "serve p a 127.0.0.1:80",
-            "serve p,a,127.0.0.1:80,9007199254740991",
-        ),
-        (
-            "serve p a b --turns=9007199254740991",
-            "serve p,a,b,9007199254740991",
-        ),
-        ("drive p a g", "drive p,a,g"),
-        ("generate 0", "generate 0"),
-        ("generate 4294967295", "generate 4294967295"),
-        ("", "none"),
-        ("check", "none"),
-        ("check p", "none"),
-        ("check p a t", "none"),
-        ("Check p a", "none"),
-        ("replay p a", "none"),
-        ("replay p a t u", "none"),
-        ("replay p a t --turns=0", "none"),
-        ("replay p a t --turns=01", "none"),
-        ("replay p a t --turns=9007199254740992", "none"),
-        ("replay --turns=5 p a t", "none"),
-        ("replay p a t --turns=5 --turns=5", "none"),
-        ("serve p a", "none"),
-        ("drive p a g --turns=5", "none"),
-        ("generate", "none"),
-        ("generate 01", "none"),
-        ("generate 4294967296", "none"),
-        ("generate -1", "none"),
-        ("--help", "none"),
-    ] {
+    for (line, expected) in LINES {
         assert_eq!(rt; asked(alloc, line)?.as_str(), expected, "{line}");
     }
     words_are_one();

@@ -31,6 +31,9 @@ struct Stage {
 
 const NODES: u32 = 8;
 
+/// Nodes, and the child of each.
+const PARENTS: [(u32, u32); 4] = [(0, 1), (1, 2), (2, 3), (3, 4)];
+
 /// Nodes 0, 1, 2 and so on, each the parent of the next.
 fn made(alloc: Global) -> Result<Stage, Fail> {
     let mut heap = Heap::make(
@@ -49,7 +52,7 @@ fn made(alloc: Global) -> Result<Stage, Fail> {
     for _i in 0..5 {
         dom.create_element(alloc, heap.pool_mut(), name)?;
     }
-    for (parent, child) in [(0, 1), (1, 2), (2, 3), (3, 4)] {
+    for (parent, child) in PARENTS {
         put(&mut dom, parent, child);
     }
     Ok(Stage {
@@ -128,197 +131,198 @@ struct Row<'a> {
 }
 
 /// `tools/beside_jsdom.js` reads these rows, and compares them with the calls that jsdom makes.
+static ROWS: [Row<'static>; 11] = [
+    // a page of nested elements: the last but one stops the flow after its node
+    Row {
+        listeners: &[
+            On(4, 0, true),
+            On(2, 1, true),
+            On(4, 2, false),
+            On(3, 3, false),
+            On(3, 4, false),
+            On(2, 5, false),
+        ],
+        deeds: &[(3, Deed::Stop)],
+        target: 4,
+        bubbles: true,
+        clicks: 1,
+        calls: &[(1, 2, 1), (2, 4, 2), (3, 3, 3), (4, 3, 3)],
+    },
+    // the first removes the third and adds a fourth, which is called at the next click
+    Row {
+        listeners: &[On(2, 0, false), On(2, 1, false), On(2, 2, false)],
+        deeds: &[
+            (0, Deed::Remove(On(2, 2, false))),
+            (0, Deed::Add(On(2, 3, false))),
+        ],
+        target: 2,
+        bubbles: true,
+        clicks: 2,
+        calls: &[(0, 2, 2), (1, 2, 2), (0, 2, 2), (1, 2, 2), (3, 2, 2)],
+    },
+    // an event that does not bubble
+    Row {
+        listeners: &[
+            On(0, 0, true),
+            On(1, 1, false),
+            On(3, 2, false),
+            On(0, 3, false),
+        ],
+        deeds: &[],
+        target: 3,
+        bubbles: false,
+        clicks: 1,
+        calls: &[(0, 0, 1), (2, 3, 2)],
+    },
+    // the same function for each phase, and a second time, which counts for nothing
+    Row {
+        listeners: &[
+            On(1, 0, true),
+            On(1, 0, false),
+            On(1, 1, false),
+            On(1, 0, false),
+            On(1, 0, true),
+        ],
+        deeds: &[],
+        target: 2,
+        bubbles: true,
+        clicks: 1,
+        calls: &[(0, 1, 1), (0, 1, 3), (1, 1, 3)],
+    },
+    // stopped on the way down: the others of that node and phase are called
+    Row {
+        listeners: &[
+            On(1, 0, true),
+            On(1, 1, true),
+            On(1, 2, false),
+            On(2, 3, true),
+            On(4, 4, false),
+        ],
+        deeds: &[(0, Deed::Stop)],
+        target: 4,
+        bubbles: true,
+        clicks: 1,
+        calls: &[(0, 1, 1), (1, 1, 1)],
+    },
+    // stopped at the target
+    Row {
+        listeners: &[On(4, 0, false), On(4, 1, false), On(3, 2, false)],
+        deeds: &[(1, Deed::Stop)],
+        target: 4,
+        bubbles: true,
+        clicks: 1,
+        calls: &[(0, 4, 2), (1, 4, 2)],
+    },
+    // the target moves to the top, and an ancestor out of the way: the path stays
+    Row {
+        listeners: &[
+            On(1, 0, true),
+            On(4, 1, false),
+            On(3, 2, false),
+            On(2, 3, false),
+            On(0, 4, false),
+        ],
+        deeds: &[(0, Deed::Move(3, 0)), (1, Deed::Move(4, 1))],
+        target: 4,
+        bubbles: true,
+        clicks: 2,
+        calls: &[
+            (0, 1, 1),
+            (1, 4, 2),
+            (2, 3, 3),
+            (3, 2, 3),
+            (4, 0, 3),
+            (0, 1, 1),
+            (1, 4, 2),
+            (4, 0, 3),
+        ],
+    },
+    // what is added at a node ahead is called, what is removed there is not
+    Row {
+        listeners: &[
+            On(4, 0, false),
+            On(3, 1, false),
+            On(3, 2, false),
+            On(1, 3, false),
+        ],
+        deeds: &[
+            (0, Deed::Add(On(1, 4, false))),
+            (0, Deed::Remove(On(3, 1, false))),
+            (2, Deed::Add(On(3, 5, false))),
+        ],
+        target: 4,
+        bubbles: true,
+        clicks: 2,
+        calls: &[
+            (0, 4, 2),
+            (2, 3, 3),
+            (3, 1, 3),
+            (4, 1, 3),
+            (0, 4, 2),
+            (2, 3, 3),
+            (5, 3, 3),
+            (3, 1, 3),
+            (4, 1, 3),
+        ],
+    },
+    // one that removes and adds itself comes last, at the next click
+    Row {
+        listeners: &[On(2, 0, false), On(2, 1, false)],
+        deeds: &[
+            (0, Deed::Remove(On(2, 0, false))),
+            (0, Deed::Add(On(2, 0, false))),
+        ],
+        target: 2,
+        bubbles: true,
+        clicks: 2,
+        calls: &[(0, 2, 2), (1, 2, 2), (1, 2, 2), (0, 2, 2)],
+    },
+    // the second removes the first, itself and the fourth
+    Row {
+        listeners: &[
+            On(3, 0, false),
+            On(3, 1, false),
+            On(3, 2, false),
+            On(3, 3, false),
+            On(3, 4, false),
+        ],
+        deeds: &[
+            (1, Deed::Remove(On(3, 0, false))),
+            (1, Deed::Remove(On(3, 1, false))),
+            (1, Deed::Remove(On(3, 3, false))),
+        ],
+        target: 3,
+        bubbles: true,
+        clicks: 2,
+        calls: &[
+            (0, 3, 2),
+            (1, 3, 2),
+            (2, 3, 2),
+            (4, 3, 2),
+            (2, 3, 2),
+            (4, 3, 2),
+        ],
+    },
+    // each that is called adds the next one at the node ahead
+    Row {
+        listeners: &[On(0, 0, true)],
+        deeds: &[
+            (0, Deed::Add(On(1, 1, true))),
+            (1, Deed::Add(On(2, 2, false))),
+            (2, Deed::Add(On(1, 3, false))),
+            (2, Deed::Add(On(1, 1, true))),
+        ],
+        target: 2,
+        bubbles: true,
+        clicks: 1,
+        calls: &[(0, 0, 1), (1, 1, 1), (2, 2, 2), (3, 1, 3)],
+    },
+];
+
 #[test]
 fn flows_call_what_the_table_says(rt: HostRuntime) -> Result<(), Fail> {
     let alloc = rt.alloc();
-    let rows = [
-        // a page of nested elements: the last but one stops the flow after its node
-        Row {
-            listeners: &[
-                On(4, 0, true),
-                On(2, 1, true),
-                On(4, 2, false),
-                On(3, 3, false),
-                On(3, 4, false),
-                On(2, 5, false),
-            ],
-            deeds: &[(3, Deed::Stop)],
-            target: 4,
-            bubbles: true,
-            clicks: 1,
-            calls: &[(1, 2, 1), (2, 4, 2), (3, 3, 3), (4, 3, 3)],
-        },
-        // the first removes the third and adds a fourth, which is called at the next click
-        Row {
-            listeners: &[On(2, 0, false), On(2, 1, false), On(2, 2, false)],
-            deeds: &[
-                (0, Deed::Remove(On(2, 2, false))),
-                (0, Deed::Add(On(2, 3, false))),
-            ],
-            target: 2,
-            bubbles: true,
-            clicks: 2,
-            calls: &[(0, 2, 2), (1, 2, 2), (0, 2, 2), (1, 2, 2), (3, 2, 2)],
-        },
-        // an event that does not bubble
-        Row {
-            listeners: &[
-                On(0, 0, true),
-                On(1, 1, false),
-                On(3, 2, false),
-                On(0, 3, false),
-            ],
-            deeds: &[],
-            target: 3,
-            bubbles: false,
-            clicks: 1,
-            calls: &[(0, 0, 1), (2, 3, 2)],
-        },
-        // the same function for each phase, and a second time, which counts for nothing
-        Row {
-            listeners: &[
-                On(1, 0, true),
-                On(1, 0, false),
-                On(1, 1, false),
-                On(1, 0, false),
-                On(1, 0, true),
-            ],
-            deeds: &[],
-            target: 2,
-            bubbles: true,
-            clicks: 1,
-            calls: &[(0, 1, 1), (0, 1, 3), (1, 1, 3)],
-        },
-        // stopped on the way down: the others of that node and phase are called
-        Row {
-            listeners: &[
-                On(1, 0, true),
-                On(1, 1, true),
-                On(1, 2, false),
-                On(2, 3, true),
-                On(4, 4, false),
-            ],
-            deeds: &[(0, Deed::Stop)],
-            target: 4,
-            bubbles: true,
-            clicks: 1,
-            calls: &[(0, 1, 1), (1, 1, 1)],
-        },
-        // stopped at the target
-        Row {
-            listeners: &[On(4, 0, false), On(4, 1, false), On(3, 2, false)],
-            deeds: &[(1, Deed::Stop)],
-            target: 4,
-            bubbles: true,
-            clicks: 1,
-            calls: &[(0, 4, 2), (1, 4, 2)],
-        },
-        // the target moves to the top, and an ancestor out of the way: the path stays
-        Row {
-            listeners: &[
-                On(1, 0, true),
-                On(4, 1, false),
-                On(3, 2, false),
-                On(2, 3, false),
-                On(0, 4, false),
-            ],
-            deeds: &[(0, Deed::Move(3, 0)), (1, Deed::Move(4, 1))],
-            target: 4,
-            bubbles: true,
-            clicks: 2,
-            calls: &[
-                (0, 1, 1),
-                (1, 4, 2),
-                (2, 3, 3),
-                (3, 2, 3),
-                (4, 0, 3),
-                (0, 1, 1),
-                (1, 4, 2),
-                (4, 0, 3),
-            ],
-        },
-        // what is added at a node ahead is called, what is removed there is not
-        Row {
-            listeners: &[
-                On(4, 0, false),
-                On(3, 1, false),
-                On(3, 2, false),
-                On(1, 3, false),
-            ],
-            deeds: &[
-                (0, Deed::Add(On(1, 4, false))),
-                (0, Deed::Remove(On(3, 1, false))),
-                (2, Deed::Add(On(3, 5, false))),
-            ],
-            target: 4,
-            bubbles: true,
-            clicks: 2,
-            calls: &[
-                (0, 4, 2),
-                (2, 3, 3),
-                (3, 1, 3),
-                (4, 1, 3),
-                (0, 4, 2),
-                (2, 3, 3),
-                (5, 3, 3),
-                (3, 1, 3),
-                (4, 1, 3),
-            ],
-        },
-        // one that removes and adds itself comes last, at the next click
-        Row {
-            listeners: &[On(2, 0, false), On(2, 1, false)],
-            deeds: &[
-                (0, Deed::Remove(On(2, 0, false))),
-                (0, Deed::Add(On(2, 0, false))),
-            ],
-            target: 2,
-            bubbles: true,
-            clicks: 2,
-            calls: &[(0, 2, 2), (1, 2, 2), (1, 2, 2), (0, 2, 2)],
-        },
-        // the second removes the first, itself and the fourth
-        Row {
-            listeners: &[
-                On(3, 0, false),
-                On(3, 1, false),
-                On(3, 2, false),
-                On(3, 3, false),
-                On(3, 4, false),
-            ],
-            deeds: &[
-                (1, Deed::Remove(On(3, 0, false))),
-                (1, Deed::Remove(On(3, 1, false))),
-                (1, Deed::Remove(On(3, 3, false))),
-            ],
-            target: 3,
-            bubbles: true,
-            clicks: 2,
-            calls: &[
-                (0, 3, 2),
-                (1, 3, 2),
-                (2, 3, 2),
-                (4, 3, 2),
-                (2, 3, 2),
-                (4, 3, 2),
-            ],
-        },
-        // each that is called adds the next one at the node ahead
-        Row {
-            listeners: &[On(0, 0, true)],
-            deeds: &[
-                (0, Deed::Add(On(1, 1, true))),
-                (1, Deed::Add(On(2, 2, false))),
-                (2, Deed::Add(On(1, 3, false))),
-                (2, Deed::Add(On(1, 1, true))),
-            ],
-            target: 2,
-            bubbles: true,
-            clicks: 1,
-            calls: &[(0, 0, 1), (1, 1, 1), (2, 2, 2), (3, 1, 3)],
-        },
-    ];
-    for row in &rows {
+    for row in &ROWS {
         let mut stage = made(alloc)?;
         for on in row.listeners {
             let click = stage.click;

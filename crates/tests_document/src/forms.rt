@@ -192,23 +192,25 @@ fn reads(alloc: Global, s: &mut Small, n: u32, expected: &str) -> Result<bool, F
     }
 }
 
+/// Nodes of the page, and the value that each has first.
+const FIRST_VALUES: [(u32, &str); 11] = [
+    (3, "a"),
+    (4, "1"),
+    (5, "on"),
+    (6, ""),
+    (7, "ab"),
+    (8, "ab"),
+    (9, "x"),
+    (11, "ab"),
+    (13, ""),
+    (2, ""),
+    (15, ""),
+];
+
 #[test]
 fn values_begin_as_the_tree_says(rt: HostRuntime) -> Result<(), Fail> {
-    let rows: [(u32, &str); 11] = [
-        (3, "a"),
-        (4, "1"),
-        (5, "on"),
-        (6, ""),
-        (7, "ab"),
-        (8, "ab"),
-        (9, "x"),
-        (11, "ab"),
-        (13, ""),
-        (2, ""),
-        (15, ""),
-    ];
     let mut s = page(rt.alloc())?;
-    for (n, expected) in &rows {
+    for (n, expected) in &FIRST_VALUES {
         let same = reads(rt.alloc(), &mut s, *n, *expected)?;
         assert_eq!(rt; (*n, same), (*n, true));
     }
@@ -222,11 +224,13 @@ fn values_begin_as_the_tree_says(rt: HostRuntime) -> Result<(), Fail> {
     Ok(())
 }
 
+/// Values that are written to the select, and the place of the option that each chooses.
+const CHOSEN: [(&str, i64); 4] = [("x", 0), ("ab", 1), ("a", -1), ("", -1)];
+
 #[test]
 fn a_written_value_chooses_the_first_option(rt: HostRuntime) -> Result<(), Fail> {
-    let rows: [(&str, i64); 4] = [("x", 0), ("ab", 1), ("a", -1), ("", -1)];
     let s = page(rt.alloc())?;
-    for (value, place) in &rows {
+    for (value, place) in &CHOSEN {
         let value = Units::from_utf8(rt.alloc(), value.as_bytes())?;
         let chosen = place_of_value(&s.dom, &s.pool, 8, value.as_slice());
         assert_eq!(rt; chosen, *place);
@@ -271,61 +275,65 @@ fn perform(alloc: Global, s: &mut Small, act: &Act) -> Result<bool, Fail> {
     Ok(false)
 }
 
-const fn of(kind: EventKind, node: u32, text: Option<&'static str>, place: Option<u32>) -> Act {
-    Act::Report((kind, node, text, place, Ok(())))
-}
+/// What is done, whether it is refused, a node and its value, `checked` of 5, `selectedIndex` of 8.
+static ACTS: [(Act, bool, u32, &str, bool, i64); 9] = [
+    (
+        Act::Report((EventKind::Input, 3, Some("xyz"), None, Ok(()))),
+        false,
+        3,
+        "xyz",
+        true,
+        1,
+    ),
+    (
+        Act::Report((EventKind::Input, 3, Some("01234567"), None, Ok(()))),
+        true,
+        3,
+        "xyz",
+        true,
+        1,
+    ),
+    (
+        Act::Report((EventKind::Click, 5, None, None, Ok(()))),
+        false,
+        4,
+        "1",
+        false,
+        1,
+    ),
+    (
+        Act::Set(5, FormState::Checked(false)),
+        false,
+        5,
+        "on",
+        false,
+        1,
+    ),
+    (Act::Undo(5), false, 5, "on", true, 1),
+    (
+        Act::Report((EventKind::Change, 8, None, Some(0), Ok(()))),
+        false,
+        8,
+        "x",
+        true,
+        0,
+    ),
+    (Act::TakeOut(8, 9), false, 8, "ab", true, 0),
+    (Act::Set(8, FormState::Selected(5)), false, 8, "", true, -1),
+    (
+        Act::Report((EventKind::Focus, 7, None, None, Ok(()))),
+        false,
+        7,
+        "ab",
+        true,
+        -1,
+    ),
+];
 
 #[test]
 fn states_are_as_they_were_set_last(rt: HostRuntime) -> Result<(), Fail> {
-    // What is done, whether it is refused, a node and its value, `checked` of 5, `selectedIndex` of 8.
-    let rows: [(Act, bool, u32, &str, bool, i64); 9] = [
-        (
-            of(EventKind::Input, 3, Some("xyz"), None),
-            false,
-            3,
-            "xyz",
-            true,
-            1,
-        ),
-        (
-            of(EventKind::Input, 3, Some("01234567"), None),
-            true,
-            3,
-            "xyz",
-            true,
-            1,
-        ),
-        (of(EventKind::Click, 5, None, None), false, 4, "1", false, 1),
-        (
-            Act::Set(5, FormState::Checked(false)),
-            false,
-            5,
-            "on",
-            false,
-            1,
-        ),
-        (Act::Undo(5), false, 5, "on", true, 1),
-        (
-            of(EventKind::Change, 8, None, Some(0)),
-            false,
-            8,
-            "x",
-            true,
-            0,
-        ),
-        (Act::TakeOut(8, 9), false, 8, "ab", true, 0),
-        (Act::Set(8, FormState::Selected(5)), false, 8, "", true, -1),
-        (
-            of(EventKind::Focus, 7, None, None),
-            false,
-            7,
-            "ab",
-            true,
-            -1,
-        ),
-    ];
     let mut s = page(rt.alloc())?;
-    for (step, refused, n, expected, checked, place) in &rows {
+    for (step, refused, n, expected, checked, place) in &ACTS {
         let done = perform(rt.alloc(), &mut s, step)?;
         let same = reads(rt.alloc(), &mut s, *n, *expected)?;
         let found = (

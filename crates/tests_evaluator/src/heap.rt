@@ -36,6 +36,14 @@ fn numeral(n: i64) -> Numeral {
     }
 }
 
+/// The number, or `NaN` where there is none.
+fn numeral_or_nan(n: Option<i64>) -> Numeral {
+    match n {
+        Some(n) => numeral(n),
+        None => Numeral::NaN,
+    }
+}
+
 #[test]
 fn an_empty_host_is_outside_the_profile(rt: HostRuntime) -> Result<(), Fail> {
     let mut heap = Heap::make(rt.alloc(), LIMITS)?;
@@ -122,12 +130,15 @@ fn properties_are_found_along_prototypes(rt: HostRuntime) -> Result<(), Fail> {
     Ok(())
 }
 
+/// Names of properties, in the order in which they are put.
+const NAMES: [FixedText; 3] = [FixedText::Id, FixedText::Code, FixedText::Name];
+
 #[test]
 fn properties_keep_their_order(rt: HostRuntime) -> Result<(), Fail> {
     let alloc = rt.alloc();
     let mut heap = Heap::make(alloc, LIMITS)?;
     let object = heap.new_object(alloc, Some(7))?;
-    for name in [FixedText::Id, FixedText::Code, FixedText::Name] {
+    for name in NAMES {
         heap.put(alloc, object, name.span(), Value::Null)?;
     }
     assert!(rt; heap.remove(object, FixedText::Id.span()));
@@ -176,6 +187,13 @@ fn texts_are_charged(rt: HostRuntime) -> Result<(), Fail> {
     Ok(())
 }
 
+/// Whole numbers, and whether their numerals have room where a text has one unit at most.
+const ROOMS: [(i64, Result<(), Halt>); 3] = [
+    (8, Ok(())),
+    (12, Err(Halt::Fault(Fault::TextTooLong))),
+    (-1, Err(Halt::Fault(Fault::TextTooLong))),
+];
+
 #[test]
 fn numerals_are_judged_against_the_limit_text(rt: HostRuntime) -> Result<(), Fail> {
     let alloc = rt.alloc();
@@ -189,14 +207,9 @@ fn numerals_are_judged_against_the_limit_text(rt: HostRuntime) -> Result<(), Fai
         },
     )?;
     to_text(alloc, &mut heap, number(7))?;
-    let rows = [
-        (number(8), Ok(())),
-        (number(12), Err(Halt::Fault(too_long))),
-        (number(-1), Err(Halt::Fault(too_long))),
-    ];
-    for (v, room) in rows {
-        if let Value::Num(whole) = v {
-            assert_eq!(rt; room_for_numeral(&heap, whole), room, "{v:?}");
+    for (n, room) in ROOMS {
+        if let Value::Num(whole) = number(n) {
+            assert_eq!(rt; room_for_numeral(&heap, whole), room, "{n}");
         }
     }
     assert_eq!(rt;
@@ -265,20 +278,26 @@ fn elements_are_pushed_and_copied_together(rt: HostRuntime) -> Result<(), Fail> 
     Ok(())
 }
 
+/// Values, and the fixed text of each, or none of what has no text.
+const FIXED: [(Value, Option<FixedText>); 6] = [
+    (Value::Undefined, Some(FixedText::Undefined)),
+    (Value::Null, Some(FixedText::Null)),
+    (Value::Bool(true), Some(FixedText::True)),
+    (Value::Bool(false), Some(FixedText::False)),
+    (Value::NaN, Some(FixedText::NaN)),
+    (Value::Object(0), None),
+];
+
 #[test]
 fn fixed_texts_cost_nothing(rt: HostRuntime) -> Result<(), Fail> {
     let alloc = rt.alloc();
     let mut heap = Heap::make(alloc, LIMITS)?;
     let fault = Halt::Fault(Fault::ObjectToPrimitive);
-    let rows = [
-        (Value::Undefined, Ok(FixedText::Undefined.span())),
-        (Value::Null, Ok(FixedText::Null.span())),
-        (Value::Bool(true), Ok(FixedText::True.span())),
-        (Value::Bool(false), Ok(FixedText::False.span())),
-        (Value::NaN, Ok(FixedText::NaN.span())),
-        (Value::Object(0), Err(fault)),
-    ];
-    for (v, text) in rows {
+    for (v, fixed) in FIXED {
+        let text = match fixed {
+            Some(fixed) => Ok(fixed.span()),
+            None => Err(fault),
+        };
         assert_eq!(rt; to_text(alloc, &mut heap, v), text, "{v:?}");
     }
     assert_eq!(rt; heap.pool().used(), 0);
@@ -289,20 +308,23 @@ fn fixed_texts_cost_nothing(rt: HostRuntime) -> Result<(), Fail> {
     Ok(())
 }
 
+/// Whole numbers, or none for `NaN`, and the numbers of 32 bits of each, without a sign and with one.
+const OF_32_BITS: [(Option<i64>, u32, i32); 9] = [
+    (Some(0), 0, 0),
+    (None, 0, 0),
+    (Some(-1), 4_294_967_295, -1),
+    (Some(2_147_483_647), 2_147_483_647, 2_147_483_647),
+    (Some(2_147_483_648), 2_147_483_648, -2_147_483_648),
+    (Some(-2_147_483_649), 2_147_483_647, 2_147_483_647),
+    (Some(4_294_967_297), 1, 1),
+    (Some(9_007_199_254_740_991), 4_294_967_295, -1),
+    (Some(-9_007_199_254_740_991), 1, 1),
+];
+
 #[test]
 fn numbers_of_32_bits(rt: HostRuntime) {
-    let rows = [
-        (numeral(0), 0, 0),
-        (Numeral::NaN, 0, 0),
-        (numeral(-1), 4_294_967_295, -1),
-        (numeral(2_147_483_647), 2_147_483_647, 2_147_483_647),
-        (numeral(2_147_483_648), 2_147_483_648, -2_147_483_648),
-        (numeral(-2_147_483_649), 2_147_483_647, 2_147_483_647),
-        (numeral(4_294_967_297), 1, 1),
-        (numeral(9_007_199_254_740_991), 4_294_967_295, -1),
-        (numeral(-9_007_199_254_740_991), 1, 1),
-    ];
-    for (n, unsigned, signed) in rows {
+    for (n, unsigned, signed) in OF_32_BITS {
+        let n = numeral_or_nan(n);
         assert_eq!(rt; (to_uint32(n), to_int32(n)), (unsigned, signed), "{n:?}");
     }
     assert_eq!(rt;
@@ -311,26 +333,59 @@ fn numbers_of_32_bits(rt: HostRuntime) {
     );
 }
 
+/// What stands for a value in a row.
+#[derive(Clone, Copy)]
+enum Given {
+    Value(Value),
+    Number(i64),
+    Fixed(FixedText),
+    /// The text ` 7`.
+    Seven,
+    /// The text `.5`.
+    Half,
+}
+
+fn given_value(given: Given, seven: Span, half: Span) -> Value {
+    match given {
+        Given::Value(v) => v,
+        Given::Number(n) => number(n),
+        Given::Fixed(fixed) => Value::Text(fixed.span()),
+        Given::Seven => Value::Text(seven),
+        Given::Half => Value::Text(half),
+    }
+}
+
+/// Values, and each as a boolean and as a number, where none is `NaN`.
+const CONVERTED: [(Given, bool, Result<Option<i64>, Fault>); 12] = [
+    (Given::Value(Value::Undefined), false, Ok(None)),
+    (Given::Value(Value::Null), false, Ok(Some(0))),
+    (Given::Value(Value::Bool(false)), false, Ok(Some(0))),
+    (Given::Value(Value::Bool(true)), true, Ok(Some(1))),
+    (Given::Number(0), false, Ok(Some(0))),
+    (Given::Number(-3), true, Ok(Some(-3))),
+    (Given::Value(Value::NaN), false, Ok(None)),
+    (Given::Fixed(FixedText::Empty), false, Ok(Some(0))),
+    (Given::Fixed(FixedText::On), true, Ok(None)),
+    (Given::Seven, true, Ok(Some(7))),
+    (Given::Half, true, Err(Fault::NotWhole)),
+    (
+        Given::Value(Value::Object(200)),
+        true,
+        Err(Fault::ObjectToPrimitive),
+    ),
+];
+
 #[test]
 fn values_are_converted(rt: HostRuntime) -> Result<(), Fail> {
     let mut heap = Heap::make(rt.alloc(), LIMITS)?;
     let seven = heap.pool_mut().add(rt.alloc(), &[0x20, 0x37])?;
     let half = heap.pool_mut().add(rt.alloc(), &[0x2E, 0x35])?;
-    let rows = [
-        (Value::Undefined, false, Ok(Numeral::NaN)),
-        (Value::Null, false, Ok(numeral(0))),
-        (Value::Bool(false), false, Ok(numeral(0))),
-        (Value::Bool(true), true, Ok(numeral(1))),
-        (number(0), false, Ok(numeral(0))),
-        (number(-3), true, Ok(numeral(-3))),
-        (Value::NaN, false, Ok(Numeral::NaN)),
-        (Value::Text(FixedText::Empty.span()), false, Ok(numeral(0))),
-        (Value::Text(FixedText::On.span()), true, Ok(Numeral::NaN)),
-        (Value::Text(seven), true, Ok(numeral(7))),
-        (Value::Text(half), true, Err(Fault::NotWhole)),
-        (Value::Object(200), true, Err(Fault::ObjectToPrimitive)),
-    ];
-    for (v, boolean, number) in rows {
+    for (given, boolean, number) in CONVERTED {
+        let v = given_value(given, seven, half);
+        let number = match number {
+            Ok(n) => Ok(numeral_or_nan(n)),
+            Err(fault) => Err(fault),
+        };
         assert_eq!(rt;
             (to_boolean(&heap, v), to_number(&heap, v)),
             (boolean, number),

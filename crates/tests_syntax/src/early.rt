@@ -111,24 +111,21 @@ fn tree_that_binds_three(alloc: Global) -> Result<Tree, NoMemory> {
     Ok(maker.finish())
 }
 
+/// The nodes that bind a name, and the place of each among the names.
+const BOUND: [(u32, u32); 3] = [(4, 0), (11, 1), (6, 2)];
+
 #[test]
 fn names_are_bound_in_the_order_of_the_text(rt: HostRuntime) -> Result<(), Fail> {
     let script = tree_that_binds_three(rt.alloc())?;
     let trees = Trees::from_vec(vec![in rt.alloc(); script]?);
     let program = check(rt.alloc(), &trees)?;
     assert_eq!(rt; program.top_names(), 3);
-    assert_eq!(rt;
-        program.resolved(4),
-        Some(Resolved::Binding { up: 0, place: 0 })
-    );
-    assert_eq!(rt;
-        program.resolved(11),
-        Some(Resolved::Binding { up: 0, place: 1 })
-    );
-    assert_eq!(rt;
-        program.resolved(6),
-        Some(Resolved::Binding { up: 0, place: 2 })
-    );
+    for (id, place) in BOUND {
+        assert_eq!(rt;
+            program.resolved(id),
+            Some(Resolved::Binding { up: 0, place })
+        );
+    }
     Ok(())
 }
 

@@ -28,170 +28,208 @@ fn page(kind: PageKind, place: u32) -> Result<(u32, u32), AppRefusal> {
     Err(AppRefusal::Page { place, kind })
 }
 
-fn lex(script: u32, kind: LexKind, place: u32) -> Result<(u32, u32), AppRefusal> {
-    Err(AppRefusal::Lex {
-        script,
-        place,
-        kind,
+/// How scripts are judged: the number of one, why it is refused where there is more than one cause, and the place.
+#[derive(Clone, Copy)]
+enum Judged {
+    NoTokens(u32, LexKind, u32),
+    NoTree(u32, u32),
+    Early(u32, EarlyKind, u32),
+}
+
+/// The refusal of a script.
+fn refused(judged: Judged) -> Result<(u32, u32), AppRefusal> {
+    Err(match judged {
+        Judged::NoTokens(script, kind, place) => AppRefusal::Lex {
+            script,
+            place,
+            kind,
+        },
+        Judged::NoTree(script, place) => AppRefusal::Parse {
+            script,
+            place,
+            kind: ParseKind::Unexpected,
+        },
+        Judged::Early(script, kind, place) => AppRefusal::Early {
+            script,
+            place,
+            kind,
+        },
     })
 }
 
-fn unexpected(script: u32, place: u32) -> Result<(u32, u32), AppRefusal> {
-    let kind = ParseKind::Unexpected;
-    Err(AppRefusal::Parse {
-        script,
-        place,
-        kind,
-    })
-}
+/// Pages that are refused, why, and where.
+const PAGES: [(&str, PageKind, u32); 7] = [
+    ("", PageKind::MissingPart, 0),
+    ("<html>", PageKind::MissingPart, 6),
+    (
+        "<html><head></head><body><p></body></html>",
+        PageKind::Misnested,
+        28,
+    ),
+    (
+        "<html><head></head><body><p =></p></body></html>",
+        PageKind::BadAttribute,
+        28,
+    ),
+    (
+        "<html><head></head><body>&foo;</body></html>",
+        PageKind::BadReference,
+        25,
+    ),
+    (
+        "<html><head></head><body><script>1.5</script><p></p></body></html>",
+        PageKind::ScriptNotLast,
+        45,
+    ),
+    (
+        "<html><head></head><body><script src=\"a\"></script></body></html>",
+        PageKind::ExternalScript,
+        33,
+    ),
+];
 
-fn early(script: u32, kind: EarlyKind, place: u32) -> Result<(u32, u32), AppRefusal> {
-    Err(AppRefusal::Early {
-        script,
-        place,
-        kind,
-    })
-}
+/// A page with a byte that is no UTF-8 behind its first 25.
+const NOT_UTF8: &[u8] = b"<html><head></head><body>\xff</body></html>";
 
 #[test]
 fn pages_are_judged_first(rt: HostRuntime) -> Result<(), Fail> {
     let alloc = rt.alloc();
-    for (text, refusal) in [
-        ("", page(PageKind::MissingPart, 0)),
-        ("<html>", page(PageKind::MissingPart, 6)),
-        (
-            "<html><head></head><body><p></body></html>",
-            page(PageKind::Misnested, 28),
-        ),
-        (
-            "<html><head></head><body><p =></p></body></html>",
-            page(PageKind::BadAttribute, 28),
-        ),
-        (
-            "<html><head></head><body>&foo;</body></html>",
-            page(PageKind::BadReference, 25),
-        ),
-        (
-            "<html><head></head><body><script>1.5</script><p></p></body></html>",
-            page(PageKind::ScriptNotLast, 45),
-        ),
-        (
-            "<html><head></head><body><script src=\"a\"></script></body></html>",
-            page(PageKind::ExternalScript, 33),
-        ),
-    ] {
+    for (text, kind, place) in PAGES {
         for manifest in [MANIFEST, ""] {
-            assert_eq!(rt; load_text(alloc, text, manifest), refusal, "{text}");
+            assert_eq!(rt;
+                load_text(alloc, text, manifest),
+                page(kind, place),
+                "{text}"
+            );
         }
     }
-    let bytes = b"<html><head></head><body>\xff</body></html>";
-    let loaded = load(alloc, bytes, MANIFEST.as_bytes()).map(counts);
+    let loaded = load(alloc, NOT_UTF8, MANIFEST.as_bytes()).map(counts);
     assert_eq!(rt; loaded, page(PageKind::NotUtf8, 25));
     Ok(())
 }
 
+/// Bodies of pages, and how the scripts in them are judged.
+const SCRIPTS: [(&str, Judged); 11] = [
+    (
+        "<script>1.5</script>",
+        Judged::NoTokens(1, LexKind::FractionLiteral, 0),
+    ),
+    (
+        "<script>a b 1.5</script>",
+        Judged::NoTokens(1, LexKind::FractionLiteral, 4),
+    ),
+    ("<script>\"\u{e9}\" b</script>", Judged::NoTree(1, 4)),
+    ("<script>\"\u{1f600}\" b</script>", Judged::NoTree(1, 5)),
+    (
+        "<script>\"use strict\";</script><script>\"use strict\";#</script>",
+        Judged::NoTokens(2, LexKind::BadCharacter, 13),
+    ),
+    (
+        "<script>a b</script><script>1.5</script>",
+        Judged::NoTree(1, 2),
+    ),
+    (
+        "<script>foo</script><script>1.5</script>",
+        Judged::NoTokens(2, LexKind::FractionLiteral, 0),
+    ),
+    (
+        "<script>\"use strict\";foo</script><script>a b</script>",
+        Judged::NoTree(2, 2),
+    ),
+    (
+        "<script>\"use strict\";foo</script><script></script>",
+        Judged::Early(1, EarlyKind::UnknownGlobal, 13),
+    ),
+    (
+        "<script>\"use strict\";</script><script></script>",
+        Judged::Early(2, EarlyKind::NotStrict, 0),
+    ),
+    (
+        "<script></script>",
+        Judged::Early(1, EarlyKind::NotStrict, 0),
+    ),
+];
+
 #[test]
 fn scripts_are_judged_in_their_order(rt: HostRuntime) -> Result<(), Fail> {
     let alloc = rt.alloc();
-    for (body, refusal) in [
-        ("<script>1.5</script>", lex(1, LexKind::FractionLiteral, 0)),
-        (
-            "<script>a b 1.5</script>",
-            lex(1, LexKind::FractionLiteral, 4),
-        ),
-        ("<script>\"\u{e9}\" b</script>", unexpected(1, 4)),
-        ("<script>\"\u{1f600}\" b</script>", unexpected(1, 5)),
-        (
-            "<script>\"use strict\";</script><script>\"use strict\";#</script>",
-            lex(2, LexKind::BadCharacter, 13),
-        ),
-        ("<script>a b</script><script>1.5</script>", unexpected(1, 2)),
-        (
-            "<script>foo</script><script>1.5</script>",
-            lex(2, LexKind::FractionLiteral, 0),
-        ),
-        (
-            "<script>\"use strict\";foo</script><script>a b</script>",
-            unexpected(2, 2),
-        ),
-        (
-            "<script>\"use strict\";foo</script><script></script>",
-            early(1, EarlyKind::UnknownGlobal, 13),
-        ),
-        (
-            "<script>\"use strict\";</script><script></script>",
-            early(2, EarlyKind::NotStrict, 0),
-        ),
-        ("<script></script>", early(1, EarlyKind::NotStrict, 0)),
-    ] {
+    for (body, judged) in SCRIPTS {
         let text = page_of(alloc, body)?;
         for manifest in [MANIFEST, ""] {
             let loaded = load_text(alloc, text.as_str(), manifest);
-            assert_eq!(rt; loaded, refusal, "{body}");
+            assert_eq!(rt; loaded, refused(judged), "{body}");
         }
     }
     Ok(())
 }
+
+/// Manifests that are refused, and why.
+const MANIFESTS: [(&str, AppRefusal); 10] = [
+    ("", AppRefusal::Manifest(ManifestKind::Syntax)),
+    (
+        "{\"version\":1,\"functions\":{},\"limits\":{}}x",
+        AppRefusal::Manifest(ManifestKind::Syntax),
+    ),
+    ("[]", AppRefusal::Manifest(ManifestKind::Member)),
+    (
+        "{\"version\":2,\"functions\":{}}",
+        AppRefusal::Manifest(ManifestKind::Member),
+    ),
+    (
+        "{\"version\":1,\"functions\":{},\"limits\":{},\"more\":1}",
+        AppRefusal::Manifest(ManifestKind::Member),
+    ),
+    (
+        "{\"version\":2,\"functions\":1,\"limits\":1}",
+        AppRefusal::Manifest(ManifestKind::Version),
+    ),
+    (
+        "{\"version\":1,\"functions\":{\"f\":[\"drop\",\"\"]},\"limits\":1}",
+        AppRefusal::Manifest(ManifestKind::Function),
+    ),
+    (
+        "{\"version\":1,\"functions\":{},\"limits\":{\"cells\":0}}",
+        AppRefusal::Manifest(ManifestKind::LimitRange),
+    ),
+    (
+        "{\"version\":1,\"functions\":{},\"limits\":{\"sessions\":1025}}",
+        AppRefusal::Manifest(ManifestKind::LimitRange),
+    ),
+    (
+        "{\"version\":1,\"functions\":{},\"limits\":{\"sessions\":1020}}",
+        AppRefusal::LimitsTooLarge,
+    ),
+];
+
+/// A manifest of as many sessions as there may be where the other limits are the defaults.
+const MOST_SESSIONS: &str = "{\"version\":1,\"functions\":{},\"limits\":{\"sessions\":1019}}";
 
 #[test]
 fn manifests_are_judged_last(rt: HostRuntime) -> Result<(), Fail> {
     let alloc = rt.alloc();
     let text = page_of(alloc, "<script>\"use strict\";</script>")?;
-    for (manifest, refusal) in [
-        ("", AppRefusal::Manifest(ManifestKind::Syntax)),
-        (
-            "{\"version\":1,\"functions\":{},\"limits\":{}}x",
-            AppRefusal::Manifest(ManifestKind::Syntax),
-        ),
-        ("[]", AppRefusal::Manifest(ManifestKind::Member)),
-        (
-            "{\"version\":2,\"functions\":{}}",
-            AppRefusal::Manifest(ManifestKind::Member),
-        ),
-        (
-            "{\"version\":1,\"functions\":{},\"limits\":{},\"more\":1}",
-            AppRefusal::Manifest(ManifestKind::Member),
-        ),
-        (
-            "{\"version\":2,\"functions\":1,\"limits\":1}",
-            AppRefusal::Manifest(ManifestKind::Version),
-        ),
-        (
-            "{\"version\":1,\"functions\":{\"f\":[\"drop\",\"\"]},\"limits\":1}",
-            AppRefusal::Manifest(ManifestKind::Function),
-        ),
-        (
-            "{\"version\":1,\"functions\":{},\"limits\":{\"cells\":0}}",
-            AppRefusal::Manifest(ManifestKind::LimitRange),
-        ),
-        (
-            "{\"version\":1,\"functions\":{},\"limits\":{\"sessions\":1025}}",
-            AppRefusal::Manifest(ManifestKind::LimitRange),
-        ),
-        (
-            "{\"version\":1,\"functions\":{},\"limits\":{\"sessions\":1020}}",
-            AppRefusal::LimitsTooLarge,
-        ),
-    ] {
+    for (manifest, refusal) in MANIFESTS {
         let loaded = load_text(alloc, text.as_str(), manifest);
         assert_eq!(rt; loaded, Err(refusal), "{manifest}");
     }
-    let manifest = "{\"version\":1,\"functions\":{},\"limits\":{\"sessions\":1019}}";
-    let app = load(alloc, text.as_bytes(), manifest.as_bytes())?;
+    let app = load(alloc, text.as_bytes(), MOST_SESSIONS.as_bytes())?;
     assert_eq!(rt; app.limits().sessions, 1019);
     Ok(())
 }
 
+/// A body of ten nodes with two scripts, in the second of which stands a function that the first one calls.
+const TWO_SCRIPTS: &str =
+    "<p>a</p><script>\"use strict\";f();</script><script>\"use strict\";function f(){}</script>";
+
+/// A manifest of one function and one limit.
+const ONE_FUNCTION: &str =
+    "{\"version\":1,\"functions\":{\"store.get\":[\"get\",\"a.\"]},\"limits\":{\"depth\":7}}";
+
 #[test]
 fn applications_are_loaded(rt: HostRuntime) -> Result<(), Fail> {
     let alloc = rt.alloc();
-    let text = page_of(
-        alloc,
-        "<p>a</p><script>\"use strict\";f();</script><script>\"use strict\";function f(){}</script>",
-    )?;
-    let manifest =
-        "{\"version\":1,\"functions\":{\"store.get\":[\"get\",\"a.\"]},\"limits\":{\"depth\":7}}";
-    let app = load(alloc, text.as_bytes(), manifest.as_bytes())?;
+    let text = page_of(alloc, TWO_SCRIPTS)?;
+    let app = load(alloc, text.as_bytes(), ONE_FUNCTION.as_bytes())?;
     assert!(rt; app.bytes() == text.as_bytes());
     assert_eq!(rt; app.node_count(), 10);
     assert_eq!(rt; app.page().script_count(), 2);

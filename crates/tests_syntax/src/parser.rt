@@ -409,6 +409,9 @@ fn deep_trees_have_places(rt: HostRuntime) -> Result<(), Fail> {
     Ok(())
 }
 
+/// The places of the nodes of `x;(a).b=c`, in the order of their numbers.
+const NODE_PLACES: [u32; 8] = [0, 2, 2, 8, 2, 3, 0, 0];
+
 /// The place of a node is that of its first token, parentheses of its first part counted.
 #[test]
 fn nodes_have_places(rt: HostRuntime) -> Result<(), Fail> {
@@ -417,7 +420,7 @@ fn nodes_have_places(rt: HostRuntime) -> Result<(), Fail> {
     for id in 0..tree.count() {
         found.push(tree.node(id).place)?;
     }
-    assert_eq!(rt; found.as_slice(), [0, 2, 2, 8, 2, 3, 0, 0].as_slice());
+    assert_eq!(rt; found.as_slice(), NODE_PLACES.as_slice());
     Ok(())
 }
 
@@ -425,6 +428,28 @@ fn nodes_have_places(rt: HostRuntime) -> Result<(), Fail> {
 const SCRIPT: [u16; 29] = [
     105, 102, 40, 97, 32, 105, 110, 32, 49, 41, 10, 43, 43, 98, 62, 62, 62, 61, 34, 34, 38, 38,
     116, 121, 112, 101, 111, 102, 59,
+];
+
+/// Its words, each with its place and whether a line end stands before it.
+const WORDS: [(Word, u32, bool); 14] = [
+    (Word::If, 0, false),
+    (Word::OpenParenthesis, 2, false),
+    (Word::Name, 3, false),
+    (Word::Infix(BinaryOperator::In), 5, false),
+    (Word::Numeral, 8, false),
+    (Word::CloseParenthesis, 9, false),
+    (Word::Step(StepOperator::Increment), 11, true),
+    (Word::Name, 13, false),
+    (
+        Word::Compound(BinaryOperator::ShiftRightUnsigned),
+        14,
+        false,
+    ),
+    (Word::Text, 18, false),
+    (Word::Logical(LogicalOperator::And), 20, false),
+    (Word::Prefix(UnaryOperator::TypeOf), 22, false),
+    (Word::Semicolon, 28, false),
+    (Word::End, 29, false),
 ];
 
 /// `if(a in 1)`, a line end, `++b>>>=""&&typeof;`.
@@ -436,26 +461,6 @@ fn words_are_read(rt: HostRuntime) -> Result<(), Fail> {
     for lexeme in &lexemes {
         words.push((lexeme.word, lexeme.start, lexeme.line_before))?;
     }
-    let expected = [
-        (Word::If, 0, false),
-        (Word::OpenParenthesis, 2, false),
-        (Word::Name, 3, false),
-        (Word::Infix(BinaryOperator::In), 5, false),
-        (Word::Numeral, 8, false),
-        (Word::CloseParenthesis, 9, false),
-        (Word::Step(StepOperator::Increment), 11, true),
-        (Word::Name, 13, false),
-        (
-            Word::Compound(BinaryOperator::ShiftRightUnsigned),
-            14,
-            false,
-        ),
-        (Word::Text, 18, false),
-        (Word::Logical(LogicalOperator::And), 20, false),
-        (Word::Prefix(UnaryOperator::TypeOf), 22, false),
-        (Word::Semicolon, 28, false),
-        (Word::End, 29, false),
-    ];
-    assert_eq!(rt; words.as_slice(), expected.as_slice());
+    assert_eq!(rt; words.as_slice(), WORDS.as_slice());
     Ok(())
 }

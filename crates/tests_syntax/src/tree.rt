@@ -6,6 +6,19 @@ use std::test::Fail;
 /// The script `a+=1`, whose tree has five nodes, and its units.
 const SCRIPT: [u16; 4] = [97, 43, 61, 49];
 
+/// Nodes of its tree, places for a child, and the child that is there.
+const CHILDREN: [(u32, u32, Option<u32>); 9] = [
+    (0, 0, None),
+    (0, 1, Some(1)),
+    (0, 2, None),
+    (1, 0, Some(2)),
+    (1, 1, None),
+    (2, 0, Some(4)),
+    (2, 1, Some(3)),
+    (3, 0, None),
+    (5, 0, None),
+];
+
 #[test]
 fn a_tree_is_made_and_read(rt: HostRuntime) -> Result<(), Fail> {
     let name = Piece { start: 0, count: 1 };
@@ -48,17 +61,7 @@ fn a_tree_is_made_and_read(rt: HostRuntime) -> Result<(), Fail> {
     )?;
     let tree = maker.finish();
     assert_eq!(rt; tree.count(), 5);
-    for (id, place, child) in [
-        (0, 0, None),
-        (0, 1, Some(1)),
-        (0, 2, None),
-        (1, 0, Some(2)),
-        (1, 1, None),
-        (2, 0, Some(4)),
-        (2, 1, Some(3)),
-        (3, 0, None),
-        (5, 0, None),
-    ] {
+    for (id, place, child) in CHILDREN {
         assert_eq!(rt; tree.child(id, place), child, "child {place} of {id}");
     }
     assert_eq!(rt; tree.units(name), [97].as_slice());
@@ -97,6 +100,17 @@ fn tree_of_name(alloc: Global, unit: u16) -> Result<Tree, Fail> {
     Ok(maker.finish())
 }
 
+/// The same of a program of two scripts.
+const CHILDREN_OF_TWO: [(u32, u32, Option<u32>); 7] = [
+    (0, 0, Some(1)),
+    (1, 0, None),
+    (1, 1, Some(2)),
+    (3, 0, Some(4)),
+    (4, 1, Some(5)),
+    (5, 0, None),
+    (6, 0, None),
+];
+
 /// What a program says of two scripts of one name each: of a node its child, and of a name its units.
 #[test]
 fn a_program_is_read(rt: HostRuntime) -> Result<(), Fail> {
@@ -127,15 +141,7 @@ fn a_program_is_read(rt: HostRuntime) -> Result<(), Fail> {
         (program.root(1), program.root(2), program.root(3)),
         (0, 3, 0)
     );
-    for (id, place, child) in [
-        (0, 0, Some(1)),
-        (1, 0, None),
-        (1, 1, Some(2)),
-        (3, 0, Some(4)),
-        (4, 1, Some(5)),
-        (5, 0, None),
-        (6, 0, None),
-    ] {
+    for (id, place, child) in CHILDREN_OF_TWO {
         assert_eq!(rt; program.child(id, place), child, "child {place} of {id}");
     }
     let name = Piece { start: 1, count: 1 };

@@ -279,14 +279,17 @@ fn long_head(alloc: Global, len: usize) -> Result<Vec<u8>, Fail> {
     Ok(head)
 }
 
+/// The bytes of a head, and what is taken of it.
+const HEADS: [(usize, &str); 3] = [
+    (8_191, "Page [] [] false;"),
+    (8_192, "Page [] [] false;"),
+    (8_193, "431"),
+];
+
 #[test]
 fn a_head_has_at_most_8192_bytes(rt: HostRuntime) -> Result<(), Fail> {
     let alloc = rt.alloc();
-    for (len, taken) in [
-        (8_191, "Page [] [] false;"),
-        (8_192, "Page [] [] false;"),
-        (8_193, "431"),
-    ] {
+    for (len, taken) in HEADS {
         let head = long_head(alloc, len)?;
         assert_eq!(rt; head.len(), len);
         assert_eq!(rt; told_by_bytes(alloc, head.as_slice())?.as_str(), taken);
@@ -339,36 +342,32 @@ const HEAD_OF_THE_PAGE: &str =
 const OPENED: &str =
     "HTTP/1.1 200 OK\r\nContent-Type: text/html; charset=utf-8\r\nRipley-Session: 00000000-0000-4001-8000-000000000002\r\nRipley-Seed: 3\r\nRipley-Time: 0\r\nContent-Length: 4\r\n\r\npage";
 
-#[test]
-fn answers_have_their_bytes(rt: HostRuntime) -> Result<(), Fail> {
-    let alloc = rt.alloc();
-    let head = refusal(alloc, 400, None, b"{\"error\":\"head\"}", false)?;
-    assert_eq!(rt;
-        answer_bytes(alloc, &head)?.as_slice(),
-        WITHOUT_HOST.as_bytes()
-    );
-    let put = refusal(
-        alloc,
+/// Refusals by their code, the method that they name, their body and whether they are answered bare, and their bytes.
+const REFUSALS: [(u16, Option<Method>, &[u8], bool, &str); 3] = [
+    (400, None, b"{\"error\":\"head\"}", false, WITHOUT_HOST),
+    (
         405,
         Some(Method::Get),
         b"{\"error\":\"method\"}",
         false,
-    )?;
-    assert_eq!(rt;
-        answer_bytes(alloc, &put)?.as_slice(),
-        PUT_TO_THE_PAGE.as_bytes()
-    );
-    let bare = refusal(
-        alloc,
+        PUT_TO_THE_PAGE,
+    ),
+    (
         405,
         Some(Method::Get),
         b"{\"error\":\"method\"}",
         true,
-    )?;
-    assert_eq!(rt;
-        answer_bytes(alloc, &bare)?.as_slice(),
-        HEAD_OF_THE_PAGE.as_bytes()
-    );
+        HEAD_OF_THE_PAGE,
+    ),
+];
+
+#[test]
+fn answers_have_their_bytes(rt: HostRuntime) -> Result<(), Fail> {
+    let alloc = rt.alloc();
+    for (code, allow, body, bare, text) in REFUSALS {
+        let answer = refusal(alloc, code, allow, body, bare)?;
+        assert_eq!(rt; answer_bytes(alloc, &answer)?.as_slice(), text.as_bytes());
+    }
     let opened = HttpAnswer {
         code: 200,
         html: true,

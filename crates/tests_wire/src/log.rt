@@ -125,6 +125,18 @@ fn other_lines_are_refused(rt: HostRuntime) -> Result<(), Fail> {
     Ok(())
 }
 
+/// The line of a session that is opened.
+const OPENED: &[u8] = b"open 2 1 00000000-0000-4001-8000-000000000002 3 0\n";
+
+/// A batch of one call.
+const ONE_CALL: &[u8] = b"{\"batch\":1,\"items\":[[\"call\",1,\"f\",[1]]]}";
+
+/// The line of that batch.
+const ADMITTED: &[u8] = b"batch 3 1 1 [[\"call\",1,\"f\",[1]]]\n";
+
+/// The line of a call that is not the one that was made.
+const MISMATCHED: &[u8] = b"done 3 1 1 mismatch 2 2 [\"f\",[3]] [\"f\",[2]]\n";
+
 #[test]
 fn entries_have_their_lines(rt: HostRuntime) -> Result<(), Fail> {
     let alloc = rt.alloc();
@@ -136,17 +148,15 @@ fn entries_have_their_lines(rt: HostRuntime) -> Result<(), Fail> {
         time: 0,
     };
     let text = write_entry(&opened, alloc)?;
-    assert!(rt;
-        text.as_slice() == b"open 2 1 00000000-0000-4001-8000-000000000002 3 0\n".as_slice()
-    );
-    let batch = read_batch(alloc, b"{\"batch\":1,\"items\":[[\"call\",1,\"f\",[1]]]}")?;
+    assert!(rt; text.as_slice() == OPENED);
+    let batch = read_batch(alloc, ONE_CALL)?;
     let admitted = Entry::Admitted {
         turn: 3,
         session: 1,
         batch,
     };
     let text = write_entry(&admitted, alloc)?;
-    assert!(rt; text.as_slice() == b"batch 3 1 1 [[\"call\",1,\"f\",[1]]]\n".as_slice());
+    assert!(rt; text.as_slice() == ADMITTED);
     let done = Entry::Done {
         turn: 3,
         session: 1,
@@ -159,6 +169,6 @@ fn entries_have_their_lines(rt: HostRuntime) -> Result<(), Fail> {
         }),
     };
     let text = write_entry(&done, alloc)?;
-    assert!(rt; text.as_slice() == b"done 3 1 1 mismatch 2 2 [\"f\",[3]] [\"f\",[2]]\n".as_slice());
+    assert!(rt; text.as_slice() == MISMATCHED);
     Ok(())
 }

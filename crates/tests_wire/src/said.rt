@@ -3,6 +3,10 @@ use rip_values::Writer;
 use rip_wire::{Batch, Item, ItemList, Reason};
 use std::test::Fail;
 
+/// An opening, a batch of one reply, two quiet moments and an ending.
+const SAID: &[u8] =
+    b"open 0\nsay 0 get\nsay 0 e 1 {\"batch\":1,\"items\":[[\"reply\",7]]}\nquiet\nquiet\n# ended fuel 3\n";
+
 #[test]
 fn lines_are_written(rt: HostRuntime) -> Result<(), Fail> {
     let alloc = rt.alloc();
@@ -17,8 +21,6 @@ fn lines_are_written(rt: HostRuntime) -> Result<(), Fail> {
     write_batch_line(alloc, &mut text, 0, 1, &batch)?;
     write_quiet(&mut text, 2)?;
     write_ended(&mut text, Reason::Fuel, 3)?;
-    let wanted =
-        b"open 0\nsay 0 get\nsay 0 e 1 {\"batch\":1,\"items\":[[\"reply\",7]]}\nquiet\nquiet\n# ended fuel 3\n";
-    assert_eq!(rt; text.as_slice(), wanted.as_slice());
+    assert_eq!(rt; text.as_slice(), SAID);
     Ok(())
 }

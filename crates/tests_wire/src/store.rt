@@ -158,6 +158,21 @@ fn each_operation_and_each_error(rt: HostRuntime) -> Result<(), Fail> {
     Ok(())
 }
 
+/// Calls to a store that is full, and their replies.
+const FULL: [(&str, &str, &str); 11] = [
+    ("put", "[\"x\",1]", "{\"error\":\"full\"}"),
+    ("add", "[\"x\",1]", "{\"error\":\"full\"}"),
+    ("push", "[\"x\",1]", "{\"error\":\"full\"}"),
+    ("add", "[\"7\",1]", "8"),
+    ("push", "[\"7\",1]", "{\"error\":\"range\"}"),
+    ("put", "[\"7\",[]]", "true"),
+    ("push", "[\"7\",1]", "1"),
+    ("list", "[]", "{\"error\":\"range\"}"),
+    ("take", "[\"4095\"]", "4095"),
+    ("put", "[\"x\",1]", "true"),
+    ("put", "[\"y\",1]", "{\"error\":\"full\"}"),
+];
+
 #[test]
 fn a_store_of_4096_keys(rt: HostRuntime) -> Result<(), Fail> {
     let alloc = rt.alloc();
@@ -167,19 +182,7 @@ fn a_store_of_4096_keys(rt: HostRuntime) -> Result<(), Fail> {
         let reply = reply_of(alloc, &mut store, "put", args.as_str())?;
         assert!(rt; reply.as_slice() == b"true".as_slice(), "at {i}");
     }
-    for (name, args, reply) in [
-        ("put", "[\"x\",1]", "{\"error\":\"full\"}"),
-        ("add", "[\"x\",1]", "{\"error\":\"full\"}"),
-        ("push", "[\"x\",1]", "{\"error\":\"full\"}"),
-        ("add", "[\"7\",1]", "8"),
-        ("push", "[\"7\",1]", "{\"error\":\"range\"}"),
-        ("put", "[\"7\",[]]", "true"),
-        ("push", "[\"7\",1]", "1"),
-        ("list", "[]", "{\"error\":\"range\"}"),
-        ("take", "[\"4095\"]", "4095"),
-        ("put", "[\"x\",1]", "true"),
-        ("put", "[\"y\",1]", "{\"error\":\"full\"}"),
-    ] {
+    for (name, args, reply) in FULL {
         let got = reply_of(alloc, &mut store, name, args)?;
         assert!(rt; got.as_slice() == reply.as_bytes(), "at {name} {args}");
     }
@@ -196,23 +199,34 @@ fn long_args(alloc: Global, count: usize) -> Result<String, Fail> {
     Ok(text)
 }
 
+/// How many characters are pushed, and the reply.
+const PUSHED: [(usize, &str); 5] = [
+    (8180, "1"),
+    (8180, "2"),
+    (15, "{\"error\":\"full\"}"),
+    (14, "3"),
+    (0, "{\"error\":\"full\"}"),
+];
+
 #[test]
 fn a_list_of_16384_bytes(rt: HostRuntime) -> Result<(), Fail> {
     let alloc = rt.alloc();
     let mut store = store_of(alloc, FUNCTIONS.as_slice())?;
-    for (count, reply) in [
-        (8180, "1"),
-        (8180, "2"),
-        (15, "{\"error\":\"full\"}"),
-        (14, "3"),
-        (0, "{\"error\":\"full\"}"),
-    ] {
+    for (count, reply) in PUSHED {
         let args = long_args(alloc, count)?;
         let got = reply_of(alloc, &mut store, "push", args.as_str())?;
         assert!(rt; got.as_slice() == reply.as_bytes(), "at {count}");
     }
     Ok(())
 }
+
+/// Functions by their names, and the reply of each where it adds 1.
+const ADDED: [(&str, &str); 4] = [
+    ("f0", "1"),
+    ("f255", "1"),
+    ("f255", "2"),
+    ("f256", "{\"error\":\"unknown\"}"),
+];
 
 #[test]
 fn a_store_of_256_functions(rt: HostRuntime) -> Result<(), Fail> {
@@ -223,12 +237,7 @@ fn a_store_of_256_functions(rt: HostRuntime) -> Result<(), Fail> {
         made.push(function(alloc, name.as_str(), Operation::Add, name.as_str())?)?;
     }
     let mut store = Store::make(alloc, &Functions::from_vec(made))?;
-    for (name, reply) in [
-        ("f0", "1"),
-        ("f255", "1"),
-        ("f255", "2"),
-        ("f256", "{\"error\":\"unknown\"}"),
-    ] {
+    for (name, reply) in ADDED {
         let got = reply_of(alloc, &mut store, name, "[\"k\",1]")?;
         assert!(rt; got.as_slice() == reply.as_bytes(), "at {name}");
     }

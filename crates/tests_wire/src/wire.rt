@@ -190,6 +190,9 @@ fn items_and_lengths_are_kept(rt: HostRuntime) -> Result<(), Fail> {
     Ok(())
 }
 
+/// A batch of one change.
+const ONE_CHANGE: &str = r#"{"batch":2,"items":[["event","change",9,1]]}"#;
+
 #[test]
 fn a_written_batch_is_read_again(rt: HostRuntime) -> Result<(), Fail> {
     let alloc = rt.alloc();
@@ -206,7 +209,7 @@ fn a_written_batch_is_read_again(rt: HostRuntime) -> Result<(), Fail> {
     };
     let again = written_is_read(alloc, &batch)?;
     let text = write_batch(&again, alloc)?;
-    assert!(rt; text.as_slice() == r#"{"batch":2,"items":[["event","change",9,1]]}"#.as_bytes());
+    assert!(rt; text.as_slice() == ONE_CHANGE.as_bytes());
     texts_tell_batches();
     bodies_tell_batches();
     bodies_tell_answers();
@@ -216,12 +219,15 @@ fn a_written_batch_is_read_again(rt: HostRuntime) -> Result<(), Fail> {
 }
 
 // The body of an answer that served two calls.
+/// Two calls that were served: the number, when, and the reply.
+const SERVED: [(u64, u64, &str); 2] = [
+    (1, 0, "{\"error\":\"unknown\"}"),
+    (2, 9_007_199_254_740_991, "1"),
+];
+
 fn answer_of(alloc: Global, number: u64, ended: Option<Ending>) -> Result<Bytes, Fail> {
     let mut served = Vec::new(alloc);
-    for (number, time, reply) in [
-        (1, 0, "{\"error\":\"unknown\"}"),
-        (2, 9_007_199_254_740_991, "1"),
-    ] {
+    for (number, time, reply) in SERVED {
         let reply = read_datum(alloc, reply.as_bytes())?;
         served.push(ServedCall {
             number,
@@ -237,19 +243,24 @@ fn answer_of(alloc: Global, number: u64, ended: Option<Ending>) -> Result<Bytes,
     Ok(write_answer(&answer, alloc)?)
 }
 
+/// The answer to a batch that has not ended the session.
+const ANSWER: &str =
+    r#"{"batch":1,"ended":null,"served":[[1,0,{"error":"unknown"}],[2,9007199254740991,1]]}"#;
+
+/// The answer where the session was closed.
+const CLOSED: &str =
+    r#"{"batch":7,"ended":"closed","served":[[1,0,{"error":"unknown"}],[2,9007199254740991,1]]}"#;
+
+/// The answer where a script left the profile before any call.
+const OUT_OF_RANGE: &str = r#"{"batch":0,"ended":"out-of-range","served":[]}"#;
+
 #[test]
 fn answers_are_written(rt: HostRuntime) -> Result<(), Fail> {
     let alloc = rt.alloc();
     let body = answer_of(alloc, 1, None)?;
-    assert!(rt;
-        body.as_slice()
-            == r#"{"batch":1,"ended":null,"served":[[1,0,{"error":"unknown"}],[2,9007199254740991,1]]}"#.as_bytes()
-    );
+    assert!(rt; body.as_slice() == ANSWER.as_bytes());
     let body = answer_of(alloc, 7, Some(Ending::Closed))?;
-    assert!(rt;
-        body.as_slice()
-            == r#"{"batch":7,"ended":"closed","served":[[1,0,{"error":"unknown"}],[2,9007199254740991,1]]}"#.as_bytes()
-    );
+    assert!(rt; body.as_slice() == CLOSED.as_bytes());
     let answer = Answer {
         number: 0,
         ended: Some(Ending::Fault {
@@ -258,10 +269,7 @@ fn answers_are_written(rt: HostRuntime) -> Result<(), Fail> {
         }),
         served: ServedList::new(alloc),
     };
-    assert!(rt;
-        write_answer(&answer, alloc)?.as_slice()
-            == r#"{"batch":0,"ended":"out-of-range","served":[]}"#.as_bytes()
-    );
+    assert!(rt; write_answer(&answer, alloc)?.as_slice() == OUT_OF_RANGE.as_bytes());
     Ok(())
 }
 
