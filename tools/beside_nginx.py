@@ -5,8 +5,12 @@ usage: beside_nginx.py RIPLEY [SECONDS]     RIPLEY the built program, SECONDS ho
 
 It wants Debian's packages `nginx` and `wrk`. Both serve examples/first/page.html on loopback, nginx with one worker; wrk
 keeps its connections. A GET opens a session here and runs its script, so the rows of ripley are these: a batch that is
-repeated, whose answer is stored; and an opening with the closing of its session, which count as two requests. The status is
-0 where no answer was other than 200."""
+repeated, whose answer is stored; and an opening with the closing of its session, which count as two requests. For these wrk
+runs a script at each request and answer, which costs it more than a fixed request: so nginx is loaded once more by a script
+that does as much, and the last rows are held to that. Beside the requests a second stands the processor time that the server
+took for one, in microseconds, which other work on the machine changes less. The status is 0 where no answer was other than
+200."""
+import os
 import pathlib
 import re
 import subprocess
@@ -41,6 +45,22 @@ response = function(status, headers, body)
 end
 """
 
+# As costly for the generator: the same file again and again.
+FILES = """
+local session
+request = function()
+  if session then
+    local path = "/?" .. session
+    session = nil
+    return wrk.format("GET", path)
+  end
+  return wrk.format("GET", "/")
+end
+response = function(status, headers, body)
+  session = headers["Content-Length"] or headers["content-length"]
+end
+"""
+
 BATCH = """
 wrk.method = "POST"
 wrk.body = '{"batch":1,"items":[]}'
@@ -59,7 +79,7 @@ def waits_for(port):
 
 def loaded(url, connections, seconds, script=None):
     """The requests a second, and how many answers were other than of the codes 200 to 399."""
-    words = ["wrk", f"-t{connections if script == VISITS else 1}", f"-c{connections}", f"-d{seconds}s"]
+    words = ["wrk", f"-t{connections if script in (VISITS, FILES) else 1}", f"-c{connections}", f"-d{seconds}s"]
     with tempfile.NamedTemporaryFile("w", suffix=".lua") as file:
         file.write(script or "")
         file.flush()
@@ -69,21 +89,37 @@ def loaded(url, connections, seconds, script=None):
     return float(re.search(r"Requests/sec:\s+([\d.]+)", text)[1]), int(others[1]) if others else 0
 
 
-def rows(session, seconds):
+def spent(pid):
+    """The processor time of a process and of its children that run, in seconds."""
+    pids = [pid, *map(int, pathlib.Path(f"/proc/{pid}/task/{pid}/children").read_text().split())]
+    ticks = 0
+    for each in pids:
+        fields = pathlib.Path(f"/proc/{each}/stat").read_text().rsplit(") ", 1)[1].split()
+        ticks += int(fields[11]) + int(fields[12])
+    return ticks / os.sysconf("SC_CLK_TCK")
+
+
+def rows(session, seconds, nginx, ripley):
     at = f"http://127.0.0.1:{RIPLEY}"
     table = [
         ("nginx, the page", f"http://127.0.0.1:{NGINX}/", None),
         ("ripley, a stored answer", f"{at}/e/{session}", BATCH),
+        ("nginx, the page by a script", f"http://127.0.0.1:{NGINX}/", FILES),
         ("ripley, an opening and its closing", f"{at}/", VISITS),
     ]
     wrong, first = 0, {}
-    print("| what | connections | requests a second | of nginx | answers of other codes |\n|---|---|---|---|---|")
+    columns = ["what", "connections", "requests a second", "of nginx", "processor us a request", "answers of other codes"]
+    print("| " + " | ".join(columns) + " |\n" + "|---" * len(columns) + "|")
     for name, url, script in table:
+        pid = nginx if name.startswith("nginx") else ripley
         for connections in (1, 32):
+            before = spent(pid)
             speed, others = loaded(url, connections, seconds, script)
-            first.setdefault(connections, speed)
+            each = (spent(pid) - before) / (speed * seconds) * 1e6
+            if name.startswith("nginx"):
+                first[connections] = speed
             wrong += others
-            print(f"| {name} | {connections} | {speed:.0f} | {speed / first[connections]:.2f} | {others} |", flush=True)
+            print(f"| {name} | {connections} | {speed:.0f} | {speed / first[connections]:.2f} | {each:.1f} | {others} |", flush=True)
     return wrong
 
 
@@ -98,7 +134,7 @@ def main():
         try:
             waits_for(NGINX)
             session = waits_for(RIPLEY).headers["Ripley-Session"]
-            wrong = rows(session, seconds)
+            wrong = rows(session, seconds, nginx.pid, ripley.pid)
         finally:
             ripley.kill()
             nginx.terminate()

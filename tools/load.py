@@ -2,11 +2,13 @@
 """Loads a running `ripley serve` with random truthful and lying clients, and compares each answer.
 
     ripley serve crates/ripley/data/page.html crates/ripley/data/app.json 127.0.0.1:8080 > log &
-    tools/load.py 127.0.0.1:8080 --pid=$! [--seconds=600] [--connections=64] [--seed=1]
+    tools/load.py 127.0.0.1:8080 --pid=$! [--seconds=600] [--connections=64] [--seed=1] [--rest=0]
 
-Client N draws from the seed `SEED + N`. At the end it prints how many visits of each kind there were, the time of an
-answer, and the resident memory of the process in the second minute and in the last. The status is 0 only where each
-answer was the due one and the memory of the last minute is no more than a tenth above that of the second.
+Client N draws from the seed `SEED + N`, and rests before each visit for up to REST milliseconds, as it draws. At the end it
+prints how many visits of each kind there were, the time of an answer, and the resident memory of the process in the second
+minute and in the last. The status is 0 only where each answer was the due one and the memory of the last minute is no more
+than a tenth above that of the second. A server keeps some 60 bytes of each session that ended, so that what is asked of it
+is still answered: with no rest thousands are opened in a second, and what is kept of them shows.
 """
 
 import json
@@ -28,8 +30,9 @@ LIES = [
 
 
 class Load:
-    def __init__(self, where, seconds, seed):
+    def __init__(self, where, seconds, seed, rest):
         self.where = where
+        self.rest = rest / 1000
         self.end = time.time() + seconds
         self.seed = seed
         self.counts = {"truthful": 0, "lying": 0, "new connections": 0}
@@ -64,6 +67,7 @@ class Load:
         client = Client(self.where)
         while time.time() < self.end and not self.wrong:
             try:
+                time.sleep(draw.random() * self.rest)
                 self.visit(client, draw)
                 if draw.random() < 0.05:
                     client.close()
@@ -87,7 +91,7 @@ def resident(pid):
 def main():
     words = dict(word[2:].split("=", 1) for word in sys.argv[2:])
     seconds = int(words.get("seconds", 600))
-    load = Load(address(sys.argv[1]), seconds, int(words.get("seed", 1)))
+    load = Load(address(sys.argv[1]), seconds, int(words.get("seed", 1)), int(words.get("rest", 0)))
     print(f"seed {load.seed}, {words.get('connections', 64)} connections, {seconds} seconds")
     threads = [
         threading.Thread(target=load.run, args=(number,))

@@ -89,7 +89,7 @@ export class Visit {
   // Leaves the page: whether the log has the line of the closing.
   async leave() {
     await this.page.close();
-    await until(() => this.lines().some((line) => line.startsWith("close ")), "the line of the closing", 10);
+    await until(() => this.lines().some((line) => line.startsWith("close ")), "the line of the closing");
   }
 }
 
