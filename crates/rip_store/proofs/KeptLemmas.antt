@@ -1,5 +1,5 @@
 -- What a store keeps and replies is accepted.
-use Rattle.std.proofs.Common.{◌≡◌, ℕ, ℤ, suc, pos, negsuc, ◌+◌, ◌+ℤ◌, ◌<◌, ◌≤◌, List, [], ◌∷◌, ◌++◌, map, length, drop, Bool, true, false, cond, ◌&&◌, nat_eq, nat_lt, int_le, leb, ltb, ◌*◌, ◌/◌, ◌%◌, codes, chars, Option, Some, None, Result, Ok, Err, refl, sym, ap, ◌∙◌, subst, arith, length-append, sum_by, option_map, is_none, IfSome, OnOk, OnErr, IfOk}
+use Rattle.std.proofs.Common.{◌≡◌, ℕ, ℤ, suc, pos, negsuc, ◌+◌, ◌+ℤ◌, ◌≤◌, List, [], ◌∷◌, ◌++◌, map, length, drop, Bool, true, false, cond, ◌&&◌, nat_eq, nat_lt, int_le, leb, ltb, ◌*◌, ◌/◌, ◌%◌, codes, chars, Option, Some, None, Result, Ok, Err, refl, sym, ap, ◌∙◌, subst, arith, length-append, sum_by, option_map, is_none, IfSome, OnOk, OnErr, IfOk}
 use Rattle.std.specs.Prelude.{decimal}
 use Rattle.std.specs.Fmt.{signed_decimal}
 use Rattle.std.specs.Option.{ok_or, unwrap_or}
@@ -23,7 +23,6 @@ use Rattle.rip_data.specs.Written.{escaped_length}
 use Rattle.rip_data.proofs.SizeLemmas.{escaped_length-nil, escaped_length-ascii}
 use Rattle.std.specs.Char.{digit_char}
 use Rattle.serde_json.specs.Data.{items_depth}
-use Rattle.serde_json.specs.Written.{items_text}
 use Rattle.rip_values.specs.Whole.{IsWhole}
 use Rattle.rip_values.specs.Text.{IsUtf16, encode_utf16_all}
 use Rattle.rip_values.proofs.TextLemmas.{IsSameText-chars}
@@ -42,6 +41,7 @@ use Rattle.rip_store.specs.declared.store.Replies.{Replies}
 use Rattle.rip_store.specs.Outcomes.{AreReplies}
 use Rattle.rip_store.specs.Kept.{IsAccepted, AreAccepted, AreAcceptedReplies, IsKept, StaysKept}
 use Rattle.rip_store.proofs.LawLemmas.{order_stays}
+use Rattle.rip_store.proofs.ListLemmas.{array_many}
 
 -- ---- data without parts
 
@@ -222,14 +222,6 @@ short_is es t h = by (leb (length (canonical_text (array es))) 16384) refl h
     by : (b : Bool) → leb (length (canonical_text (array es))) 16384 ≡ b → cond b (Some (array es)) None ≡ Some t → (array es ≡ t) × (length (canonical_text (array es)) ≤ 16384)
     by true e g = (cc, leb-true (length (canonical_text (array es))) 16384 e)
     by false e g = cc
-
-later_many : (es : Elements) → count es < length (items_text true (items_of es))
-later_many no_elements = omega arith
-later_many (element d es) = let more = later_many es in let size = length-append (canonical_text d) (items_text true (items_of es)) in omega (arith, more, size)
-
-array_many : (es : Elements) → count es ≤ length (canonical_text (array es))
-array_many no_elements = omega arith
-array_many (element d es) = let more = later_many es in let size = length-append (canonical_text d) (items_text true (items_of es)) in omega (arith, more, size)
 
 last_made : (es : Elements) (d : Tree) → AreData es → IsDatum d → AreData (with_last es d)
 last_made no_elements d h g = (g, tt)

@@ -2,5 +2,5 @@ pub mod ErrorLemmas
 pub mod KeptLemmas
 pub mod KeyLemmas
 pub mod LawLemmas
+pub mod ListLemmas
 pub mod PlaceLemmas
-pub mod ReplyLemmas

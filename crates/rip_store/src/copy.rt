@@ -17,7 +17,7 @@ pub(crate) fn copy_datum(alloc: Global, datum: &Datum) -> Result<Datum, NoMemory
         Datum::Num(whole) => Ok(Datum::Num(*whole)),
         Datum::Text(text) => Ok(Datum::Text(Units::from_slice(alloc, text.as_slice())?)),
         Datum::List(list) => {
-            let items = copy_elements(alloc, &list.items, 0)?;
+            let items = copy_elements(alloc, &list.items)?;
             Ok(Datum::List(DatumList { items }))
         }
         Datum::Fields(object) => {
@@ -27,16 +27,11 @@ pub(crate) fn copy_datum(alloc: Global, datum: &Datum) -> Result<Datum, NoMemory
     }
 }
 
-/// The elements, with room for some more.
 #[cycle(copy)]
-pub(crate) fn copy_elements(
-    alloc: Global,
-    items: &Vec<Datum>,
-    more: usize,
-) -> Result<Vec<Datum>, NoMemory>
+fn copy_elements(alloc: Global, items: &Vec<Datum>) -> Result<Vec<Datum>, NoMemory>
     ensures { IfOk result (λ ds. map tree_of ds.items ≡ map tree_of items.now.items) }
 {
-    let mut made = Vec::with_capacity(alloc, items.len().saturating_add(more))?;
+    let mut made = Vec::with_capacity(alloc, items.len())?;
     for item in items {
         made.push(copy_datum(alloc, item)?)?;
     }

@@ -9,8 +9,9 @@
 //! A layer above may rest on this: what a call does and replies is a function of the functions, the store, the name
 //! and the args; a refusal leaves the store, and so does want of memory. What a store keeps, and each reply, is data
 //! that `read_datum` accepts, at no more than 4,096 places in order (`Kept.IsKept`), where the args are: it holds of a new
-//! store and after each call ([`Store::make`], [`Store::apply`], [`stays_kept`]). A call takes time in proportion to what it
-//! touches (its args, the datum at its place, or the keys under its prefix) and to the logarithm of the keys.
+//! store and after each call ([`Store::make`], [`Store::apply`], [`stays_kept`]). A call takes time in proportion to its
+//! args, its reply and the datum that it frees, or to the keys under its prefix, and to the logarithm of the keys. A `push`
+//! neither copies nor measures the list at its place, whose room grows as a `Vec`'s does.
 #![tactic(auto)]
 
 mod args;
@@ -18,6 +19,7 @@ mod copy;
 mod failure;
 mod laws;
 mod limits;
+mod measured;
 mod operations;
 mod outcome;
 mod places;

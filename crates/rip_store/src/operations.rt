@@ -1,15 +1,15 @@
-ghost use Rattle.std.specs.Prelude.{◌≡◌, pos, ◌≤◌, map, length, Some, option_map, IfOk, IfErr, IsSome};
-ghost use Rattle.std.specs.Option.{ok_or};
+ghost use Rattle.std.specs.Prelude.{◌≡◌, pos, ◌≤◌, map, None, option_map, IfOk, IfErr, MatchOption};
+ghost use Rattle.std.specs.Option.{IsSomeAnd};
 ghost use Rattle.rip_data.specs.Datum.{tree_of, elements_of};
-ghost use Rattle.rip_store.specs.declared.refusal.Refusal.TheVariants.{Range, Full};
-ghost use Rattle.rip_store.specs.Operations.{get, put, add, take, push, list, operate, kept, number_or_zero, list_or_empty, or_null, whole_sum, short_list, with_last, count};
+ghost use Rattle.rip_store.specs.Operations.{get, put, add, take, push, list, operate, kept, number_or_zero, list_or_empty, or_null, whole_sum, short_list, with_last};
 ghost use Rattle.rip_store.specs.Held.{stored_in};
-ghost use Rattle.rip_store.specs.Outcomes.{outcome_of, IsCause};
+ghost use Rattle.rip_store.specs.Outcomes.{outcome_of, IsCause, IsSizeOf, longer_count};
 
-use crate::args::{key_and_value, list_of, number_of, one_key};
-use crate::copy::{copy_datum, copy_elements};
+use crate::args::{key_and_value, number_of, one_key};
+use crate::copy::copy_datum;
 use crate::failure::Failure;
-use crate::outcome::{Done, Write};
+use crate::measured::Measured;
+use crate::outcome::{Done, ListSize, Write};
 use crate::places::Places;
 use crate::refusal::Refusal;
 use rip_data::{Datum, DatumList, MAX_LENGTH, datum_size};
@@ -25,7 +25,7 @@ pub(crate) fn operate(
     prefix: &[u8],
     args: &[Datum],
 ) -> Result<Done, Failure>
-    ensures done { IfOk result (λ d. operate op (stored_in places.now) prefix.now (map tree_of args.now) ≡ Ok (outcome_of d)) }
+    ensures done { IfOk result (λ d. operate op (stored_in places.now) prefix.now (map tree_of args.now) ≡ Ok (outcome_of (stored_in places.now) d)) }
     ensures refused { IfErr result (λ f. IsCause f (operate op (stored_in places.now) prefix.now (map tree_of args.now))) }
 {
     match op {
@@ -39,7 +39,7 @@ pub(crate) fn operate(
 }
 
 fn get(alloc: Global, places: &Places, prefix: &[u8], args: &[Datum]) -> Result<Done, Failure>
-    ensures done { IfOk result (λ d. get (stored_in places.now) prefix.now (map tree_of args.now) ≡ Ok (outcome_of d)) }
+    ensures done { IfOk result (λ d. get (stored_in places.now) prefix.now (map tree_of args.now) ≡ Ok (outcome_of (stored_in places.now) d)) }
     ensures refused { IfErr result (λ f. IsCause f (get (stored_in places.now) prefix.now (map tree_of args.now))) }
 {
     let place = one_key(alloc, prefix, args)?;
@@ -51,7 +51,7 @@ fn get(alloc: Global, places: &Places, prefix: &[u8], args: &[Datum]) -> Result<
 }
 
 fn put(alloc: Global, places: &Places, prefix: &[u8], args: &[Datum]) -> Result<Done, Failure>
-    ensures done { IfOk result (λ d. put (stored_in places.now) prefix.now (map tree_of args.now) ≡ Ok (outcome_of d)) }
+    ensures done { IfOk result (λ d. put (stored_in places.now) prefix.now (map tree_of args.now) ≡ Ok (outcome_of (stored_in places.now) d)) }
     ensures refused { IfErr result (λ f. IsCause f (put (stored_in places.now) prefix.now (map tree_of args.now))) }
 {
     let (place, value) = key_and_value(alloc, prefix, args)?;
@@ -60,7 +60,7 @@ fn put(alloc: Global, places: &Places, prefix: &[u8], args: &[Datum]) -> Result<
 }
 
 fn add(alloc: Global, places: &Places, prefix: &[u8], args: &[Datum]) -> Result<Done, Failure>
-    ensures done { IfOk result (λ d. add (stored_in places.now) prefix.now (map tree_of args.now) ≡ Ok (outcome_of d)) }
+    ensures done { IfOk result (λ d. add (stored_in places.now) prefix.now (map tree_of args.now) ≡ Ok (outcome_of (stored_in places.now) d)) }
     ensures refused { IfErr result (λ f. IsCause f (add (stored_in places.now) prefix.now (map tree_of args.now))) }
 {
     let (place, value) = key_and_value(alloc, prefix, args)?;
@@ -77,7 +77,7 @@ fn add(alloc: Global, places: &Places, prefix: &[u8], args: &[Datum]) -> Result<
 }
 
 fn take(alloc: Global, places: &Places, prefix: &[u8], args: &[Datum]) -> Result<Done, Failure>
-    ensures done { IfOk result (λ d. take (stored_in places.now) prefix.now (map tree_of args.now) ≡ Ok (outcome_of d)) }
+    ensures done { IfOk result (λ d. take (stored_in places.now) prefix.now (map tree_of args.now) ≡ Ok (outcome_of (stored_in places.now) d)) }
     ensures refused { IfErr result (λ f. IsCause f (take (stored_in places.now) prefix.now (map tree_of args.now))) }
 {
     let place = one_key(alloc, prefix, args)?;
@@ -89,17 +89,23 @@ fn take(alloc: Global, places: &Places, prefix: &[u8], args: &[Datum]) -> Result
 }
 
 fn push(alloc: Global, places: &Places, prefix: &[u8], args: &[Datum]) -> Result<Done, Failure>
-    ensures done { IfOk result (λ d. push (stored_in places.now) prefix.now (map tree_of args.now) ≡ Ok (outcome_of d)) }
+    ensures done { IfOk result (λ d. push (stored_in places.now) prefix.now (map tree_of args.now) ≡ Ok (outcome_of (stored_in places.now) d)) }
     ensures refused { IfErr result (λ f. IsCause f (push (stored_in places.now) prefix.now (map tree_of args.now))) }
 {
     let (place, value) = key_and_value(alloc, prefix, args)?;
-    let items = list_or_empty(alloc, places.get(place.as_slice()))?;
-    let (list, count) = longer_list(alloc, items, value)?;
-    kept(places, place, list, Datum::Num(count))
+    let count = longer_count(places.measured(place.as_slice()), value)?;
+    if places.is_full(place.as_slice()) {
+        return Err(Failure::Refused(Refusal::Full));
+    }
+    let item = copy_datum(alloc, value)?;
+    Ok(Done {
+        write: Write::Push(place, item),
+        reply: Datum::Num(count),
+    })
 }
 
 fn list(alloc: Global, places: &Places, prefix: &[u8], args: &[Datum]) -> Result<Done, Failure>
-    ensures done { IfOk result (λ d. list (stored_in places.now) prefix.now (map tree_of args.now) ≡ Ok (outcome_of d)) }
+    ensures done { IfOk result (λ d. list (stored_in places.now) prefix.now (map tree_of args.now) ≡ Ok (outcome_of (stored_in places.now) d)) }
     ensures refused { IfErr result (λ f. IsCause f (list (stored_in places.now) prefix.now (map tree_of args.now))) }
 {
     if !args.is_empty() {
@@ -117,7 +123,7 @@ fn list(alloc: Global, places: &Places, prefix: &[u8], args: &[Datum]) -> Result
 // The place gets the datum, unless the store is full.
 fn kept(places: &Places, place: Vec<u8>, datum: Datum, reply: Datum) -> Result<Done, Failure>
     ensures done { IfOk result
-        (λ d. kept (stored_in places.now) place.items (tree_of datum) (tree_of reply) ≡ Ok (outcome_of d)) }
+        (λ d. kept (stored_in places.now) place.items (tree_of datum) (tree_of reply) ≡ Ok (outcome_of (stored_in places.now) d)) }
     ensures refused { IfErr result
         (λ f. IsCause f (kept (stored_in places.now) place.items (tree_of datum) (tree_of reply))) }
 {
@@ -150,41 +156,37 @@ fn number_or_zero(datum: Option<&Datum>) -> Option<Whole>
     }
 }
 
-// A copy of the list with room for one more, where an absent one counts as `[]`.
-fn list_or_empty(alloc: Global, datum: Option<&Datum>) -> Result<Vec<Datum>, Failure>
-    ensures found { IfOk result (λ ds. list_or_empty (option_map (λ v. tree_of v.now) datum.entry)
-        ≡ Some (elements_of (map tree_of ds.items))) }
+// How many elements the list has with one more, where its text stays short enough.
+fn longer_count(held: Option<&Measured>, value: &Datum) -> Result<Whole, Failure>
+    ensures count { IfOk result (λ n. longer_count (list_or_empty (option_map (λ m. tree_of m.now) held.entry)) (tree_of value.now) ≡ Ok n) }
     ensures refused { IfErr result
-        (λ f. IsCause f (ok_or (list_or_empty (option_map (λ v. tree_of v.now) datum.entry)) Range)) }
+        (λ f. IsCause f (longer_count (list_or_empty (option_map (λ m. tree_of m.now) held.entry)) (tree_of value.now))) }
 {
-    let Some(datum) = datum else {
-        return Ok(Vec::new(alloc));
+    let Some(size) = longer_size(held, value) else {
+        return Err(Failure::Refused(Refusal::Range));
     };
-    match list_of(datum) {
-        Some(list) => Ok(copy_elements(alloc, &list.items, 1)?),
-        None => Err(Failure::Refused(Refusal::Range)),
+    if size.length > MAX_LENGTH {
+        return Err(Failure::Refused(Refusal::Full));
     }
+    Ok(whole_of(size.count))
 }
 
-// The list with a copy of the datum behind the others, where its text is short enough, and its length.
-fn longer_list(
-    alloc: Global,
-    mut items: Vec<Datum>,
-    value: &Datum,
-) -> Result<(Datum, Whole), Failure>
-    ensures list { IfOk result
-        (λ l. short_list (with_last (elements_of (map tree_of items.items)) (tree_of value.now)) ≡ Some (tree_of l.0)) }
-    ensures count { IfOk result
-        (λ l. l.1 ≡ pos (count (with_last (elements_of (map tree_of items.items)) (tree_of value.now)))) }
-    ensures refused { IfErr result
-        (λ f. IsCause f (ok_or (short_list (with_last (elements_of (map tree_of items.items)) (tree_of value.now))) Full)) }
+// How large the list is with one more element, where an absent one counts as `[]`.
+fn longer_size(held: Option<&Measured>, value: &Datum) -> Option<ListSize>
+    ensures { MatchOption (list_or_empty (option_map (λ m. tree_of m.now) held.entry)) (result ≡ None)
+        (λ es. IsSomeAnd result (IsSizeOf (with_last es (tree_of value.now)))) }
 {
-    items.push(copy_datum(alloc, value)?)?;
-    let count = items.len();
-    match short_list(items) {
-        Some(list) => Ok((list, whole_of(count))),
-        None => Err(Failure::Refused(Refusal::Full)),
-    }
+    let Some(held) = held else {
+        return Some(ListSize {
+            count: 1,
+            length: datum_size(value).length.saturating_add(2),
+        });
+    };
+    let list = held.list()?;
+    Some(ListSize {
+        count: list.items.len() + 1,
+        length: held.bytes_with(value),
+    })
 }
 
 // The sum, where it is in range.
@@ -207,8 +209,7 @@ fn whole_of(count: usize) -> Whole
 
 // The list, where its text is short enough.
 fn short_list(items: Vec<Datum>) -> Option<Datum>
-    ensures list { option_map tree_of result ≡ short_list (elements_of (map tree_of items.items)) }
-    ensures few { IsSome result → length items.items ≤ 16384 }
+    ensures { option_map tree_of result ≡ short_list (elements_of (map tree_of items.items)) }
 {
     let list = Datum::List(DatumList { items });
     if datum_size(&list).length > MAX_LENGTH {

@@ -5,7 +5,15 @@ use rip_data::Datum;
 pub(crate) enum Write {
     Nothing,
     Keep(Vec<u8>, Datum),
+    Push(Vec<u8>, Datum),
     Remove(Vec<u8>),
+}
+
+/// How many elements a list has, and the bytes of its text.
+#[derive(Clone, Copy, Debug)]
+pub(crate) struct ListSize {
+    pub count: usize,
+    pub length: usize,
 }
 
 /// What a call gives that is not refused.

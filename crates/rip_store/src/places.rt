@@ -1,13 +1,14 @@
 ghost use Rattle.std.specs.Prelude.{◌≡◌, [], map, IfOk, OnErr, OnOk, option_map};
-ghost use Rattle.rip_data.specs.Datum.{tree_of, text};
+ghost use Rattle.rip_data.specs.Datum.{tree_of, text, array, element, no_elements};
 ghost use Rattle.rip_store.specs.Places.{value_at, changed, keep, remove};
-ghost use Rattle.rip_store.specs.Operations.{is_full, keys_under, text_of};
+ghost use Rattle.rip_store.specs.Operations.{is_full, keys_under, list_or_empty, text_of};
 ghost use Rattle.rip_store.specs.Held.{stored_in};
-ghost use Rattle.rip_store.specs.Outcomes.{change_of, key_text, with_any};
+ghost use Rattle.rip_store.specs.Outcomes.{change_of, key_text, pushed, with_any};
 
 use crate::limits::{LONGEST_KEY, MOST_KEYS};
+use crate::measured::Measured;
 use crate::outcome::Write;
-use rip_data::Datum;
+use rip_data::{Datum, DatumList};
 use rip_values::{NoMemory, TextError, Units};
 use std::alloc::Global;
 use std::collections::BTreeMap;
@@ -15,7 +16,7 @@ use std::collections::BTreeMap;
 /// Places and the data that they hold. `Held.stored_in` is the list of them, in the order of the places' bytes.
 #[derive(Drop)]
 pub(crate) struct Places {
-    held: BTreeMap<Vec<u8>, Datum>,
+    held: BTreeMap<Vec<u8>, Measured>,
 }
 
 impl Places {
@@ -32,6 +33,16 @@ impl Places {
     pub fn get(&self, place: &[u8]) -> Option<&Datum>
         ensures { option_map (λ d. tree_of d.now) result ≡ value_at (stored_in self.now) place.now }
     {
+        match self.measured(place) {
+            Some(measured) => Some(measured.datum()),
+            None => None,
+        }
+    }
+
+    /// The same, with its size.
+    pub fn measured(&self, place: &[u8]) -> Option<&Measured>
+        ensures { option_map (λ m. tree_of m.now) result ≡ value_at (stored_in self.now) place.now }
+    {
         self.held.get(place)
     }
 
@@ -43,13 +54,15 @@ impl Places {
     }
 
     /// Does what a call gave; want of memory changes nothing.
-    pub fn change(&mut self, write: Write) -> Result<(), NoMemory>
-        ensures done { OnOk result (stored_in self.new ≡ changed (stored_in self.old) (change_of write)) }
+    pub fn change(&mut self, alloc: Global, write: Write) -> Result<(), NoMemory>
+        ensures done { OnOk result
+            (stored_in self.new ≡ changed (stored_in self.old) (change_of (stored_in self.old) write)) }
         ensures no_memory { OnErr result (stored_in self.new ≡ stored_in self.old) }
     {
         match write {
             Write::Nothing => Ok(()),
             Write::Keep(place, datum) => self.keep(place, datum),
+            Write::Push(place, item) => self.push(alloc, place, item),
             Write::Remove(place) => {
                 self.remove(place.as_slice());
                 Ok(())
@@ -62,8 +75,20 @@ impl Places {
         ensures done { OnOk result (stored_in self.new ≡ changed (stored_in self.old) (keep place.items (tree_of datum))) }
         ensures no_memory { OnErr result (stored_in self.new ≡ stored_in self.old) }
     {
-        self.held.insert(place, datum)?;
+        self.held.insert(place, Measured::new(datum))?;
         Ok(())
+    }
+
+    // The list at the place gets the item behind the others, which stay where they are.
+    fn push(&mut self, alloc: Global, place: Vec<u8>, item: Datum) -> Result<(), NoMemory>
+        ensures done { OnOk result (stored_in self.new ≡ changed (stored_in self.old)
+            (pushed place.items (list_or_empty (value_at (stored_in self.old) place.items)) (tree_of item))) }
+        ensures no_memory { OnErr result (stored_in self.new ≡ stored_in self.old) }
+    {
+        match self.held.get_mut(place.as_slice()) {
+            Some(measured) => measured.push(item),
+            None => self.keep(place, list_of_one(alloc, item)?),
+        }
     }
 
     // The place holds nothing.
@@ -88,6 +113,15 @@ impl Places {
         }
         Ok(keys)
     }
+}
+
+// The list of this one element.
+fn list_of_one(alloc: Global, item: Datum) -> Result<Datum, NoMemory>
+    ensures { IfOk result (λ list. tree_of list ≡ array (element (tree_of item) no_elements)) }
+{
+    let mut items = Vec::new(alloc);
+    items.push(item)?;
+    Ok(Datum::List(DatumList { items }))
 }
 
 // Adds the bytes as a text, where they are a key.

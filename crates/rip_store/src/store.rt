@@ -80,7 +80,7 @@ impl Store {
         match self.answer(alloc, name, args.items.as_slice()) {
             Ok(done) => {
                 let replies = replies_of(alloc, done.reply)?;
-                self.places.change(done.write)?;
+                self.places.change(alloc, done.write)?;
                 Ok(replies)
             }
             Err(Failure::Refused(refusal)) => {
@@ -94,7 +94,7 @@ impl Store {
     // What a call gives: the change is not made yet.
     fn answer(&self, alloc: Global, name: &Units, args: &[Datum]) -> Result<Done, Failure>
         ensures done { IfOk result
-            (λ d. answer (functions_of self.now) (stored_of self.now) name.now (map tree_of args.now) ≡ Ok (outcome_of d)) }
+            (λ d. answer (functions_of self.now) (stored_of self.now) name.now (map tree_of args.now) ≡ Ok (outcome_of (stored_of self.now) d)) }
         ensures refused { IfErr result
             (λ f. IsCause f (answer (functions_of self.now) (stored_of self.now) name.now (map tree_of args.now))) }
     {
