@@ -1,15 +1,7 @@
-pub mod Continuations
 pub mod Depths
 pub mod Events
-pub mod Frames
 pub mod Grammar
-pub mod Headers
-pub mod Laws
 pub mod Levels
-pub mod Machine
-pub mod Operands
 pub mod Phrases
 pub mod Semicolons
-pub mod Statements
-pub mod States
 pub mod Words

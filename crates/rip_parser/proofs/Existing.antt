@@ -23,20 +23,20 @@ use Rattle.rip_grammar.specs.declared.event.Head.{Head}
 use Rattle.rip_grammar.specs.declared.event.Head.TheVariants as H
 use Rattle.rip_grammar.specs.declared.event.Event.{Event}
 use Rattle.rip_grammar.specs.declared.event.Event.TheVariants as E
-use Rattle.rip_grammar.specs.declared.mode.Mode.{Mode}
-use Rattle.rip_grammar.specs.declared.mode.Mode.TheVariants as M
-use Rattle.rip_grammar.specs.declared.frame.Frame.{Frame}
+use Rattle.rip_automaton.specs.declared.mode.Mode.{Mode}
+use Rattle.rip_automaton.specs.declared.mode.Mode.TheVariants as M
+use Rattle.rip_automaton.specs.declared.frame.Frame.{Frame}
 use Rattle.rip_grammar.specs.Words.{is_single}
 use Rattle.rip_grammar.specs.Phrases.{Phrase}
 use Rattle.rip_grammar.specs.Events.{emit}
 use Rattle.rip_grammar.specs.Depths.{depth}
 use Rattle.rip_grammar.specs.Grammar.{IsScript}
-use Rattle.rip_grammar.specs.States.{State as Standing, At}
-use Rattle.rip_grammar.specs.Machine.{step, go, begins}
-use Rattle.rip_grammar.proofs.Complete.{script as told_of_script}
-use Rattle.rip_grammar.proofs.Folding.{go_front, refused_begins_none}
-use Rattle.rip_grammar.proofs.Sound.{sound}
-use Rattle.rip_grammar.proofs.Viable.{viable}
+use Rattle.rip_automaton.specs.States.{State as Standing, At}
+use Rattle.rip_automaton.specs.Machine.{step, go, begins}
+use Rattle.rip_automaton.proofs.Complete.{script as told_of_script}
+use Rattle.rip_automaton.proofs.Folding.{go_front, refused_begins_none}
+use Rattle.rip_automaton.proofs.Sound.{sound}
+use Rattle.rip_automaton.proofs.Viable.{viable}
 use Rattle.rip_parser.specs.declared.part.Part.{Part}
 use Rattle.rip_parser.specs.declared.refusal.ParseKind.{ParseKind}
 use Rattle.rip_parser.specs.declared.refusal.ParseKind.TheVariants as R

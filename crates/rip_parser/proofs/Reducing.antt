@@ -2,13 +2,13 @@
 use Rattle.std.proofs.Common.{◌≡◌, ℕ, ◌<◌, Bool, true, false, nat_le, cond, List, [], ◌∷◌, ◌++◌, ◌-◌, length, take, drop, reverse, length-drop, Option, Some, None, refl, sym, ap, ◌∙◌, arith}
 use Rattle.std.proofs.lemmas.List.{take-append-drop, reverse-append}
 use Rattle.rip_grammar.specs.declared.event.Event.{Event}
-use Rattle.rip_grammar.specs.declared.frame.Pending.{Pending}
-use Rattle.rip_grammar.specs.declared.frame.Frame.{Frame}
-use Rattle.rip_grammar.specs.declared.frame.Frame.TheVariants as F
-use Rattle.rip_grammar.specs.declared.mode.Shape.{Shape}
-use Rattle.rip_grammar.specs.Frames.{pending_level, may_end, closed, told}
-use Rattle.rip_grammar.specs.States.{State}
-use Rattle.rip_grammar.specs.Continuations.{reduce}
+use Rattle.rip_automaton.specs.declared.frame.Pending.{Pending}
+use Rattle.rip_automaton.specs.declared.frame.Frame.{Frame}
+use Rattle.rip_automaton.specs.declared.frame.Frame.TheVariants as F
+use Rattle.rip_automaton.specs.declared.mode.Shape.{Shape}
+use Rattle.rip_automaton.specs.Frames.{pending_level, may_end, closed, told}
+use Rattle.rip_automaton.specs.States.{State}
+use Rattle.rip_automaton.specs.Continuations.{reduce}
 use Rattle.rip_parser.specs.Running.{ending, others}
 
 -- where no operator ends, nothing is reduced

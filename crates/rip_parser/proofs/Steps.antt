@@ -4,20 +4,20 @@ use Rattle.std.proofs.lemmas.List.{take_more, take-append-drop}
 use Rattle.std.proofs.Math.Seq.{drop-cons, take-length}
 use Rattle.rip_grammar.specs.declared.word.Lexeme.{Lexeme}
 use Rattle.rip_grammar.specs.declared.event.Event.{Event}
-use Rattle.rip_grammar.specs.declared.frame.Frame.{Frame}
-use Rattle.rip_grammar.specs.declared.mode.Mode.TheVariants as M
+use Rattle.rip_automaton.specs.declared.frame.Frame.{Frame}
+use Rattle.rip_automaton.specs.declared.mode.Mode.TheVariants as M
 use Rattle.rip_grammar.specs.Phrases.{Phrase}
 use Rattle.rip_grammar.specs.Grammar.{IsScript}
-use Rattle.rip_grammar.specs.States.{State, At}
-use Rattle.rip_grammar.specs.Machine.{step, feed, go, begins}
-use Rattle.rip_grammar.proofs.Folding.{go_front, refused_begins_none}
-use Rattle.rip_grammar.proofs.Viable.{viable}
-use Rattle.rip_grammar.proofs.Finished.{end_ends}
+use Rattle.rip_automaton.specs.States.{State, At}
+use Rattle.rip_automaton.specs.Machine.{step, feed, go, begins}
+use Rattle.rip_automaton.proofs.Folding.{go_front, refused_begins_none}
+use Rattle.rip_automaton.proofs.Viable.{viable}
+use Rattle.rip_automaton.proofs.Finished.{end_ends}
 use Rattle.std.specs.Prelude.{min}
 use Rattle.rip_lexer.specs.declared.token.Token.{Token}
 use Rattle.rip_grammar.specs.Events.{emit}
-use Rattle.rip_grammar.proofs.Complete.{script}
-use Rattle.rip_grammar.proofs.Sound.{sound}
+use Rattle.rip_automaton.proofs.Complete.{script}
+use Rattle.rip_automaton.proofs.Sound.{sound}
 use Rattle.rip_parser.specs.Words.{lexeme_of, end_of, lexemes_of}
 use Rattle.rip_parser.specs.declared.refusal.ParseKind.TheVariants as K
 use Rattle.rip_parser.specs.declared.refusal.ParseRefusal.{ParseRefusal}

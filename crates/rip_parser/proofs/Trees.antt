@@ -23,7 +23,7 @@ use Rattle.rip_grammar.specs.declared.event.Event.TheVariants as E
 use Rattle.rip_grammar.specs.Phrases.{Phrase}
 use Rattle.rip_grammar.specs.Events.{emit}
 use Rattle.rip_grammar.specs.Grammar.{is_element, IsScript}
-use Rattle.rip_grammar.proofs.Complete.{script as told_of_script}
+use Rattle.rip_automaton.proofs.Complete.{script as told_of_script}
 use Rattle.rip_parser.specs.declared.part.Part.{Part}
 use Rattle.rip_parser.specs.Shows.{Row, spelling_of, IsText, IsSingle, IsKey, ShowsScript, text_of, text_count, texts_end, LiesAt, AreLaid}
 use Rattle.rip_parser.specs.Building.{IsFormOf, numbers, place_over, absent, plain_form}

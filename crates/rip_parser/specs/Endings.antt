@@ -1,8 +1,8 @@
 -- What comes of an open form where a statement in it has ended. No public clause cites this.
 use Rattle.std.specs.Prelude.{◌≡◌, Option}
 use Rattle.rip_grammar.specs.declared.word.Lexeme.{Lexeme}
-use Rattle.rip_grammar.specs.States.{State}
-use Rattle.rip_grammar.specs.Statements.{ended}
+use Rattle.rip_automaton.specs.States.{State}
+use Rattle.rip_automaton.specs.Statements.{ended}
 use Rattle.rip_parser.specs.declared.statements.Ending.{Ending}
 use Rattle.rip_parser.specs.declared.statements.Ending.TheVariants as N
 use Rattle.rip_parser.specs.Running.{Course, Takes}

@@ -1,13 +1,13 @@
 -- What the machine's code holds, and what its steps do. No public clause cites this.
 use Rattle.std.specs.Prelude.{◌≡◌, ℕ, nat_le, Bool, true, false, List, [], ◌∷◌, Option, Some, None, cond}
 use Rattle.rip_grammar.specs.declared.event.Event.{Event}
-use Rattle.rip_grammar.specs.declared.frame.Pending.{Pending}
-use Rattle.rip_grammar.specs.declared.frame.Frame.{Frame}
-use Rattle.rip_grammar.specs.declared.frame.Frame.TheVariants as F
-use Rattle.rip_grammar.specs.declared.mode.Mode.{Mode}
-use Rattle.rip_grammar.specs.declared.mode.Shape.{Shape}
-use Rattle.rip_grammar.specs.Frames.{pending_level}
-use Rattle.rip_grammar.specs.States.{State, At}
+use Rattle.rip_automaton.specs.declared.frame.Pending.{Pending}
+use Rattle.rip_automaton.specs.declared.frame.Frame.{Frame}
+use Rattle.rip_automaton.specs.declared.frame.Frame.TheVariants as F
+use Rattle.rip_automaton.specs.declared.mode.Mode.{Mode}
+use Rattle.rip_automaton.specs.declared.mode.Shape.{Shape}
+use Rattle.rip_automaton.specs.Frames.{pending_level}
+use Rattle.rip_automaton.specs.States.{State, At}
 
 -- what is wanted, the open forms and what has been told, both with the latest first
 pub record Course : Type 0 where

@@ -1,8 +1,8 @@
 //! The machine behind an operand: what goes on from it, and what ends the form that it stands in.
 
 ghost use Rattle.std.specs.Prelude.{◌≡◌, ◌∷◌, IfOk, OnOk, Some, true};
-ghost use Rattle.rip_grammar.specs.Continuations.{after, after_mark, arguments_by, assign, call, case_by, close, comma, elements_by, entries_by, for_test_ended, for_update_ended, header_by, header_ends, index_by, leave, operator, operator_begins, parenthesis_by, postfix, question, reduce, separate, test_by};
-ghost use Rattle.rip_grammar.specs.Frames.{told};
+ghost use Rattle.rip_automaton.specs.Continuations.{after, after_mark, arguments_by, assign, call, case_by, close, comma, elements_by, entries_by, for_test_ended, for_update_ended, header_by, header_ends, index_by, leave, operator, operator_begins, parenthesis_by, postfix, question, reduce, separate, test_by};
+ghost use Rattle.rip_automaton.specs.Frames.{told};
 ghost use Rattle.rip_parser.specs.Running.{Reduces, Takes, ending, others};
 
 use crate::grammar::{
@@ -10,7 +10,8 @@ use crate::grammar::{
 };
 use crate::levels::{ASSIGNMENT, COMMA, OR, POSTFIX};
 use crate::machine::{Machine, node_at, node_behind, one_more};
-use rip_grammar::{Event, Frame, Head, Header, Invocation, Lexeme, Mode, Pending, Shape, Word};
+use rip_automaton::{Frame, Header, Invocation, Mode, Pending, Shape};
+use rip_grammar::{Event, Head, Lexeme, Word};
 use rip_values::{BinaryOperator, NoMemory};
 
 impl Machine {

@@ -4,13 +4,14 @@ ghost use Rattle.std.specs.Prelude.{◌≡◌};
 ghost use Rattle.rip_grammar.specs.Words.{is_assignment, is_close, is_identifier_name, is_key, is_prefix, is_single, is_step};
 ghost use Rattle.rip_grammar.specs.Levels.{binds, operator_level};
 ghost use Rattle.rip_grammar.specs.Semicolons.{continues, continues_name, continues_nothing, is_inserted};
-ghost use Rattle.rip_grammar.specs.Frames.{bars_in, closed, enclosed, floor, may_end, pending_floor, pending_level, single_shape, told};
+ghost use Rattle.rip_automaton.specs.Frames.{bars_in, closed, enclosed, floor, may_end, pending_floor, pending_level, single_shape, told};
 
 use crate::levels::{
     AND, ASSIGNMENT, BIT_AND, BIT_OR, BIT_XOR, CALL, COMMA, CONDITIONAL, EQUALITY, NEW, OR, PREFIX,
     PRODUCT, RELATION, SHIFT, SUM,
 };
-use rip_grammar::{Event, Frame, Head, Lexeme, Pending, Shape, VarRole, Word};
+use rip_automaton::{Frame, Pending, Shape, VarRole};
+use rip_grammar::{Event, Head, Lexeme, Word};
 use rip_values::{BinaryOperator, LogicalOperator, UnaryOperator};
 
 /// Whether the word may stand behind `.` and as a key: a name or a reserved word (ECMA-262 7.6).

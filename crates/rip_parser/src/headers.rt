@@ -1,12 +1,13 @@
 //! The machine in declarators, in headers, and behind `return` and `throw`.
 
 ghost use Rattle.std.specs.Prelude.{IfOk, ◌∷◌};
-ghost use Rattle.rip_grammar.specs.Headers.{after_name, declarator_name, declarators_ended, declared, for_init, for_test, for_update, init_ended, open_for, open_header, open_switch, return_ends, returning, test_ended, throwing, update_ended};
+ghost use Rattle.rip_automaton.specs.Headers.{after_name, declarator_name, declarators_ended, declared, for_init, for_test, for_update, init_ended, open_for, open_header, open_switch, return_ends, returning, test_ended, throwing, update_ended};
 ghost use Rattle.rip_parser.specs.Running.{Takes};
 
 use crate::grammar::{is_inserted, is_inserted_behind_name};
 use crate::machine::{Machine, node_at, one_more};
-use rip_grammar::{Event, Frame, Head, Lexeme, Mode, VarRole, Word};
+use rip_automaton::{Frame, Mode, VarRole};
+use rip_grammar::{Event, Head, Lexeme, Word};
 use rip_values::NoMemory;
 
 impl Machine {

@@ -1,14 +1,15 @@
 //! The machine that reads scripts: it takes one lexeme at a time, and keeps the open forms on a stack.
 
 ghost use Rattle.std.specs.Prelude.{◌≡◌, ◌+◌, ◌∷◌, [], IfOk, OnOk, MatchOption, Some, None, true};
-ghost use Rattle.rip_grammar.specs.Frames.{top_bars, top_floor};
-ghost use Rattle.rip_grammar.specs.States.{At};
+ghost use Rattle.rip_automaton.specs.Frames.{top_bars, top_floor};
+ghost use Rattle.rip_automaton.specs.States.{At};
 ghost use Rattle.rip_grammar.specs.Events.{node_at, node_behind};
 ghost use Rattle.rip_parser.specs.Running.{Course, Takes, first, others};
 
 use crate::grammar::{bars_in, floor};
 use crate::levels::ASSIGNMENT;
-use rip_grammar::{Event, Frame, Head, Mode};
+use rip_automaton::{Frame, Mode};
+use rip_grammar::{Event, Head};
 use rip_values::NoMemory;
 use std::alloc::Global;
 use std::marker::Model;

@@ -1,13 +1,14 @@
 //! The machine where an operand, or a part of one, is wanted.
 
 ghost use Rattle.std.specs.Prelude.{IfOk};
-ghost use Rattle.rip_grammar.specs.Operands.{after_parameter, argument, arguments_end, body_begins, declaration_name, element, elements_end, entries_end, entry_begins, entry_colon, first_parameter, function_name, key, member, no_argument, open_body, open_parameters, opening, operand, parameter, parameter_read, prefix};
+ghost use Rattle.rip_automaton.specs.Operands.{after_parameter, argument, arguments_end, body_begins, declaration_name, element, elements_end, entries_end, entry_begins, entry_colon, first_parameter, function_name, key, member, no_argument, open_body, open_parameters, opening, operand, parameter, parameter_read, prefix};
 ghost use Rattle.rip_parser.specs.Running.{Takes};
 
 use crate::grammar::{is_identifier_name, is_key, is_prefix, is_single, single_shape};
 use crate::levels::PREFIX;
 use crate::machine::{Machine, node_at, node_behind, one_more, sum_of_counts};
-use rip_grammar::{Frame, Head, Invocation, Lexeme, Mode, Owner, Pending, Shape, Word};
+use rip_automaton::{Frame, Invocation, Mode, Owner, Pending, Shape};
+use rip_grammar::{Head, Lexeme, Word};
 use rip_values::NoMemory;
 
 impl Machine {

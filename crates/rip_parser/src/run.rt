@@ -1,16 +1,17 @@
 //! The machine on all lexemes of a script.
 
 ghost use Rattle.std.specs.Prelude.{◌≡◌, ◌++◌, ◌∷◌, [], ℕ, IfOk, IfErr, List, Some, reverse};
-ghost use Rattle.rip_grammar.specs.declared.frame.Frame.{Frame as Frame'};
+ghost use Rattle.rip_automaton.specs.declared.frame.Frame.{Frame as Frame'};
 ghost use Rattle.rip_grammar.specs.declared.word.Lexeme.{Lexeme as Lexeme'};
-ghost use Rattle.rip_grammar.specs.Machine.{begins, go, step};
-ghost use Rattle.rip_grammar.specs.States.{At};
+ghost use Rattle.rip_automaton.specs.Machine.{begins, go, step};
+ghost use Rattle.rip_automaton.specs.States.{At};
 ghost use Rattle.rip_parser.specs.Running.{Takes};
 ghost use Rattle.rip_parser.specs.Parsed.{EndsInEnd, IsUnexpectedBy};
 
 use crate::machine::Machine;
 use crate::refusal::{ParseKind, ParseRefusal};
-use rip_grammar::{Event, Lexeme, Mode};
+use rip_automaton::Mode;
+use rip_grammar::{Event, Lexeme};
 use rip_values::NoMemory;
 use std::alloc::Global;
 

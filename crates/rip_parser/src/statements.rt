@@ -1,13 +1,14 @@
 //! The machine where a statement is wanted, or has ended.
 
 ghost use Rattle.std.specs.Prelude.{◌≡◌, ◌<◌, ◌∷◌, Bool, IfOk, OnOk, length};
-ghost use Rattle.rip_grammar.specs.Statements.{brace_ends, catch_name, clause, clause_by, clause_ends, clause_told, close_catch, declaration_begins, default_colon, do_ended, ended, finish, function_ends, open_block, open_catch, script_ends, semicolon, start, try_ended};
+ghost use Rattle.rip_automaton.specs.Statements.{brace_ends, catch_name, clause, clause_by, clause_ends, clause_told, close_catch, declaration_begins, default_colon, do_ended, ended, finish, function_ends, open_block, open_catch, script_ends, semicolon, start, try_ended};
 ghost use Rattle.rip_parser.specs.Running.{Takes};
 ghost use Rattle.rip_parser.specs.Endings.{Ends};
 
 use crate::grammar::is_inserted;
 use crate::machine::{Machine, node_at, one_more, sum_of_counts};
-use rip_grammar::{Event, Frame, Head, Header, Lexeme, Mode, Owner, Shape, VarRole, Word};
+use rip_automaton::{Frame, Header, Mode, Owner, Shape, VarRole};
+use rip_grammar::{Event, Head, Lexeme, Word};
 use rip_values::NoMemory;
 
 /// What comes of the innermost open form where a statement in it has ended.

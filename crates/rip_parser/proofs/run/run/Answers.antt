@@ -2,10 +2,10 @@ use Rattle.std.proofs.Common.{Bool, false, List, Some, get_or, sym, ap, ◌∙�
 use Rattle.rip_grammar.specs.declared.word.Word.TheVariants as W
 use Rattle.rip_grammar.specs.declared.word.Lexeme.{Lexeme}
 use Rattle.rip_grammar.specs.declared.event.Event.{Event}
-use Rattle.rip_grammar.specs.declared.mode.Mode.{Mode}
-use Rattle.rip_grammar.specs.declared.mode.Mode.TheVariants as M
-use Rattle.rip_grammar.specs.Machine.{step}
-use Rattle.rip_grammar.specs.States.{At}
+use Rattle.rip_automaton.specs.declared.mode.Mode.{Mode}
+use Rattle.rip_automaton.specs.declared.mode.Mode.TheVariants as M
+use Rattle.rip_automaton.specs.Machine.{step}
+use Rattle.rip_automaton.specs.States.{At}
 use Rattle.rip_parser.specs.Running.{Course, Takes}
 use Rattle.rip_parser.proofs.Steps.{step-refused, step-taken, all-taken, done-at-end}
 use Rattle.rip_parser.proofs.run.run.Goals as goal

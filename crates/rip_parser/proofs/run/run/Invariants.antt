@@ -1,6 +1,6 @@
 use Rattle.std.proofs.Common.{◌≡◌, Some, take}
-use Rattle.rip_grammar.specs.Machine.{begins, go}
-use Rattle.rip_grammar.specs.States.{At}
+use Rattle.rip_automaton.specs.Machine.{begins, go}
+use Rattle.rip_automaton.specs.States.{At}
 use Rattle.rip_parser.proofs.run.run.Given as goal
 
 abbrev pub invariant-loop-lexeme : goal.invariant-loop-lexeme

@@ -1,5 +1,5 @@
 use Rattle.std.proofs.Common.{◌≡◌, length}
-use Rattle.rip_grammar.specs.Statements.{ended}
+use Rattle.rip_automaton.specs.Statements.{ended}
 use Rattle.rip_parser.proofs.machine.Machine.ended.Given as goal
 
 abbrev pub invariant-forms : goal.invariant-forms

@@ -1,9 +1,9 @@
 use Rattle.std.proofs.Common.{◌≡◌, List, Option, length}
 use Rattle.rip_grammar.specs.declared.event.Event.{Event}
-use Rattle.rip_grammar.specs.declared.frame.Frame.{Frame}
-use Rattle.rip_grammar.specs.declared.mode.Shape.{Shape}
-use Rattle.rip_grammar.specs.States.{State}
-use Rattle.rip_grammar.specs.Continuations.{reduce}
+use Rattle.rip_automaton.specs.declared.frame.Frame.{Frame}
+use Rattle.rip_automaton.specs.declared.mode.Shape.{Shape}
+use Rattle.rip_automaton.specs.States.{State}
+use Rattle.rip_automaton.specs.Continuations.{reduce}
 use Rattle.rip_parser.proofs.machine.Machine.reduce.Given as goal
 
 abbrev pub invariant-operators : goal.invariant-operators

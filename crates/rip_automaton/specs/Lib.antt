@@ -1,0 +1,9 @@
+pub mod Continuations
+pub mod Frames
+pub mod Headers
+pub mod Insertion
+pub mod Laws
+pub mod Machine
+pub mod Operands
+pub mod Statements
+pub mod States
