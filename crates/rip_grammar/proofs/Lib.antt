@@ -1,2 +1,5 @@
+pub mod Offending
+pub mod Postfixes
+pub mod Producing
 pub mod Refusals
 pub mod Rows

@@ -2,6 +2,8 @@ pub mod Depths
 pub mod Events
 pub mod Grammar
 pub mod Levels
+pub mod Offending
 pub mod Phrases
+pub mod Productions
 pub mod Semicolons
 pub mod Words
