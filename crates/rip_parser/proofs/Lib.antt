@@ -20,3 +20,4 @@ pub mod Refusing
 pub mod Holding
 pub mod Textless
 pub mod Existing
+pub mod Tables

@@ -8,6 +8,7 @@ pub mod Printed
 pub mod Running
 pub mod Search
 pub mod Shows
+pub mod Tables
 pub mod TooDeep
 pub mod View
 pub mod Words

@@ -10,6 +10,7 @@
 //! | what | its definition in `specs/` |
 //! |---|---|
 //! | the words of the tokens of a script ([`lexemes`], [`word_of`]) | `Words.lexemes_of`, `Words.word_of`, by two tables |
+//! | [`words_are_apart`]: names are those of tokens, and no two tokens are one word | `Tables` |
 //! | the tree of a script ([`parse`]) | `Parsed.HasTree`: some body of it has a depth of at most 200 and shows the tree |
 //! | the bodies of a script | `Parsed.IsBody`, by the rules of the grammar's crate |
 //! | the tree that a phrase shows, with the number of each node | `Shows.Shows`, one line for each form; `Shows.ShowsScript` |
@@ -45,7 +46,7 @@ mod refusal;
 mod run;
 mod statements;
 
-pub use laws::{nodes_are_held_once, trees_are_one};
+pub use laws::{nodes_are_held_once, trees_are_one, words_are_apart};
 pub use parser::parse;
 pub use reading::{lexemes, word_of};
 pub use refusal::{ParseKind, ParseRefusal};
