@@ -1,7 +1,8 @@
-ghost use Rattle.std.specs.Prelude.{◌≡◌, ◌<◌, ◌^◌, List, [], false, IfOk, IfErr, IfSome, OnOk, OnErr, option_map};
+ghost use Rattle.std.specs.Prelude.{◌≡◌, ◌<◌, ◌^◌, List, [], false, None, IfOk, IfErr, IfSome, OnOk, OnErr, option_map};
 ghost use Rattle.rip_wire.specs.Batches.{contents_of, IsBatch};
 ghost use Rattle.rip_course.specs.Services.{Called, Service as Meant};
 ghost use Rattle.rip_course.specs.Stages.{Stage, begun, with_batch, is_done, MayAdmit};
+ghost use Rattle.rip_course.specs.declared.sessions.Progress.TheVariants.{Busy as Unfinished};
 ghost use Rattle.rip_roll.specs.Seats.{standing_in, notes_in, opening_of, IsThere, IsOpened, IsAdmitted, HasBatch, IsClosed, IsSettled, IsGivenUp, LivingSlice, SeatSlice, SliceOf, ends_session, is_unfinished};
 ghost use Rattle.rip_roll.specs.declared.seat.Notes.{Notes as Noted};
 
@@ -122,7 +123,12 @@ impl Notes {
 
 impl Advanced {
     /// Nothing was done.
-    pub fn none(alloc: Global) -> Advanced {
+    pub fn none(alloc: Global) -> Advanced
+        ensures batch { result.batch ≡ 0 }
+        ensures entries { result.entries.items ≡ [] }
+        ensures progress { result.progress ≡ Unfinished }
+        ensures legacy { result.legacy ≡ None }
+    {
         Advanced {
             batch: 0,
             entries: Vec::new(alloc),
