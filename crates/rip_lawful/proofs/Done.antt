@@ -1,7 +1,8 @@
 -- What has come of a session that is busy, and of one that is idle.
 use Rattle.std.proofs.Common.{◌≡◌, ℕ, Bool, true, false, [], length, inl, inr, ap, sym, ◌∙◌}
 use Rattle.rip_runs.specs.Evaluation.{Evaluation}
-use Rattle.rip_course.specs.Stages.{Stage, finishes_batch, is_done, parts_at}
+use Rattle.rip_course.specs.Parts.{has_ended}
+use Rattle.rip_course.specs.Stages.{Stage, finishes_batch, is_done, is_ended, parts_at}
 use Rattle.rip_replica.specs.Parts.{Doing, meaning_of}
 use Rattle.rip_replica.specs.Sessions.{IsAt, IsBusy, IsIdle, behind_batch}
 use Rattle.rip_replica.specs.Standing.{Spot, next_number}
@@ -20,6 +21,17 @@ busy_not_done e doing may at st busy =
     parts_of_stage doing st (next_number at.place at.begun) busy.earlier (busy.ahead [] []) busy.none (busy.whole [] []) busy.come
     (left_heads e d b (behind_batch d b) at at.place busy.base st.units busy.ahead busy.stands.left [] []) (busy.stands.more [] []) in
     ap (λ ps. finishes_batch b ps) come ∙ busy.busy
+
+-- and lives
+pub busy_lives : {M A S : Type 0} (e : Evaluation M S) (doing : ℕ → ℕ → Doing A S) (may : S → Bool) (at : Spot M A S) (st : Stage)
+    → IsBusy e (doing st.seed st.time) may at st → is_ended (meaning_of doing) st ≡ false
+busy_lives e doing may at st busy =
+    let d : Doing _ _ = doing st.seed st.time in
+    let b : ℕ = length st.batches in
+    let come : parts_at (meaning_of doing) st ≡ busy.earlier =
+    parts_of_stage doing st (next_number at.place at.begun) busy.earlier (busy.ahead [] []) busy.none (busy.whole [] []) busy.come
+    (left_heads e d b (behind_batch d b) at at.place busy.base st.units busy.ahead busy.stands.left [] []) (busy.stands.more [] []) in
+    ap has_ended come ∙ busy.lives
 
 -- an idle one is
 pub idle_done : {M A S : Type 0} (e : Evaluation M S) (doing : ℕ → ℕ → Doing A S) (may : S → Bool) (at : Spot M A S) (st : Stage)

@@ -1,4 +1,5 @@
 pub mod AtStage
+pub mod Depth
 pub mod Laws
 pub mod Sound
 pub mod Spots

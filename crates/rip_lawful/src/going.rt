@@ -1,10 +1,12 @@
-ghost use Rattle.std.specs.Prelude.{◌≡◌, ◌<◌, ◌^◌, ℕ, false, length, List, IfOk};
+ghost use Rattle.std.specs.Prelude.{◌≡◌, ◌<◌, ◌≤◌, ◌^◌, ℕ, false, length, List, IfOk};
 ghost use Rattle.rip_heap.specs.Growth.{Grows};
 ghost use Rattle.rip_wire.specs.Batches.{Contents};
 ghost use Rattle.rip_course.specs.Services.{Called, Service as Meant};
 ghost use Rattle.rip_course.specs.Stages.{MayAdmit, Resumed, Stage, begun, is_done, with_batch};
+ghost use Rattle.rip_replica.specs.Numbers.{HasNumberSo, KeepsServed, KeepsSteps, open_of};
 ghost use Rattle.rip_replica.specs.Parts.{Doing, meaning_of};
 ghost use Rattle.rip_lawful.specs.AtStage.{AreDoneBy, IsAtStage};
+ghost use Rattle.rip_lawful.specs.Depth.{IsWithinSo, NestsWithin};
 
 use rip_course::{Made, Progress, Service, Slice};
 use rip_heap::{Heap, Host};
@@ -25,6 +27,7 @@ pub fn open<E: Evaluator<H> + Drop, I: Works<H, T> + Drop, T: Drop, H: Host + Dr
     host: H,
 ) -> Result<Replica<E, I, T, H>, NoMemory>
     ensures world { IfOk result (λ r. (r.heap ≡ heap) × (r.host ≡ host)) }
+    ensures place { IfOk result (λ r. r.place ≡ Place.First) }
     ensures begun { IfOk result (λ r. (program : E.Program) (doing : ℕ → ℕ → Doing T H) (seed time : ℕ)
         → AreDoneBy doing I.plans I.fact I.served I.ending
         → (doing seed time).run ≡ (E.evaluation program).run evaluator → (doing seed time).full ≡ full
@@ -56,6 +59,7 @@ pub fn admit<E: Evaluator<H>, I: Works<H, T>, T: Drop, H: Host>(
 )
     requires { length batch.items < 2 ^ 32 }
     ensures world { (replica.new.heap ≡ replica.old.heap) × (replica.new.host ≡ replica.old.host) }
+    ensures place { replica.new.place ≡ Place.First }
     ensures next { (program : E.Program) (doing : ℕ → ℕ → Doing T H) (st : Stage) (b : Contents)
         → AreDoneBy doing I.plans I.fact I.served I.ending
         → number ≡ b.number → batch.items ≡ (doing st.seed st.time).items b
@@ -78,6 +82,15 @@ pub fn resume<E: Evaluator<H>, I: Works<H, T>, T, H: Host, V: Service>(
     requires { H.fits replica.old.host replica.old.heap }
     ensures fits { H.fits replica.new.host replica.new.heap }
     ensures grows { Grows replica.old.heap replica.new.heap }
+    ensures page { (number : H → ℕ) → KeepsSteps (E.evaluation program.now) I.under_way number
+        → KeepsServed I.served number
+        → HasNumberSo result (number replica.old.host) (number replica.new.host) }
+    ensures depth { (doing : ℕ → ℕ → Doing T H) (st : Stage) (meant : Meant) (calls : List Called) (most : ℕ)
+        → AreDoneBy doing I.plans I.fact I.served I.ending
+        → IsAtStage (E.evaluation program.now) doing I.item_plan I.under_way I.may_serve replica.old st
+        → is_done (meaning_of doing) st ≡ false → V.replies_as service.old meant calls
+        → NestsWithin most (doing st.seed st.time).run → open_of (E.evaluation program.now) replica.old ≤ most
+        → IsWithinSo result (open_of (E.evaluation program.now) replica.new) most }
     ensures resumed { (doing : ℕ → ℕ → Doing T H) (st : Stage) (meant : Meant) (calls : List Called)
         → AreDoneBy doing I.plans I.fact I.served I.ending
         → IsAtStage (E.evaluation program.now) doing I.item_plan I.under_way I.may_serve replica.old st

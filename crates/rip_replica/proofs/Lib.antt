@@ -1,4 +1,5 @@
 pub mod ItemLemmas
+pub mod NumberLemmas
 pub mod PlayLemmas
 pub mod RunUnits
 pub mod ServedParts

@@ -1,4 +1,5 @@
 pub mod Kept
+pub mod Numbers
 pub mod Parts
 pub mod Plays
 pub mod Serving

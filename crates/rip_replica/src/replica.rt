@@ -1,4 +1,5 @@
 ghost use Rattle.std.specs.Prelude.{◌≡◌, ◌<◌, ◌≤◌, ℕ, ◌-◌, ◌*◌, ◌+◌, length};
+ghost use Rattle.rip_replica.specs.Numbers.{HasNumber, KeepsSteps, StandsIdle};
 ghost use Rattle.rip_heap.specs.Growth.{Grows};
 ghost use Rattle.rip_replica.specs.Standing.{IsOnward, TurnsSo, place_behind, spot, turn_behind};
 
@@ -63,6 +64,9 @@ impl<E, I, T, H> Replica<E, I, T, H> {
         ensures onward { IsOnward (length self.old.runner.planner.batch.items) self.old.place self.old.runner.planner.begun
             (length self.new.runner.planner.batch.items) self.new.place self.new.runner.planner.begun result }
         ensures number { self.new.number ≡ self.old.number }
+        ensures page { (number : H → ℕ) → KeepsSteps (E.evaluation program.now) I.under_way number
+            → HasNumber result (number self.old.host) (number self.new.host) }
+        ensures idle { StandsIdle result self.new.place }
     {
         match self.place {
             Place::First if n == 0 => Turn::Busy,
@@ -88,6 +92,7 @@ impl<E, I, T, H> Replica<E, I, T, H> {
         ensures onward { IsOnward (length self.old.runner.planner.batch.items) self.old.place self.old.runner.planner.begun
             (length self.new.runner.planner.batch.items) self.new.place self.new.runner.planner.begun result }
         ensures number { self.new.number ≡ self.old.number }
+        ensures idle { StandsIdle result self.new.place }
         ensures world { (self.new.heap ≡ self.old.heap) × (self.new.host ≡ self.old.host) }
     {
         if self.runner.planner.begun as usize >= self.runner.planner.batch.len() {
@@ -120,6 +125,9 @@ impl<E, I, T, H> Replica<E, I, T, H> {
         ensures onward { IsOnward (length self.old.runner.planner.batch.items) self.old.place self.old.runner.planner.begun
             (length self.new.runner.planner.batch.items) self.new.place self.new.runner.planner.begun result }
         ensures number { self.new.number ≡ self.old.number }
+        ensures page { (number : H → ℕ) → KeepsSteps (E.evaluation program.now) I.under_way number
+            → HasNumber result (number self.old.host) (number self.new.host) }
+        ensures idle { StandsIdle result self.new.place }
     {
         let rested = self
             .runner

@@ -6,6 +6,7 @@ ghost use Rattle.rip_course.specs.Parts.{serves};
 ghost use Rattle.rip_course.specs.Services.{Called, Service as Meant};
 ghost use Rattle.rip_replica.specs.Serving.{HasArgs, IsCallOf, IsServed, IsUnserved, given_to};
 ghost use Rattle.rip_course.specs.Stages.{Resumed, Stage};
+ghost use Rattle.rip_replica.specs.Numbers.{HasNumberSo, KeepsServed, KeepsSteps, StandsIdleSo};
 ghost use Rattle.rip_replica.specs.Parts.{Doing, meaning_of};
 ghost use Rattle.rip_replica.specs.Sessions.{IsAt, IsBusy};
 ghost use Rattle.rip_replica.specs.Slices.{Agrees, SlicedSo};
@@ -61,6 +62,9 @@ impl<E, I, T, H> Replica<E, I, T, H> {
         ensures fits { H.fits self.new.host self.new.heap }
         ensures grows { Grows self.old.heap self.new.heap }
         ensures number { self.new.number ≡ self.old.number }
+        ensures page { (number : H → ℕ) → KeepsSteps (E.evaluation program.now) I.under_way number
+            → KeepsServed I.served number → HasNumberSo result (number self.old.host) (number self.new.host) }
+        ensures idle { StandsIdleSo result self.new.place }
         ensures slice { SlicedSo (E.evaluation program.now) I.fact I.served I.ending I.may_serve self.old.number
             (spot I.item_plan I.under_way self.old) (spot I.item_plan I.under_way self.new)
             slice.now.units slice.now made.old made.new result (V.replies_as service.old) (V.replies_as service.new) }
@@ -92,6 +96,9 @@ impl<E, I, T, H> Replica<E, I, T, H> {
         ensures fits { H.fits self.new.host self.new.heap }
         ensures grows { Grows self.old.heap self.new.heap }
         ensures number { self.new.number ≡ self.old.number }
+        ensures page { (number : H → ℕ) → KeepsSteps (E.evaluation program.now) I.under_way number
+            → KeepsServed I.served number → HasNumberSo result (number self.old.host) (number self.new.host) }
+        ensures idle { StandsIdleSo result self.new.place }
         ensures slice { SlicedSo (E.evaluation program.now) I.fact I.served I.ending I.may_serve self.old.number
             (spot I.item_plan I.under_way self.old) (spot I.item_plan I.under_way self.new)
             slice.now.units slice.now made.old made.new result (V.replies_as service.old) (V.replies_as service.new) }
@@ -143,6 +150,8 @@ impl<E, I, T, H> Replica<E, I, T, H> {
         ensures fits { H.fits self.new.host self.new.heap }
         ensures kept { (self.new.runner ≡ self.old.runner) × (self.new.heap ≡ self.old.heap) × (self.new.number ≡ self.old.number) }
         ensures place { OnOk result (self.new.place ≡ Place.Between) }
+        ensures page { (number : H → ℕ) → KeepsServed I.served number
+            → OnOk result (number self.new.host ≡ number self.old.host) }
         ensures served { (meant : Meant) (calls : List Called) (item : T) (number : ℕ) (name : List ℕ) (args : List Tree)
             → slice_get self.old.runner.planner.batch.items (self.old.runner.planner.begun - 1) ≡ Some item
             → I.fact item ≡ serves number name args → V.replies_as service.old meant calls

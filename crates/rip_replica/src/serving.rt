@@ -1,7 +1,8 @@
-ghost use Rattle.std.specs.Prelude.{◌≡◌, true, List, OnErr, OnOk};
+ghost use Rattle.std.specs.Prelude.{◌≡◌, ℕ, true, List, OnErr, OnOk};
 ghost use Rattle.rip_data.specs.Datum.{trees_in};
 ghost use Rattle.rip_wire.specs.Items.{AreArgs};
 ghost use Rattle.rip_course.specs.Services.{Called, Service as Meant};
+ghost use Rattle.rip_replica.specs.Numbers.{KeepsServed};
 ghost use Rattle.rip_replica.specs.Serving.{IsServed, IsUnserved, given_to};
 
 use crate::works::{Call, Works};
@@ -35,6 +36,8 @@ pub(crate) fn serve_call<H: Host, T, I: Works<H, T>, V: Service>(
         → OnOk result (host.new ≡ I.served batch
         (given_to meant calls slice.now.time call.name (trees_in call.args)) host.old) }
     ensures memory { OnErr result (host.new ≡ host.old) }
+    ensures page { (number : H → ℕ) → KeepsServed I.served number
+        → OnOk result (number host.new ≡ number host.old) }
     ensures unserved { (meant : Meant) (calls : List Called) → V.replies_as service.old meant calls
         → OnErr result (IsUnserved calls made.old made.new (V.replies_as service.new meant)) }
 {

@@ -1,3 +1,4 @@
 pub mod Going
 pub mod Laws
+pub mod Numbers
 pub mod Play

@@ -1,6 +1,7 @@
-ghost use Rattle.std.specs.Prelude.{◌≡◌, ◌<◌, ◌≤◌, []};
+ghost use Rattle.std.specs.Prelude.{◌≡◌, ◌<◌, ◌≤◌, ℕ, []};
 ghost use Rattle.rip_heap.specs.Growth.{Grows};
 ghost use Rattle.rip_runner.specs.Going.{BeginsRun, IsOnward, IsWithin, IsWithinTurn, Keeps, Moves, Rests, going, turns, weight};
+ghost use Rattle.rip_runner.specs.Numbers.{HasNumber, HasNumberSo, KeepsNumber};
 ghost use Rattle.rip_runs.specs.Plan.{opened};
 
 use crate::planner::Planner;
@@ -77,6 +78,8 @@ impl<E, P> Runner<E, P> {
         ensures law { Rests (E.evaluation program.now) [] (going P.plan self.old) heap.old host.old n (going P.plan self.new) heap.new host.new result }
         ensures within { IsWithin n result }
         ensures later { turns (P.steps self.new.planner) self.new.phase ≤ turns (P.steps self.old.planner) self.old.phase }
+        ensures number { (number : H → ℕ) → KeepsNumber (E.evaluation program.now) P.plan number
+            → HasNumber result (number host.old) (number host.new) }
     {
         let mut left = n;
         loop {
@@ -107,6 +110,8 @@ impl<E, P> Runner<E, P> {
         ensures moves { Moves (E.evaluation program.now) (going P.plan self.old) heap.old host.old n (going P.plan self.new) heap.new host.new result }
         ensures within { IsWithinTurn n result }
         ensures onward { IsOnward result (turns (P.steps self.new.planner) self.new.phase) (turns (P.steps self.old.planner) self.old.phase) }
+        ensures number { (number : H → ℕ) → KeepsNumber (E.evaluation program.now) P.plan number
+            → HasNumberSo result (number host.old) (number host.new) }
     {
         match self.phase {
             Phase::Asking => self.ask(alloc, program, heap, host, n),
@@ -143,6 +148,8 @@ impl<E, P> Runner<E, P> {
         ensures moves { Moves (E.evaluation program.now) (going P.plan self.old) heap.old host.old n (going P.plan self.new) heap.new host.new result }
         ensures within { IsWithinTurn n result }
         ensures onward { IsOnward result (turns (P.steps self.new.planner) self.new.phase) (turns (P.steps self.old.planner) Phase.Asking) }
+        ensures number { (number : H → ℕ) → KeepsNumber (E.evaluation program.now) P.plan number
+            → HasNumberSo result (number host.old) (number host.new) }
     {
         let step = match self.planner.next(alloc, heap, host) {
             Ok(step) => step,
@@ -220,6 +227,8 @@ impl<E, P> Runner<E, P> {
         ensures moves { Moves (E.evaluation program.now) (going P.plan self.old) heap.old host.old n (going P.plan self.new) heap.new host.new result }
         ensures within { IsWithinTurn n result }
         ensures onward { IsOnward result (turns (P.steps self.new.planner) self.new.phase) (turns (P.steps self.old.planner) (Phase.Running item)) }
+        ensures number { (number : H → ℕ) → KeepsNumber (E.evaluation program.now) P.plan number
+            → HasNumberSo result (number host.old) (number host.new) }
     {
         let fuel = self.evaluator.fuel_left();
         match self.evaluator.advance(alloc, program, heap, host, n) {

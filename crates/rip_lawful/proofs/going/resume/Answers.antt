@@ -1,8 +1,10 @@
-use Rattle.std.proofs.Common.{◌≤◌, arith}
+use Rattle.std.proofs.Common.{ℕ, ◌+◌, ◌≤◌, length, arith, subst, sym}
 use Rattle.rip_replica.specs.Parts.{meaning_of}
-use Rattle.rip_replica.specs.Standing.{spot}
+use Rattle.rip_replica.specs.Sessions.{behind_batch}
+use Rattle.rip_replica.specs.Standing.{Stands, spot}
 use Rattle.rip_lawful.specs.AtStage.{IsAtStage}
 use Rattle.rip_lawful.proofs.Done.{not_done_busy}
+use Rattle.rip_lawful.proofs.Nested.{slice_within}
 use Rattle.rip_lawful.proofs.Resting.{rests}
 use Rattle.rip_lawful.proofs.Staging.{resume_stands}
 use Rattle.rip_lawful.proofs.going.resume.Goals as goal
@@ -23,3 +25,19 @@ returns-clause-resumed g c = λ doing st service calls by at undone replies.
     (g.V.Service.replies_as c.resume.new.service service) at.number c.resume.ensures.number
     (c.resume.ensures.resumed doing st service calls (by.agrees st.seed st.time) at.number
     (not_done_busy e doing g.I.Works.may_serve (spot ip under c.args.replica.now) st at.stands undone) some replies)
+
+pub returns-then-slice-eq0-clause-depth : goal.returns-then-slice-eq0-clause-depth
+returns-then-slice-eq0-clause-depth g c = λ doing st service calls most by at undone replies nests within. within
+
+pub returns-clause-depth : goal.returns-clause-depth
+returns-clause-depth g c = λ doing st service calls most by at undone replies nests within.
+    let e = g.E.Evaluator.evaluation c.args.program.now in
+    let d = doing st.seed st.time in
+    let from = spot g.I.Items.item_plan g.I.Items.under_way c.args.replica.now in
+    let to = spot g.I.Items.item_plan g.I.Items.under_way c.resume.new.self in
+    let next = behind_batch d (length st.batches) in
+    let busy = not_done_busy e doing g.I.Works.may_serve from st at.stands undone in
+    let B : ℕ → Type 0 = λ b. Stands e d g.I.Works.may_serve b next from st.units busy.base st.units busy.ahead in
+    let sliced = c.resume.ensures.slice d next st.units busy.base busy.ahead service calls (by.agrees st.seed st.time) (subst B (sym at.number) busy.stands) replies in
+    slice_within e d g.I.Works.may_serve c.args.replica.now.number next to st.units busy.base (st.units + c.args.slice.now.units) busy.ahead sliced.ps sliced.gs c.resume.result most nests sliced.comes
+    c.resume.ensures.idle

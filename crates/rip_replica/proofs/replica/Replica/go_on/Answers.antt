@@ -19,6 +19,7 @@ loop-units-init g c = record {
   went = λ d next from base ahead service calls agrees stands replies.
       went_first (g.E.Evaluator.evaluation c.args.program.now) d g.I.Works.may_serve c.args.self.now.number next from base (from + c.args.slice.now.units) c.args.slice.now.units ahead service calls c.args.slice.now c.args.made.now
       (spot g.I.Items.item_plan g.I.Items.under_way c.args.self.now) (g.V.Service.replies_as c.args.service.now service) refl stands replies;
+  page = λ number keeps serves. refl;
 }
 
 pub loop-units-preserved-in-On : goal.loop-units-preserved-in-On
@@ -36,6 +37,7 @@ loop-units-preserved-in-On g c =
           at to c.loop-units.left c.in-On.units (g.V.Service.replies_as c.loop-units.service service) went
           (c.in-On.ensures.turns d g.I.Works.may_serve c.args.self.now.number next from went.new_base went.spent went.later went.stands)
           c.in-On.ensures.onward.1);
+      page = λ number keeps serves. c.in-On.ensures.page number keeps ∙ c.loop-units.invariant.page number keeps serves;
     }
 
 pub returns-in-Busy-clause-slice : goal.returns-in-Busy-clause-slice
@@ -123,6 +125,7 @@ loop-units-preserved g c =
           at to c.loop-units.left c.in-Calls.units (g.V.Service.replies_as c.loop-units.service service) R went waits
           (within_number c.loop-units.self.place c.loop-units.self.runner.planner.begun turned.runner.planner.begun c.in-Calls.ensures.onward.0 c.in-Calls.ensures.onward.2)
           (subst B number (c.in-Ok.ensures.served service before waits.item waits.number waits.name waits.args waits.is fact went.served.replies))));
+      page = λ number keeps serves. c.in-Ok.ensures.page number serves ∙ c.in-Calls.ensures.page number keeps ∙ c.loop-units.invariant.page number keeps serves;
     }
 
 pub returns-in-Err-clause-slice : goal.returns-in-Err-clause-slice
@@ -142,3 +145,9 @@ returns-in-Err-clause-slice g c = λ d next from base ahead service calls agrees
     at to c.loop-units.left c.in-Calls.units (g.V.Service.replies_as c.loop-units.service service) R went c.in-Calls.ensures.onward.0 c.in-Calls.ensures.onward.2
     (c.in-Calls.ensures.turns d g.I.Works.may_serve c.args.self.now.number next from went.new_base went.spent went.later went.stands)
     (c.in-Err.ensures.unserved service before went.served.replies))
+
+pub returns-in-Busy-clause-page : goal.returns-in-Busy-clause-page
+returns-in-Busy-clause-page g c = λ number keeps serves. c.in-Busy.ensures.page number keeps ∙ c.loop-units.invariant.page number keeps serves
+
+pub returns-in-Done-clause-page : goal.returns-in-Done-clause-page
+returns-in-Done-clause-page g c = λ number keeps serves. c.in-Done.ensures.page number keeps ∙ c.loop-units.invariant.page number keeps serves

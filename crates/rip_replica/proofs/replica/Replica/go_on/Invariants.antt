@@ -1,6 +1,7 @@
 use Rattle.std.proofs.Common.{◌≡◌, ℕ, ◌+◌, List, length}
 use Rattle.rip_heap.specs.Growth.{Grows}
 use Rattle.rip_course.specs.Services.{Called, Service}
+use Rattle.rip_replica.specs.Numbers.{KeepsServed, KeepsSteps}
 use Rattle.rip_replica.specs.Parts.{Doing}
 use Rattle.rip_replica.specs.Slices.{Agrees}
 use Rattle.rip_replica.specs.Standing.{Ahead, Behind, Stands, spot, turns_left}
@@ -18,6 +19,8 @@ invariant-loop-units g l = record {
       → g.V.Service.replies_as l.fn.service service calls
       → Went (g.E.Evaluator.evaluation l.program) d g.I.Works.may_serve l.fn.self.number next from base (from + l.slice.units) ahead service calls l.slice l.fn.made
       (spot g.I.Items.item_plan g.I.Items.under_way l.self) l.left l.made (g.V.Service.replies_as l.service service);
+  page : (number : _ → ℕ) → KeepsSteps (g.E.Evaluator.evaluation l.program) g.I.Items.under_way number → KeepsServed g.I.Works.served number
+      → number l.self.host ≡ number l.fn.self.host;
 }
 
 abbrev pub decreases-loop-units : goal.decreases-loop-units

@@ -4,7 +4,9 @@ use Rattle.rip_replica.specs.declared.replica.Place.{Place}
 use Rattle.rip_replica.specs.declared.replica.Place.TheVariants.{Idle}
 use Rattle.rip_replica.specs.declared.replica.Turn.{Turn}
 use Rattle.rip_replica.specs.declared.replica.Turn.TheVariants.{Busy, Calls, Lacks}
+use Rattle.rip_replica.specs.Numbers.{HasNumber, StandsIdle}
 use Rattle.rip_replica.specs.Standing.{Spot, Turns, place_behind, planned, spot, turn_behind}
+use Rattle.rip_replica.proofs.NumberLemmas.{closed_idle, closed_keeps, steps_keep}
 use Rattle.rip_replica.proofs.WithinLemmas.{kept_spot, within_awaits, within_busy, within_closed, within_lacks}
 use Rattle.rip_replica.proofs.replica.Replica.within.Goals as goal
 
@@ -58,3 +60,20 @@ returns-in-Unplanned-clause-turns g c = λ d may batch next from base spent ahea
     kept_spot T at r Idle run.new.heap run.new.host (g.I.Items.item_plan run.new.self.planner.items) run.new.self.planner.batch.items run.new.self.planner.begun
     run.ensures.kept.2 (ap (λ b. b.items) run.ensures.kept.0) run.ensures.kept.1
     (within_lacks e d may batch next at c.args.n from base spent ahead r run.new.heap run.new.host Idle c.requires.within stands)
+
+pub returns-in-Busy-clause-page : goal.returns-in-Busy-clause-page
+returns-in-Busy-clause-page g c = λ number keeps. c.in-Busy.ensures.number number (steps_keep (g.E.Evaluator.evaluation c.args.program.now) g.I.Items.under_way number keeps)
+
+pub returns-in-Awaits-clause-page : goal.returns-in-Awaits-clause-page
+returns-in-Awaits-clause-page g c = λ number keeps. c.in-Awaits.ensures.number number (steps_keep (g.E.Evaluator.evaluation c.args.program.now) g.I.Items.under_way number keeps)
+
+pub returns-in-Finished-clause-page : goal.returns-in-Finished-clause-page
+returns-in-Finished-clause-page g c = λ number keeps.
+    let P : Turn → Type 0 = λ turn. HasNumber turn (number c.args.self.now.host) (number c.resume-rested.new.host) in
+    subst P (sym c.turn_behind.ensures) (closed_keeps c.in-Finished.close c.in-Finished.left (number c.args.self.now.host) (number c.resume-rested.new.host)
+    (c.in-Finished.ensures.number number (steps_keep (g.E.Evaluator.evaluation c.args.program.now) g.I.Items.under_way number keeps)))
+
+pub returns-in-Finished-clause-idle : goal.returns-in-Finished-clause-idle
+returns-in-Finished-clause-idle g c =
+    let P : Turn → Type 0 = λ turn. StandsIdle turn c.place_behind-self.result in
+    subst P (sym c.turn_behind.ensures) (closed_idle c.in-Finished.close c.in-Finished.left c.place_behind-self.result)

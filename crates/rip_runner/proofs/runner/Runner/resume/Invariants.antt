@@ -1,6 +1,7 @@
-use Rattle.std.proofs.Common.{◌≤◌, []}
+use Rattle.std.proofs.Common.{◌≡◌, ℕ, ◌≤◌, []}
 use Rattle.rip_heap.specs.Growth.{Grows}
 use Rattle.rip_runner.specs.Going.{Keeps, LeadsWith, going, turns}
+use Rattle.rip_runner.specs.Numbers.{KeepsNumber}
 use Rattle.rip_runner.proofs.runner.Runner.resume.Given as goal
 
 abbrev pub invariant-loop-units : goal.invariant-loop-units
@@ -12,6 +13,7 @@ invariant-loop-units g l = record {
   leads : LeadsWith (g.E.Evaluator.evaluation l.program) [] (going g.P.Planner.plan l.fn.self) l.fn.heap l.fn.host l.fn.n (going g.P.Planner.plan l.self) l.heap l.host l.left;
   within : l.left ≤ l.fn.n;
   later : turns (g.P.Planner.steps l.self.planner) l.self.phase ≤ turns (g.P.Planner.steps l.fn.self.planner) l.fn.self.phase;
+  number : (number : _ → ℕ) → KeepsNumber (g.E.Evaluator.evaluation l.program) g.P.Planner.plan number → number l.host ≡ number l.fn.host;
 }
 
 abbrev pub decreases-loop-units : goal.decreases-loop-units
