@@ -43,9 +43,9 @@ use Rattle.rip_client.specs.Truth.{IsReportOf, Waiting}
 use Rattle.rip_truth.specs.Truthful.{IsFineOrStopped}
 use Rattle.rip_session.specs.Application.{doing_of}
 use Rattle.rip_session.specs.Opening.{by_scope, opened_of, top_scope, with_page, with_scope}
-use Rattle.rip_served.proofs.KeepsAnswers.{replies_stay}
+use Rattle.rip_kept.proofs.KeepsAnswers.{replies_stay}
 use Rattle.rip_served.proofs.KeepsPlans.{HasPlan, HasPlayed, Shows, event_has, handed_has, opening_has, play_has}
-use Rattle.rip_served.proofs.KeepsRuns.{HasReached, begun_has}
+use Rattle.rip_kept.proofs.KeepsRuns.{HasReached, begun_has}
 use Rattle.rip_due.specs.Due.{Kept, KeepsReplies, kept_behind}
 use Rattle.rip_honest.specs.Honest.{next_in}
 

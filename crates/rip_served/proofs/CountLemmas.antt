@@ -27,9 +27,9 @@ use Rattle.rip_prefix.proofs.PrefixLemmas.{served_are_first}
 use Rattle.rip_work.specs.Plans.{work_plan}
 use Rattle.rip_work.specs.Tasks.{Task, opens, reports}
 use Rattle.rip_served.specs.Served.{IsOverBrowser, call_of}
-use Rattle.rip_served.proofs.KeepsAnswers.{answers_keep}
+use Rattle.rip_kept.proofs.KeepsAnswers.{answers_keep}
 use Rattle.rip_served.proofs.KeepsPlans.{Shows, HasPlan, HasPlayed, event_has, opening_has, play_has, reply_has}
-use Rattle.rip_served.proofs.KeepsRuns.{HasReached, begun_has}
+use Rattle.rip_kept.proofs.KeepsRuns.{HasReached, begun_has}
 use Rattle.rip_served.proofs.ServedLemmas.{reports_by}
 
 -- the page counts so many

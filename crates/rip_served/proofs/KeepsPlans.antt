@@ -34,7 +34,7 @@ use Rattle.rip_visit.specs.declared.opening.Start.TheVariants.{Passes as PassesL
 use Rattle.rip_visit.specs.Events.{Going, browser_after, dispatched, event_plan, judged, settled, settling, turned_by, type_of, world_after, put_back}
 use Rattle.rip_visit.specs.Opening.{load_at, loading, opening_plan, scripts}
 use Rattle.rip_visit.specs.Replies.{delivered, delivery, handed, taken_out}
-use Rattle.rip_served.proofs.KeepsRuns.{HasReached}
+use Rattle.rip_kept.proofs.KeepsRuns.{HasReached}
 
 -- ---- plans
 

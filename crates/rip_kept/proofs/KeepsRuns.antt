@@ -1,11 +1,15 @@
 -- What a host keeps in each answer, a run keeps.
-use Rattle.std.proofs.Common.{ℕ, zero, suc, ◌-◌, min, Bool, true, false, nat_le}
+use Rattle.std.proofs.Common.{ℕ, zero, suc, ◌-◌, min, Bool, true, false, List, [], ◌∷◌, nat_le}
 use Rattle.rip_heap.specs.Host.{Request}
 use Rattle.rip_heap.specs.World.{World}
 use Rattle.rip_runs.specs.declared.completion.Completion.{Completion}
 use Rattle.rip_runs.specs.declared.part.Part.{Part}
-use Rattle.rip_runs.specs.Cut.{conclude, run_of}
+use Rattle.rip_runs.specs.declared.next.Control.{Control}
+use Rattle.rip_runs.specs.declared.next.Control.TheVariants.{Enter, Give, Halted}
+use Rattle.rip_runs.specs.Cut.{conclude, rest_of, run_of}
 use Rattle.rip_runs.specs.Evaluation.{Reached, Passes, Breaks, Pauses, reached}
+use Rattle.rip_runs.specs.Rest.{at_hand, finish, rest, room_in, unwind}
+use Rattle.rip_runs.specs.Stack.{Open}
 use Rattle.rip_runs.specs.Row.{Row, Ends, Halts, Asks, Again, AsksHost, Table, entered}
 use Rattle.rip_runs.specs.Run.{Answer, Completes, Stops, Cuts, Calling, follow, enter, run, run_by, run_to}
 use Rattle.rip_machine.specs.Run.{run_begun}
@@ -66,3 +70,28 @@ pub begun_has : {S : Type 0} (P : S → Type 0) (h : Calling S) → KeptBy P h �
 begun_has P h keeps t depth (Runs row x) w s fuel k p =
     reached_has P depth (run_of h t depth row s fuel k) (conclude_has P (nat_le fuel k) (run h t depth row (min fuel k) s) (to_has P h keeps t (suc (min fuel k)) depth row (min fuel k) s p))
 begun_has P h keeps t depth (Exceeds limit) w s fuel k p = p
+
+-- ---- a run that stands
+
+finish_has : {S : Type 0} (P : S → Type 0) (h : Calling S) → KeptBy P h → (t : Table) (o : Open) (a : Answer S) → Has P a → Has P (finish h t o a)
+finish_has P h keeps t o a p =
+    follow_has P a _ p (λ c u w s q. to_has P h keeps t (suc u) (room_in (let f = o in f.frame)) (t.rest o c w) u s q)
+
+unwind_has : {S : Type 0} (P : S → Type 0) (h : Calling S) → KeptBy P h → (t : Table) (os : List Open) (a : Answer S) → Has P a → Has P (unwind h t os a)
+unfolding unwind
+unwind_has P h keeps t [] a p = p
+unwind_has P h keeps t (o ∷ os) a p = finish_has P h keeps t o (unwind h t os a) (unwind_has P h keeps t os a p)
+
+hand_has : {S : Type 0} (P : S → Type 0) (h : Calling S) → KeptBy P h → (t : Table) (control : Control) (u : ℕ) (w : World) (s : S) → P s → Has P (at_hand h t control u w s)
+hand_has P h keeps t (Enter part) u w s p = enter_has P (run_to h t u) (to_has P h keeps t u) t part u w s p
+hand_has P h keeps t (Give c) u w s p = p
+hand_has P h keeps t (Halted stop room) u w s p = p
+
+rest_has : {S : Type 0} (P : S → Type 0) (h : Calling S) → KeptBy P h → (t : Table) (control : Control) (os : List Open) (u : ℕ) (w : World) (s : S) → P s → Has P (rest h t control os u w s)
+unfolding rest
+rest_has P h keeps t control os u w s p = unwind_has P h keeps t os (at_hand h t control u w s) (hand_has P h keeps t control u w s p)
+
+pub left_has : {S : Type 0} (P : S → Type 0) (h : Calling S) → KeptBy P h → (t : Table) (depth : ℕ) (control : Control) (os : List Open) (w : World) (s : S) (fuel k : ℕ) → P s
+    → HasReached P (reached depth (rest_of h t control os w s fuel k))
+left_has P h keeps t depth control os w s fuel k p =
+    reached_has P depth (rest_of h t control os w s fuel k) (conclude_has P (nat_le fuel k) (rest h t control os (min fuel k) w s) (rest_has P h keeps t control os (min fuel k) w s p))

@@ -1,8 +1,10 @@
--- No answer of a browser changes how many served calls it counts, nor which replies wait.
+-- No answer of a browser changes how many served calls it counts, which replies wait, nor the limits of its document and of
+-- its calls.
 use Rattle.std.proofs.Common.{◌≡◌, ℕ, Bool, true, false, List, Option, None, Some, Result, Ok, Err, ℤ, pos, negsuc, if◌then◌else◌, refl, ap}
 use Rattle.std.specs.Prelude.{◌+◌, ◌&&◌, ◌^◌, length, nat_le, option_and_then}
 use Rattle.rip_values.specs.declared.builtin.Builtin.{Builtin}
 use Rattle.rip_values.specs.declared.fixed.FixedText.{FixedText}
+use Rattle.rip_values.specs.declared.fixed.FixedText.TheVariants.{Disabled as DisabledText, Empty, Value as ValueText}
 use Rattle.rip_values.specs.declared.value.Fault.{Fault}
 use Rattle.rip_values.specs.declared.value.Fault.TheVariants.{BadArgument}
 use Rattle.rip_values.specs.declared.value.Limit.TheVariants.{Cells, Queue, Units}
@@ -12,7 +14,7 @@ use Rattle.rip_values.specs.declared.value.Value.{Value}
 use Rattle.rip_values.specs.declared.value.Value.TheVariants.{Undefined, Null, Bool as Boolean, Num, NaN, Text, Object}
 use Rattle.rip_values.specs.FixedSearch.{fixed_text}
 use Rattle.rip_values.specs.Pool.{text_at}
-use Rattle.rip_heap.specs.Conversions.{boolean_of, number_of, text_fault}
+use Rattle.rip_heap.specs.Conversions.{boolean_of, number_of, span_of, text_fault}
 use Rattle.rip_heap.specs.declared.host.HostDone.{HostDone}
 use Rattle.rip_heap.specs.declared.host.HostDone.TheVariants as host
 use Rattle.rip_heap.specs.Host.{Request, Reads, Writes, Calls}
@@ -26,9 +28,12 @@ use Rattle.rip_forms.specs.Controls.{is_checkbox, is_control, is_select, part_of
 use Rattle.rip_forms.specs.declared.control.FormPart.{FormPart}
 use Rattle.rip_forms.specs.declared.control.FormPart.TheVariants as part
 use Rattle.rip_forms.specs.declared.state.FormState.TheVariants.{Value as SetValue, Selected as SetSelected}
-use Rattle.rip_nodes.specs.Calls.{argument}
+use Rattle.rip_dom.specs.Tree.{Tree}
+use Rattle.rip_nodes.specs.Attributes.{attribute_given}
+use Rattle.rip_nodes.specs.Calls.{argument, node_call}
 use Rattle.rip_nodes.specs.declared.member.NodeMember.{NodeMember}
 use Rattle.rip_nodes.specs.Members.{member_of}
+use Rattle.rip_nodes.specs.Writing.{node_written}
 use Rattle.rip_nodes.specs.Texts.{are_past, cost_of_text, text_span, text_taken, world_with}
 use Rattle.rip_host.specs.Answers.{answers, called, event_put, event_read, event_receiver, node_read, node_read_by, node_receiver, node_write, node_write_by, on_receiver, owned_read, owned_write, ripley_read}
 use Rattle.rip_host.specs.declared.browser.Browser.{Browser}
@@ -48,18 +53,27 @@ use Rattle.rip_host.specs.FormMembers.{attribute_kept, checked_written, disabled
 use Rattle.rip_host.specs.HostCalls.{host_call_of}
 use Rattle.rip_host.specs.Listening.{added_by, after_registering, handler_of, ignored, is_number, is_spent, listener, listener_added, listener_removed, register, removed_by, unless_fault, unregister}
 use Rattle.rip_host.specs.Owners.{owner_of}
+use Rattle.rip_host.specs.Visit.{of_nodes}
+use Rattle.rip_kept.proofs.TreeLimits.{call_limit, given_limit, written_limit}
 use Rattle.rip_host.specs.Ripley.{call_callback, call_judged, call_name, call_with, is_array, random_call, random_given, random_of, ripley_member}
 
--- how many it counts, and which wait
-abbrev count : Browser → ℕ × List WaitingReply
-count s = ((let c = s.calls in c.taken), s.undelivered)
+-- how many it counts, which wait, and both limits
+abbrev Counts : Type 0
+Counts = ℕ × List WaitingReply × ℕ × ℕ
 
-abbrev kept : HostDone × World × Browser → ℕ × List WaitingReply
+abbrev count : Browser → Counts
+count s = ((let c = s.calls in c.taken), s.undelivered, (let t = s.dom in t.limit), (let c = s.calls in c.limit))
+
+abbrev kept : HostDone × World × Browser → Counts
 kept a = count a.2
 
-if_keeps : (b : Bool) (x y : HostDone × World × Browser) (k : ℕ × List WaitingReply) → kept x ≡ k → kept y ≡ k → kept (if b then x else y) ≡ k
+if_keeps : (b : Bool) (x y : HostDone × World × Browser) (k : Counts) → kept x ≡ k → kept y ≡ k → kept (if b then x else y) ≡ k
 if_keeps true x y k h g = h
 if_keeps false x y k h g = g
+
+-- an answer of the nodes, where the document keeps its limit
+nodes_keep : (s : Browser) (answer : HostDone × World × Tree) → (let t = answer.2 in t.limit) ≡ (let t = s.dom in t.limit) → kept (of_nodes answer s) ≡ count s
+nodes_keep s answer h = ap (λ (k : ℕ). ((let c = s.calls in c.taken), s.undelivered, k, (let c = s.calls in c.limit))) h
 
 -- ---- reading
 
@@ -118,9 +132,9 @@ value_written_keeps : (w : World) (s : Browser) (n : ℕ) (p : FormPart) (v : Va
 value_written_keeps w s n part.TextInput v = text_held_keeps w s n (null_or_empty v)
 value_written_keeps w s n part.NumberInput v = text_held_keeps w s n (null_or_empty v)
 value_written_keeps w s n part.TextArea v = text_held_keeps w s n (null_or_empty v)
-value_written_keeps w s n part.Checkbox v = refl
-value_written_keeps w s n part.OtherInput v = refl
-value_written_keeps w s n part.Button v = refl
+value_written_keeps w s n part.Checkbox v = nodes_keep s (attribute_given w s.dom n (span_of ValueText) (null_or_empty v)) (given_limit w s.dom n (span_of ValueText) (null_or_empty v))
+value_written_keeps w s n part.OtherInput v = nodes_keep s (attribute_given w s.dom n (span_of ValueText) (null_or_empty v)) (given_limit w s.dom n (span_of ValueText) (null_or_empty v))
+value_written_keeps w s n part.Button v = nodes_keep s (attribute_given w s.dom n (span_of ValueText) v) (given_limit w s.dom n (span_of ValueText) v)
 value_written_keeps w s n part.Select v = option_chosen_keeps w s n v
 value_written_keeps w s n part.Choice v = refl
 value_written_keeps w s n part.Form v = refl
@@ -140,7 +154,7 @@ selected_keeps w s n true v = place_keeps w s n (number_of w.pool v)
 selected_keeps w s n false v = refl
 
 attribute_keeps : (b : Bool) (w : World) (s : Browser) (n : ℕ) → kept (attribute_kept b w s n) ≡ count s
-attribute_keeps true w s n = refl
+attribute_keeps true w s n = nodes_keep s (attribute_given w s.dom n (span_of DisabledText) (Text (span_of Empty))) (given_limit w s.dom n (span_of DisabledText) (Text (span_of Empty)))
 attribute_keeps false w s n = refl
 
 disabled_keeps : (w : World) (s : Browser) (n : ℕ) (b : Bool) (v : Value) → kept (disabled_written w s n b v) ≡ count s
@@ -155,7 +169,7 @@ form_written_keeps w s n member.Disabled v = disabled_keeps w s n (is_control (p
 
 node_write_by_keeps : (w : World) (s : Browser) (n : ℕ) (o : Option NodeMember) (v : Value) → kept (node_write_by w s n o v) ≡ count s
 node_write_by_keeps w s n None v = refl
-node_write_by_keeps w s n (Some m) v = refl
+node_write_by_keeps w s n (Some m) v = nodes_keep s (node_written w s.dom s.class n m v) (written_limit w s.dom s.class n m v)
 
 node_write_keeps : (w : World) (s : Browser) (n : ℕ) (spelled : FixedText) (o : Option FormMember) (v : Value) → kept (node_write w s n spelled o v) ≡ count s
 node_write_keeps w s n spelled (Some m) v = form_written_keeps w s n m v
@@ -220,17 +234,17 @@ listener_added_keeps w s k t f c = fault_keeps (text_fault w.pool t) w s (added_
 listener_removed_keeps : (w : World) (s : Browser) (k : ℕ) (t f c : Value) → kept (listener_removed w s k t f c) ≡ count s
 listener_removed_keeps w s k t f c = fault_keeps (text_fault w.pool t) w s (removed_by w s k t (handler_of w f) (boolean_of w.pool c)) (removed_keeps w s k t (handler_of w f) (boolean_of w.pool c))
 
-abbrev queued : HostDone × Queued → ℕ
-queued put = (let c = put.1 in c.taken)
+abbrev queued : HostDone × Queued → ℕ × ℕ
+queued put = ((let c = put.1 in c.taken), (let c = put.1 in c.limit))
 
-if_queued : (b : Bool) (x y : HostDone × Queued) (k : ℕ) → queued x ≡ k → queued y ≡ k → queued (if b then x else y) ≡ k
+if_queued : (b : Bool) (x y : HostDone × Queued) (k : ℕ × ℕ) → queued x ≡ k → queued y ≡ k → queued (if b then x else y) ≡ k
 if_queued true x y k h g = h
 if_queued false x y k h g = g
 
 judged_keeps : (w : World) (s : Browser) (callback : Option ℕ) (r : Result (List ℕ) Fault) → kept (call_judged w s callback r) ≡ count s
 judged_keeps w s callback (Ok text) =
-    ap (λ (taken : ℕ). (taken, s.undelivered))
-    (if_queued (nat_le (used s.calls + (length text + 1)) (let c = s.calls in c.limit)) (host.Value Undefined, with_call s.calls text callback) (host.Limit Queue, s.calls) (let c = s.calls in c.taken) refl refl)
+    ap (λ (q : ℕ × ℕ). (q.0, s.undelivered, (let t = s.dom in t.limit), q.1))
+    (if_queued (nat_le (used s.calls + (length text + 1)) (let c = s.calls in c.limit)) (host.Value Undefined, with_call s.calls text callback) (host.Limit Queue, s.calls) ((let c = s.calls in c.taken), (let c = s.calls in c.limit)) refl refl)
 judged_keeps w s callback (Err fault) = refl
 
 call_with_keeps : (w : World) (s : Browser) (name : Option Span) (array : Bool) (callback : Option (Option ℕ)) (args : Value) → kept (call_with w s name array callback args) ≡ count s
@@ -254,7 +268,7 @@ random_keeps w s (Object n) = refl
 
 called_keeps : (w : World) (s : Browser) (o : Option HostCall) (this : Value) (args : List Value) → kept (called w s o this args) ≡ count s
 called_keeps w s None this args = refl
-called_keeps w s (Some (call.OnNode c)) this args = receiver_keeps (node_receiver s this) w s _ (λ n. refl)
+called_keeps w s (Some (call.OnNode c)) this args = receiver_keeps (node_receiver s this) w s _ (λ n. nodes_keep s (node_call w s.dom c n args) (call_limit w s.dom c n args))
 called_keeps w s (Some call.AddEventListener) this args =
     receiver_keeps (node_receiver s this) w s (λ n. listener_added w s n (argument args 0) (argument args 1) (argument args 2)) (λ n. listener_added_keeps w s n (argument args 0) (argument args 1) (argument args 2))
 called_keeps w s (Some call.RemoveEventListener) this args =
@@ -271,7 +285,12 @@ answers_same s w (Writes object name v) = owned_write_keeps w s (owner_of s obje
 answers_same s w (Calls which this args) = called_keeps w s (option_and_then host_call_of (builtin_of which)) this args
 
 pub answers_keep : (s : Browser) (w : World) (r : Request) → (let a = answers s w r in let t = a.2 in let c = t.calls in c.taken) ≡ (let c = s.calls in c.taken)
-answers_keep s w r = ap (λ (k : ℕ × List WaitingReply). k.0) (answers_same s w r)
+answers_keep s w r = ap (λ (k : Counts). k.0) (answers_same s w r)
 
 pub replies_stay : (s : Browser) (w : World) (r : Request) → (let a = answers s w r in let t = a.2 in t.undelivered) ≡ s.undelivered
-replies_stay s w r = ap (λ (k : ℕ × List WaitingReply). k.1) (answers_same s w r)
+replies_stay s w r = ap (λ (k : Counts). k.1) (answers_same s w r)
+
+pub limits_stay : (s : Browser) (w : World) (r : Request)
+    → ((let a = answers s w r in let t = a.2 in let d = t.dom in d.limit) ≡ (let d = s.dom in d.limit))
+    × ((let a = answers s w r in let t = a.2 in let c = t.calls in c.limit) ≡ (let c = s.calls in c.limit))
+limits_stay s w r = (ap (λ (k : Counts). k.2) (answers_same s w r), ap (λ (k : Counts). k.3) (answers_same s w r))

@@ -1,0 +1,3 @@
+pub mod KeepsAnswers
+pub mod KeepsRuns
+pub mod TreeLimits
