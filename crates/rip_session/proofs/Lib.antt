@@ -1,3 +1,4 @@
 pub mod LimitLemmas
 pub mod OpeningLemmas
 pub mod SessionLemmas
+pub mod Staying

@@ -1,5 +1,5 @@
--- The heap of a session has the limits of the manifest as it is opened, and keeps them.
-use Rattle.std.proofs.Common.{◌≡◌, ℕ, ℤ, ◌≤◌, Bool, true, false, List, [], ◌∷◌, length, Option, None, Some, refl, sym, ap, ◌∙◌, subst}
+-- A session has the limits of the manifest as it is opened, and its heap keeps them.
+use Rattle.std.proofs.Common.{◌≡◌, ℕ, ℤ, ◌≤◌, Bool, true, false, List, [], ◌∷◌, length, Option, None, Some, refl, sym, ap, ◌∙◌, subst, arith}
 use Rattle.std.specs.Prelude.{◌+◌, nat_le, nat_lt, is_some, if◌then◌else◌}
 use Rattle.rip_values.specs.FixedTexts.{fixed_span}
 use Rattle.rip_values.specs.Pool.{Texts, with_text}
@@ -13,13 +13,24 @@ use Rattle.rip_app.specs.App.{Loaded}
 use Rattle.rip_heap.specs.Growth.{Grows}
 use Rattle.rip_heap.specs.World.{World, empty_world}
 use Rattle.rip_dom.specs.Opening.{Opening, attribute_step, attributes_in, count_of_nodes, count_of_units, node_step, nodes_in, no_tree, with_name}
-use Rattle.rip_dom.proofs.OpeningLemmas.{bare_step}
+use Rattle.rip_dom.proofs.OpeningLemmas.{bare_step, node-counts}
+use Rattle.rip_calls.specs.Calls.{used}
+use Rattle.rip_host.specs.Replies.{most_replies}
+use Rattle.rip_runs.specs.Evaluation.{Evaluation}
+use Rattle.rip_runner.specs.Going.{depth_in}
+use Rattle.rip_machine.specs.Law.{Standing}
+use Rattle.rip_replica.specs.declared.replica.Place.TheVariants.{First}
+use Rattle.rip_replica.specs.declared.replica.Replica.{Replica}
+use Rattle.rip_replica.specs.Numbers.{open_at, open_of}
+use Rattle.rip_work.specs.declared.items.PageItems.{PageItems}
+use Rattle.rip_work.specs.Tasks.{Task}
+use Rattle.rip_session.specs.Application.{IsPageWithin}
 use Rattle.rip_host.specs.declared.browser.Browser.{Browser}
 use Rattle.rip_machine.specs.Loading.{cost_of_literals, world_loaded}
 use Rattle.rip_visit.specs.declared.opening.Start.TheVariants.{Passes, Loads}
 use Rattle.rip_session.specs.declared.opening.Opened.{Opened}
-use Rattle.rip_session.specs.Limits.{HasLimits, PassesNoLimit}
-use Rattle.rip_session.specs.Opening.{browser_of, by_scope, document_of, heap_limits, idle_machine, loaded_machine, opened_of, texts_of, with_page, with_scope, without_page}
+use Rattle.rip_session.specs.Limits.{HasLimits, HasPageLimits, PassesNoLimit}
+use Rattle.rip_session.specs.Opening.{browser_of, by_scope, document_of, heap_limits, idle_machine, loaded_machine, opened_of, texts_of, top_scope, with_page, with_scope, without_page}
 
 -- TEXTS
 
@@ -89,6 +100,76 @@ by-scope-limits : (app : Loaded) (seed : ℕ) (time : ℤ) (b : Bool) (n : ℕ) 
     → HasLimits app.manifest.limits (by_scope app (if◌then◌else◌ {A = Option (ℕ × World)} b (Some (n, x)) None) seed time).heap
 by-scope-limits app seed time true n x h = scope-limits app x seed time h
 by-scope-limits app seed time false n x h = no-page-limits app Cells (empty_world (heap_limits app.manifest.limits)) seed time (record { cells = refl; units = refl; text = refl })
+
+-- PAGES
+
+nodes-limit : (s : Opening) (xs : List PageNode) → (let o = nodes_in s xs in let t = o.tree in t.limit) ≡ (let t = s.tree in t.limit)
+nodes-limit s [] = refl
+nodes-limit s (x ∷ xs) = nodes-limit (node_step s x) xs ∙ (let c = node-counts s x in c.limit)
+
+-- a session that is opened has these limits of its page and of its runs
+record OpensWithin (limits : Limits) (o : Opened) : Type 0 where
+  page : HasPageLimits limits o.browser
+  depth : (let m = o.machine in m.depth) ≡ limits.depth
+
+opens-either : (limits : Limits) (b : Bool) (x y : Opened) → OpensWithin limits x → OpensWithin limits y → OpensWithin limits (if b then x else y)
+opens-either limits true x y f g = f
+opens-either limits false x y f g = g
+
+document-limits : (limits : Limits) (w : World) (nodes : List PageNode) (seed : ℕ) (time : ℤ) → HasPageLimits limits (browser_of (document_of nodes limits w.pool) nodes limits seed time)
+document-limits limits w nodes seed time = record { nodes = nodes-limit (record { pool = w.pool; tree = no_tree limits.nodes }) nodes; queue = refl }
+
+page-opens : (app : Loaded) (w : World) (s : Browser) → HasPageLimits app.manifest.limits s → OpensWithin app.manifest.limits (with_page app w s)
+page-opens app w s h =
+    opens-either app.manifest.limits (nat_le (w.pool.used + cost_of_literals app.program) w.pool.limit)
+    (record { heap = world_loaded app.program w; machine = loaded_machine app w; browser = s; start = Loads (length app.program.grove.roots) })
+    (record { heap = w; machine = idle_machine app.manifest.limits.depth; browser = s; start = Passes Units })
+    (record { page = h; depth = refl }) (record { page = h; depth = refl })
+
+no-page-opens : (app : Loaded) (limit : Limit) (w : World) (seed : ℕ) (time : ℤ) → OpensWithin app.manifest.limits (without_page app limit w seed time)
+no-page-opens app limit w seed time = record { page = record { nodes = refl; queue = refl }; depth = refl }
+
+scope-opens : (app : Loaded) (w : World) (seed : ℕ) (time : ℤ) → OpensWithin app.manifest.limits (with_scope app w seed time)
+scope-opens app w seed time =
+    let d : Opening = document_of app.page.nodes app.manifest.limits w.pool in
+    let browser : Browser = browser_of d app.page.nodes app.manifest.limits seed time in
+    let paged : Opened = with_page app (record w { pool = texts_of d }) browser in
+    let fewer : Opened = if nat_lt w.pool.limit (w.pool.used + count_of_units app.page.nodes) then without_page app Units w seed time else paged in
+    opens-either app.manifest.limits (nat_lt app.manifest.limits.nodes (count_of_nodes app.page.nodes)) (without_page app Nodes w seed time) fewer
+    (no-page-opens app Nodes w seed time)
+    (opens-either app.manifest.limits (nat_lt w.pool.limit (w.pool.used + count_of_units app.page.nodes)) (without_page app Units w seed time) paged
+    (no-page-opens app Units w seed time)
+    (page-opens app (record w { pool = texts_of d }) browser (document-limits app.manifest.limits w app.page.nodes seed time)))
+
+scope-by-opens : (app : Loaded) (seed : ℕ) (time : ℤ) (o : Option (ℕ × World)) → OpensWithin app.manifest.limits (by_scope app o seed time)
+scope-by-opens app seed time None = no-page-opens app Cells (empty_world (heap_limits app.manifest.limits)) seed time
+scope-by-opens app seed time (Some scope) = scope-opens app scope.1 seed time
+
+pub opened-page : (app : Loaded) (seed : ℕ) (time : ℤ) → HasPageLimits app.manifest.limits (let o = opened_of app seed time in o.browser)
+opened-page app seed time = (let opens = scope-by-opens app seed time (top_scope app) in opens.page)
+
+pub opened-depth : (app : Loaded) (seed : ℕ) (time : ℤ) → (let o = opened_of app seed time in let m = o.machine in m.depth) ≡ app.manifest.limits.depth
+opened-depth app seed time = (let opens = scope-by-opens app seed time (top_scope app) in opens.depth)
+
+-- one that passes no limit of its own passes none of these
+pub page-within : (limits : Limits) (e : Evaluation Standing Browser) (r : Replica Standing PageItems Task Browser) → HasPageLimits limits r.host
+    → (let t = (let s = r.host in s.dom) in t.used ≤ t.limit) → (let c = (let s = r.host in s.calls) in used c ≤ c.limit) → length (let s = r.host in s.undelivered) ≤ most_replies
+    → open_of e r ≤ limits.depth → IsPageWithin limits e r
+page-within limits e r h nodes waiting replies depth = record {
+  has = h;
+  within = record {
+    nodes = subst (λ n. (let t = (let s = r.host in s.dom) in t.used) ≤ n) h.nodes nodes;
+    waiting = subst (λ n. used (let s = r.host in s.calls) ≤ n) h.queue waiting;
+    replies = replies;
+    depth = depth;
+  };
+}
+
+-- before the first unit of a batch nothing is open
+pub first-open : (e : Evaluation Standing Browser) (r : Replica Standing PageItems Task Browser) (most : ℕ) → r.place ≡ First → open_of e r ≤ most
+first-open e r most is =
+    let none : open_at First (depth_in e (let n = r.runner in n.evaluator) (let n = r.runner in n.phase)) ≤ most = omega arith in
+    subst (λ p. open_at p (depth_in e (let n = r.runner in n.evaluator) (let n = r.runner in n.phase)) ≤ most) (sym is) none
 
 -- as it is opened
 pub opened-limits : (app : Loaded) (seed : ℕ) (time : ℤ) → HasLimits app.manifest.limits (opened_of app seed time).heap

@@ -1,12 +1,14 @@
 -- What the sessions of an application do.
-use Rattle.std.specs.Prelude.{ℕ}
+use Rattle.std.specs.Prelude.{◌≡◌, ℕ, false}
+use Rattle.rip_values.specs.declared.limits.Limits.{Limits}
 use Rattle.rip_app.specs.App.{Loaded}
 use Rattle.rip_course.specs.Parts.{Meaning}
-use Rattle.rip_course.specs.Stages.{Stage}
+use Rattle.rip_course.specs.Stages.{Stage, is_ended}
 use Rattle.rip_runs.specs.Evaluation.{Evaluation}
 use Rattle.rip_machine.specs.Law.{Standing}
 use Rattle.rip_machine.specs.Plans.{evaluation}
 use Rattle.rip_replica.specs.declared.replica.Replica.{Replica}
+use Rattle.rip_replica.specs.Numbers.{open_of}
 use Rattle.rip_replica.specs.Parts.{Doing, meaning_of}
 use Rattle.rip_host.specs.Answers.{answers}
 use Rattle.rip_host.specs.declared.browser.Browser.{Browser}
@@ -16,7 +18,7 @@ use Rattle.rip_work.specs.Endings.{ending_of}
 use Rattle.rip_work.specs.Plans.{left_of_work, work_plan}
 use Rattle.rip_work.specs.Serving.{may_serve, moment_of, served}
 use Rattle.rip_work.specs.Tasks.{Task, opens, fact_of, tasks_of}
-use Rattle.rip_session.specs.Limits.{HasLimits, PassesNoLimit}
+use Rattle.rip_session.specs.Limits.{HasLimits, HasPageLimits, PassesNoLimit, PassesNoPageLimit}
 use Rattle.rip_session.specs.Opening.{opened_of}
 
 -- what runs of its program mean over a browser
@@ -42,8 +44,15 @@ doing_of app seed time = record {
 abbrev pub meaning_of_app : Loaded → Meaning
 meaning_of_app app = meaning_of (doing_of app)
 
--- a session of it stands at a stage; its heap has the limits of the manifest, and passes none of them
+-- the page of a session, and the runs that are open in it, have these limits and pass none of them
+pub record IsPageWithin (limits : Limits) (e : Evaluation Standing Browser) (r : Replica Standing PageItems Task Browser) : Type 0 where
+  pub has : HasPageLimits limits r.host
+  pub within : PassesNoPageLimit limits (open_of e r) r.host
+
+-- a session of it stands at a stage; its heap has the limits of the manifest, and passes none of them; nor do its page and its
+-- runs, while it lives
 pub record StandsAt (app : Loaded) (r : Replica Standing PageItems Task Browser) (st : Stage) : Type 0 where
   pub stage : IsAtStage (runs_of app) (doing_of app) (λ items. work_plan items.batches.batch) left_of_work may_serve r st
   pub limits : HasLimits app.manifest.limits r.heap
   pub within : PassesNoLimit app.manifest.limits r.heap
+  pub page : is_ended (meaning_of_app app) st ≡ false → IsPageWithin app.manifest.limits (runs_of app) r

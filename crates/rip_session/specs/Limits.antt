@@ -1,7 +1,10 @@
--- What the heap of a session may use, and that it uses no more.
-use Rattle.std.specs.Prelude.{◌≡◌, ◌≤◌}
+-- What the heap and the page of a session may use, and that they use no more.
+use Rattle.std.specs.Prelude.{◌≡◌, ◌≤◌, ℕ, length}
 use Rattle.rip_values.specs.declared.limits.Limits.{Limits}
+use Rattle.rip_calls.specs.Calls.{used}
 use Rattle.rip_heap.specs.World.{World}
+use Rattle.rip_host.specs.declared.browser.Browser.{Browser}
+use Rattle.rip_host.specs.Replies.{most_replies}
 use Rattle.rip_session.specs.Opening.{longest_text}
 
 -- the limits of the heap are these: of cells, of units, and of the units of one text
@@ -14,3 +17,16 @@ pub record HasLimits (limits : Limits) (w : World) : Type 0 where
 pub record PassesNoLimit (limits : Limits) (w : World) : Type 0 where
   pub cells : w.cells ≤ limits.cells
   pub units : w.pool.used ≤ limits.units
+
+-- the limits of the page are these: of the nodes and attributes of its document, and of the bytes of the calls that wait
+pub record HasPageLimits (limits : Limits) (s : Browser) : Type 0 where
+  pub nodes : s.dom.limit ≡ limits.nodes
+  pub queue : s.calls.limit ≡ limits.queue
+
+-- no more nodes and attributes were ever made, no more bytes of calls and no more replies wait, and of the depth, of which so
+-- much is open, no more is
+pub record PassesNoPageLimit (limits : Limits) (nesting : ℕ) (s : Browser) : Type 0 where
+  pub nodes : s.dom.used ≤ limits.nodes
+  pub waiting : used s.calls ≤ limits.queue
+  pub replies : length s.undelivered ≤ most_replies
+  pub depth : nesting ≤ limits.depth

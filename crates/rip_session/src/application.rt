@@ -1,5 +1,7 @@
-ghost use Rattle.std.specs.Prelude.{◌≡◌, ◌≤◌};
+ghost use Rattle.std.specs.Prelude.{◌≡◌, ◌≤◌, length};
 ghost use Rattle.std.proofs.Props.{props};
+ghost use Rattle.rip_calls.specs.Calls.{used};
+ghost use Rattle.rip_host.specs.Replies.{most_replies};
 ghost use Rattle.rip_session.specs.Kept.{GoesWith};
 
 use crate::opening::{Opened, open};
@@ -62,6 +64,7 @@ impl<'a> Sessions for Application<'a> {
             start,
         } = open(alloc, self.app, seed, moment_of(time))?;
         is_within(&heap);
+        is_page_within(&browser);
         let limits = self.app.limits();
         let items = PageItems::make(alloc, limits.nodes)?;
         let opening = Work::opens(start);
@@ -98,6 +101,7 @@ impl<'a> Sessions for Application<'a> {
             made,
         );
         is_within(&session.replica.heap);
+        is_page_within(&session.replica.host);
         progress
     }
 }
@@ -109,4 +113,15 @@ fn is_within(heap: &Heap)
 {
     let _ = heap.free_cells();
     let _ = heap.pool().free();
+}
+
+/// No work, and what holds of each page: it passes no limit of its own.
+fn is_page_within(page: &Browser)
+    ensures nodes { page.now.dom.used ≤ page.now.dom.limit }
+    ensures waiting { used page.now.calls ≤ page.now.calls.limit }
+    ensures replies { length page.now.undelivered ≤ most_replies }
+{
+    let _ = page.dom.used();
+    let _ = page.calls.used();
+    let _ = page.undelivered.count();
 }

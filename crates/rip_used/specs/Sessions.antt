@@ -11,7 +11,7 @@ use Rattle.rip_roll.specs.declared.seat.Seat.TheVariants.{Live}
 use Rattle.rip_turn.specs.declared.server.Server.{Server}
 use Rattle.rip_turn.specs.Standing.{IsServer}
 use Rattle.rip_session.specs.declared.application.Session.{Session}
-use Rattle.rip_session.specs.Application.{StandsAt, meaning_of_app}
+use Rattle.rip_session.specs.Application.{IsPageWithin, StandsAt, meaning_of_app, runs_of}
 use Rattle.rip_session.specs.Limits.{PassesNoLimit}
 use Rattle.rip_used.specs.declared.counts.Used.{Used}
 
@@ -20,10 +20,17 @@ pub record IsAllowed (limits : Limits) (u : Used) : Type 0 where
   pub cells : u.cells ≤ limits.cells
   pub units : u.units ≤ limits.units
 
--- in each server of an application, of whose sessions so many may live, that stands as the machine of turns does, the heap of
--- each session that lives passes no limit of the manifest
+-- the nodes and attributes, the depth and the bytes that wait are too
+pub record IsPageAllowed (limits : Limits) (u : Used) : Type 0 where
+  pub nodes : u.nodes ≤ limits.nodes
+  pub depth : u.depth ≤ limits.depth
+  pub waiting : u.waiting ≤ limits.queue
+
+-- in each server of an application, of whose sessions so many may live, that stands as the machine of turns does, the heap, the
+-- page and the runs of each session that lives pass no limit of the manifest
 abbrev pub SessionsStayWithin : Type 0
 SessionsStayWithin = (app : Loaded) (live : ℕ) (server : Server Session) (state : State)
     → IsServer (λ (session : Session) (st : Stage). StandsAt app session.replica st) (meaning_of_app app) live server state
     → (n : ℕ) (held : Held Session) → get_at n (seats server.roll) ≡ Some (Live held)
     → PassesNoLimit app.manifest.limits held.value.session.replica.heap
+    × IsPageWithin app.manifest.limits (runs_of app) held.value.session.replica

@@ -1,9 +1,10 @@
-//! How much of its limits a session has taken: no count passes its limit, and no heap passes a limit of the manifest.
+//! How much of its limits a session has taken: no count passes its limit, and neither a heap nor a page or a run of a session
+//! that lives passes a limit of the manifest.
 //!
 //! | what | its definition in `specs/` |
 //! |---|---|
 //! | [`used_by`] | `Within.used_in`, within `Within.IsWithin` |
-//! | [`used_by_session`] | the same, and within `Sessions.IsAllowed` |
+//! | [`used_by_session`] | the same, and within `Sessions.IsAllowed`, and while it lives within `Sessions.IsPageAllowed` |
 //!
 //! | law | its definition |
 //! |---|---|

@@ -19,7 +19,9 @@ returns c =
     let is : c.in_ok-heap.field-0 ≡ opened_of c.args.self.now.app.now c.args.seed (moment_of c.args.time) =
     c.in_ok-heap.ensures.opened ∙ ap (opened_of c.args.self.now.app.now c.args.seed) c.moment_of.ensures in
     begin_stands c.args.self.now.app.now c.args.seed (moment_of c.args.time) c.in_ok-heap.field-0 (begun c.args.seed c.args.time) c.in_ok-open.field-0 is
-    c.in_ok-open.ensures.world.0 c.is_within.ensures.cells c.is_within.ensures.units
+    c.in_ok-open.ensures.world.0 c.in_ok-open.ensures.world.1 c.in_ok-open.ensures.place
+    (record { nodes = c.is_page_within.ensures.nodes; waiting = c.is_page_within.ensures.waiting; replies = c.is_page_within.ensures.replies })
+    c.is_within.ensures.cells c.is_within.ensures.units
     (c.in_ok-open.ensures.begun c.args.self.now.app.now.program (doing_of c.args.self.now.app.now) c.args.seed c.args.time (done_by c.args.self.now.app.now)
     (ap (λ m. (runs_of c.args.self.now.app.now).run m) (sym (ap (λ (o : Opened). o.machine) is)))
     (sym (ap (λ l. l.fuel) c.limits-limits.ensures.value))
