@@ -8,6 +8,7 @@
 //! | [`Manifest`] | contracts see `Manifest.Contents`: the functions and the limits |
 //! | [`read_manifest`] | `Manifest.ManifestOf`: which bytes are a manifest, and what it says |
 //! | why they are none ([`ManifestKind`], [`ManifestRefusal`]) | `Manifest.IsRefused`, a line for each, in order |
+//! | [`ManifestKind`] as it is printed | `Printed.kind_text` |
 //! | the functions ([`Functions`]): each has a name, one of six operations, and a prefix | `Functions.AreFunctions`, by `Functions.Declares` and the table `Functions.word_of` |
 //! | the limits | `Limits.AreLimits`, by the tables `Limits.default` and `Limits.greatest`; `Limits.memory_of` |
 //! | [`exactly_one`]: any bytes have one answer | `Laws.HasAnAnswer`, `Laws.HasOneAnswer` |

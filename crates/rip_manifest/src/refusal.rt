@@ -2,27 +2,42 @@ ghost use Rattle.std.specs.Prelude.{◌≡◌};
 
 use rip_values::NoMemory;
 use std::alloc::{AllocError, AllocFailed};
+use std::{error, fmt};
 use thiserror::Error;
 
 /// Why bytes are no manifest, in the order of the judgement: the first that holds is answered.
-#[derive(Clone, Copy, Debug, PartialEq, Eq, Error)]
+#[derive(Clone, Copy, Debug, PartialEq, Eq)]
 pub enum ManifestKind {
     /// The bytes are no JSON text.
-    #[error("Syntax")]
     Syntax,
     /// The value is no object with exactly the members `version`, `functions` and `limits`.
-    #[error("Member")]
     Member,
     /// The version is not 1.
-    #[error("Version")]
     Version,
     /// The functions are no object of at most 256 members `NAME:[OP,PREFIX]`.
-    #[error("Function")]
     Function,
     /// The limits are no object of named limits, each a whole number from 1 to its greatest.
-    #[error("LimitRange")]
     LimitRange,
 }
+
+impl fmt::Display for ManifestKind {
+    ghost use Rattle.std.specs.Prelude.{Some};
+    ghost use Rattle.rip_manifest.specs.Printed.{kind_text};
+
+    ghost output = { λ kind. Some (kind_text kind) };
+
+    fn fmt<W: fmt::Write>(&self, f: &mut fmt::Formatter<W>) -> fmt::Result {
+        f.write_str(match self {
+            ManifestKind::Syntax => "Syntax",
+            ManifestKind::Member => "Member",
+            ManifestKind::Version => "Version",
+            ManifestKind::Function => "Function",
+            ManifestKind::LimitRange => "LimitRange",
+        })
+    }
+}
+
+impl error::Error for ManifestKind {}
 
 /// Why no manifest was read.
 #[derive(Clone, Copy, Debug, PartialEq, Eq, Error)]

@@ -8,6 +8,7 @@ pub mod NumberScan
 pub mod Numbers
 pub mod Page
 pub mod Pool
+pub mod Printed
 pub mod Text
 pub mod Values
 pub mod Whole

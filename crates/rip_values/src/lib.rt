@@ -21,6 +21,7 @@
 //! | [`Report`], [`EventKind`], [`BadReport`] | contracts see their variants and fields |
 //! | [`Writer`] | contracts see the bytes so far; numerals are std's `decimal` and `signed_decimal` |
 //! | [`Page`] | contracts see `Page.Contents`: the nodes, and which hold the scripts |
+//! | [`PageKind`] as it is printed | `Printed.kind_text` |
 //!
 //! A layer above may rest on this: a span stands for the same text for ever (`Pool.KeepsTexts`), charged texts take no
 //! memory, and what takes no allocator cannot fail for want of memory.

@@ -2,8 +2,9 @@ ghost use Rattle.std.specs.Prelude.{◌≡◌, ◌≤◌, ◌<◌, length, slice
 ghost use Rattle.rip_values.specs.Page.{IsPage, script_at};
 
 use crate::list::{List, Units};
+use std::error::Error;
+use std::fmt;
 use std::marker::Model;
-use thiserror::Error;
 
 /// What a node of a page is (DOM Level 2 Core 1.2).
 #[derive(Clone, Copy, Debug, PartialEq, Eq)]
@@ -39,35 +40,49 @@ pub struct PageNode {
 }
 
 /// Why bytes are no page, in the order in which the kinds at one place count.
-#[derive(Clone, Copy, Debug, PartialEq, Eq, Error)]
+#[derive(Clone, Copy, Debug, PartialEq, Eq)]
 pub enum PageKind {
-    #[error("NotUtf8")]
     NotUtf8,
-    #[error("MissingPart")]
     MissingPart,
-    #[error("BadTag")]
     BadTag,
-    #[error("BadAttribute")]
     BadAttribute,
-    #[error("DoubleAttribute")]
     DoubleAttribute,
-    #[error("BadReference")]
     BadReference,
-    #[error("OpenComment")]
     OpenComment,
-    #[error("Misnested")]
     Misnested,
-    #[error("TextOutside")]
     TextOutside,
-    #[error("ScriptNotLast")]
     ScriptNotLast,
-    #[error("ExternalScript")]
     ExternalScript,
-    #[error("NotInSubset")]
     NotInSubset,
-    #[error("TooNested")]
     TooNested,
 }
+
+impl fmt::Display for PageKind {
+    ghost use Rattle.std.specs.Prelude.{Some};
+    ghost use Rattle.rip_values.specs.Printed.{kind_text};
+
+    ghost output = { λ kind. Some (kind_text kind) };
+
+    fn fmt<W: fmt::Write>(&self, f: &mut fmt::Formatter<W>) -> fmt::Result {
+        f.write_str(match self {
+            PageKind::NotUtf8 => "NotUtf8",
+            PageKind::MissingPart => "MissingPart",
+            PageKind::BadTag => "BadTag",
+            PageKind::BadAttribute => "BadAttribute",
+            PageKind::DoubleAttribute => "DoubleAttribute",
+            PageKind::BadReference => "BadReference",
+            PageKind::OpenComment => "OpenComment",
+            PageKind::Misnested => "Misnested",
+            PageKind::TextOutside => "TextOutside",
+            PageKind::ScriptNotLast => "ScriptNotLast",
+            PageKind::ExternalScript => "ExternalScript",
+            PageKind::NotInSubset => "NotInSubset",
+            PageKind::TooNested => "TooNested",
+        })
+    }
+}
+
+impl Error for PageKind {}
 
 /// A page: its nodes in document order, and which of them hold the texts of its scripts.
 #[derive(Debug, Drop)]
