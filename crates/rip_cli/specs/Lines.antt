@@ -1,15 +1,10 @@
 -- The lines of a run that puts one.
 use Rattle.std.specs.Prelude.{◌++◌, ℕ, List, codes, decimal, Option, Some, None}
-use Rattle.rip_values.specs.declared.page.PageKind.{PageKind}
-use Rattle.rip_values.specs.declared.page.PageKind.TheVariants as page
-use Rattle.rip_lexer.specs.declared.refusal.LexKind.{LexKind}
-use Rattle.rip_lexer.specs.declared.refusal.LexKind.TheVariants as lex
-use Rattle.rip_parser.specs.declared.refusal.ParseKind.{ParseKind}
-use Rattle.rip_parser.specs.declared.refusal.ParseKind.TheVariants as parse
-use Rattle.rip_early.specs.declared.refusal.EarlyKind.{EarlyKind}
-use Rattle.rip_early.specs.declared.refusal.EarlyKind.TheVariants as early
-use Rattle.rip_manifest.specs.declared.refusal.ManifestKind.{ManifestKind}
-use Rattle.rip_manifest.specs.declared.refusal.ManifestKind.TheVariants as manifest
+use Rattle.rip_values.specs.Printed.{kind_text as page_word}
+use Rattle.rip_lexer.specs.Printed.{kind_text as lex_word}
+use Rattle.rip_parser.specs.Printed.{kind_text as parse_word}
+use Rattle.rip_early.specs.Printed.{kind_text as early_word}
+use Rattle.rip_manifest.specs.Printed.{kind_text as manifest_word}
 use Rattle.rip_app.specs.declared.refusal.AppRefusal.{AppRefusal}
 use Rattle.rip_app.specs.declared.refusal.AppRefusal.TheVariants.{Page, Lex, Parse, Early, Manifest, LimitsTooLarge, Memory}
 
@@ -41,55 +36,6 @@ trace_line line = codes "refused trace " ++ decimal line ++ codes "\n"
 -- the line for gestures: the first line that is none, or whose gesture is not legal at its place, counted from 1
 abbrev pub gestures_line : ℕ → List ℕ
 gestures_line line = codes "refused gestures " ++ decimal line ++ codes "\n"
-
--- the words for what is wrong with a page
-abbrev pub page_word : PageKind → List ℕ
-page_word page.NotUtf8 = codes "NotUtf8"
-page_word page.MissingPart = codes "MissingPart"
-page_word page.BadTag = codes "BadTag"
-page_word page.BadAttribute = codes "BadAttribute"
-page_word page.DoubleAttribute = codes "DoubleAttribute"
-page_word page.BadReference = codes "BadReference"
-page_word page.OpenComment = codes "OpenComment"
-page_word page.Misnested = codes "Misnested"
-page_word page.TextOutside = codes "TextOutside"
-page_word page.ScriptNotLast = codes "ScriptNotLast"
-page_word page.ExternalScript = codes "ExternalScript"
-page_word page.NotInSubset = codes "NotInSubset"
-page_word page.TooNested = codes "TooNested"
-
--- with a manifest
-abbrev pub manifest_word : ManifestKind → List ℕ
-manifest_word manifest.Syntax = codes "Syntax"
-manifest_word manifest.Member = codes "Member"
-manifest_word manifest.Version = codes "Version"
-manifest_word manifest.Function = codes "Function"
-manifest_word manifest.LimitRange = codes "LimitRange"
-
--- with tokens
-abbrev pub lex_word : LexKind → List ℕ
-lex_word lex.BadCharacter = codes "BadCharacter"
-lex_word lex.OpenText = codes "OpenText"
-lex_word lex.OpenComment = codes "OpenComment"
-lex_word lex.FractionLiteral = codes "FractionLiteral"
-lex_word lex.OctalLiteral = codes "OctalLiteral"
-lex_word lex.LiteralTooLarge = codes "LiteralTooLarge"
-lex_word lex.BadEscape = codes "BadEscape"
-
--- with a tree
-abbrev pub parse_word : ParseKind → List ℕ
-parse_word parse.Unexpected = codes "Unexpected"
-parse_word parse.TooNested = codes "TooNested"
-
--- and with the use of names and jumps
-abbrev pub early_word : EarlyKind → List ℕ
-early_word early.NotStrict = codes "NotStrict"
-early_word early.Duplicate = codes "Duplicate"
-early_word early.BadBinding = codes "BadBinding"
-early_word early.BadDelete = codes "BadDelete"
-early_word early.UnknownGlobal = codes "UnknownGlobal"
-early_word early.NoGlobalObject = codes "NoGlobalObject"
-early_word early.BadJump = codes "BadJump"
 
 -- the line for a page and a manifest that are no application; none for want of memory
 abbrev pub app_line : AppRefusal → Option (List ℕ)

@@ -1,15 +1,10 @@
-ghost use Rattle.std.specs.Prelude.{◌≡◌, IfOk, Some};
+ghost use Rattle.std.specs.Prelude.{◌≡◌, IfOk, Some, string_bytes};
 ghost use Rattle.rip_cli.specs.Lines.{app_line};
 ghost use Rattle.rip_cli.specs.Steps.{refusal_line};
 
 use crate::input::InputFile;
-use crate::lines::{
-    early_word, gestures_line, lex_word, manifest_line, manifest_word, page_line, page_word,
-    parse_word, script_line, too_long_line, trace_line,
-};
 use rip_app::AppRefusal;
-use rip_values::{Bytes, NoMemory};
-use std::alloc::Global;
+use std::alloc::{AllocError, Global};
 
 /// Why input is refused.
 #[derive(Clone, Copy, Debug, PartialEq, Eq)]
@@ -27,43 +22,43 @@ pub enum Refusal {
 }
 
 /// The line for a page and a manifest that are no application; want of memory has none.
-fn app_line(alloc: Global, cause: AppRefusal) -> Result<Bytes, NoMemory>
-    ensures { IfOk result (λ line. app_line cause ≡ Some line) }
+fn app_line(alloc: Global, cause: AppRefusal) -> Result<String, AllocError>
+    ensures { IfOk result (λ line. app_line cause ≡ Some (string_bytes line)) }
 {
     match cause {
-        AppRefusal::Page { place, kind } => page_line(alloc, page_word(kind), place),
+        AppRefusal::Page { place, kind } => format!(in alloc; "refused page {kind} {place}\n"),
         AppRefusal::Lex {
             script,
             place,
             kind,
-        } => script_line(alloc, script, lex_word(kind), place),
+        } => format!(in alloc; "refused script {script} {kind} {place}\n"),
         AppRefusal::Parse {
             script,
             place,
             kind,
-        } => script_line(alloc, script, parse_word(kind), place),
+        } => format!(in alloc; "refused script {script} {kind} {place}\n"),
         AppRefusal::Early {
             script,
             place,
             kind,
-        } => script_line(alloc, script, early_word(kind), place),
-        AppRefusal::Manifest(kind) => manifest_line(alloc, manifest_word(kind)),
-        AppRefusal::LimitsTooLarge => manifest_line(alloc, b"LimitsTooLarge"),
-        AppRefusal::Memory => Err(NoMemory),
+        } => format!(in alloc; "refused script {script} {kind} {place}\n"),
+        AppRefusal::Manifest(kind) => format!(in alloc; "refused app {kind}\n"),
+        AppRefusal::LimitsTooLarge => String::from_str(alloc, "refused app LimitsTooLarge\n"),
+        AppRefusal::Memory => Err(AllocError),
     }
 }
 
 impl Refusal {
     /// The line that says so; want of memory has none.
-    pub fn line(self, alloc: Global) -> Result<Bytes, NoMemory>
-        ensures { IfOk result (λ line. refusal_line self ≡ Some line) }
+    pub fn line(self, alloc: Global) -> Result<String, AllocError>
+        ensures { IfOk result (λ line. refusal_line self ≡ Some (string_bytes line)) }
     {
         match self {
-            Refusal::TooLong(file) => too_long_line(alloc, file.word()),
+            Refusal::TooLong(file) => format!(in alloc; "refused {file} TooLong\n"),
             Refusal::Application(cause) => app_line(alloc, cause),
-            Refusal::Trace(line) => trace_line(alloc, line),
-            Refusal::Gestures(line) => gestures_line(alloc, line),
-            Refusal::Memory => Err(NoMemory),
+            Refusal::Trace(line) => format!(in alloc; "refused trace {line}\n"),
+            Refusal::Gestures(line) => format!(in alloc; "refused gestures {line}\n"),
+            Refusal::Memory => Err(AllocError),
         }
     }
 }

@@ -21,7 +21,7 @@ use Rattle.rip_data.specs.declared.datum.Datum.{Datum}
 use Rattle.rip_data.specs.declared.datum.DatumList.{DatumList, out-DatumList}
 use Rattle.rip_data.specs.declared.datum.DatumFields.{DatumFields, out-DatumFields}
 use Rattle.rip_data.specs.declared.datum.Datum as datum
-use Rattle.rip_data.specs.declared.datum.Datum.TheViews.{roll-DatumFields}
+use Rattle.rip_data.specs.declared.datum.Datum.TheViews.{roll-DatumFields, roll-DatumList}
 
 -- ---- texts
 
@@ -117,6 +117,10 @@ tree_of-array o = search (rules, datum.the_lemmas)
 
 out-roll : (v : Vec (List ℕ × Datum) Global) → out-DatumFields (roll-DatumFields (record { fields = v })) ≡ record { fields = v }
 out-roll v = search (rules, datum.the_lemmas)
+
+-- the tree of a list
+pub tree_of-List : (v : Vec Datum Global) → tree_of (datum.List (roll-DatumList (record { items = v }))) ≡ array (elements_of (map tree_of v.items))
+tree_of-List v = search (rules, datum.the_lemmas)
 
 -- the tree of fields
 pub tree_of-Fields : (v : Vec (List ℕ × Datum) Global) → tree_of (datum.Fields (roll-DatumFields (record { fields = v }))) ≡ object (fields_of (map (λ f. (f.0, tree_of f.1)) v.items))

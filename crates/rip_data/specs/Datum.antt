@@ -64,6 +64,10 @@ elements_step l = elements_of l.items.items
 abbrev pub tree_of : Datum → Tree
 tree_of = fold-Datum Tree Fields Elements tree_step fields_step elements_step
 
+-- a name and what its datum stands for
+abbrev pub field_of : List ℕ × Datum → List ℕ × Tree
+field_of f = (f.0, tree_of f.1)
+
 -- the trees of a list of data
 abbrev pub trees_in : DatumList → List Tree
 trees_in l = map tree_of (out-DatumList l).items.items

@@ -3,6 +3,7 @@
 //! | what | its definition in `specs/` |
 //! |---|---|
 //! | [`Datum`] | `Datum.tree_of`, what it stands for; `Datum.IsDatum`, when it is well made |
+//! | [`copy_datum`], [`copy_list`] | what stands for the same |
 //! | [`write_datum`] | `Datum.canonical_text`, the compact text of `serde_json` |
 //! | [`datum_size`] | the length of that text and `Datum.nesting`, with no memory |
 //! | [`read_datum`], [`read_long`] | `Reading.answer`, `Reading.answer_long`: the data or the refusal of any bytes |
@@ -15,6 +16,7 @@
 //! itself once for each level of nesting: at most 127 where it reads, and as deep as the datum that it is handed.
 #![tactic(auto)]
 
+mod copy;
 mod datum;
 mod error;
 mod laws;
@@ -23,6 +25,7 @@ mod read;
 mod size;
 mod write;
 
+pub use copy::{copy_datum, copy_list};
 pub use datum::{Datum, DatumFields, DatumList};
 pub use error::DataError;
 pub use laws::{text_is_injective, written_is_read, written_is_read_long};

@@ -1,10 +1,11 @@
-ghost use Rattle.std.specs.Prelude.{◌≡◌, ◌+◌, ◌≤◌, [], ◌∷◌, OnErr, OnOk, IfErr, IfOk, length, nat_lt, slice_index_or, true, false};
+ghost use Rattle.std.specs.Prelude.{◌≡◌, ◌+◌, ◌≤◌, OnErr, OnOk, IfErr, IfOk, length, nat_lt, true, false};
 ghost use Rattle.std.specs.List.{list_all};
 ghost use Rattle.rip_values.specs.Pool.{span_behind, text_at, with_text};
 ghost use Rattle.rip_dom.specs.Creation.{Creates, cost_of_name, element_made, element_refusal, is_element_name, is_letter, is_name_unit, kept_name, small_text, with_kept};
 
 use crate::dom::{Dom, NodeRecord};
 use crate::names::{is_small, small_unit};
+use crate::units::{end_of, push_unit, unit_at};
 use rip_values::{Limit, NodeKind, Pool, Refused, Span};
 use std::alloc::Global;
 
@@ -94,33 +95,6 @@ fn push_small(alloc: Global, pool: &mut Pool, name: Span) -> Span
     Span {
         start: end.start,
         count: held.count,
-    }
-}
-
-// The empty text behind all others.
-pub(crate) fn end_of(alloc: Global, pool: &mut Pool) -> Span
-    requires { pool.old.used ≤ pool.old.limit }
-    ensures span { result ≡ span_behind pool.old [] }
-    ensures added { pool.new ≡ with_text pool.old [] 0 }
-{
-    pool.add(alloc, &[]).unwrap()
-}
-
-// A unit behind all texts, where the limit is known to leave room.
-fn push_unit(alloc: Global, pool: &mut Pool, unit: u16)
-    requires { pool.old.used + 1 ≤ pool.old.limit }
-    ensures { pool.new ≡ with_text pool.old (unit ∷ []) 1 }
-{
-    pool.add(alloc, &[unit]).unwrap();
-}
-
-// The unit at this place of the text; past its end it is 0.
-fn unit_at(pool: &Pool, text: Span, place: u32) -> u16
-    ensures { result ≡ slice_index_or (text_at pool.now text) place 0 }
-{
-    match pool.get(text).get(place as usize) {
-        Some(unit) => *unit,
-        None => 0,
     }
 }
 

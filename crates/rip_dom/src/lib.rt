@@ -21,6 +21,7 @@
 //! | [`Dom::read_text`], [`Dom::has_text`] | `Reading.text_below`, answered as `Reading.Reads` says |
 //! | [`Dom::write_text`] | `Writing.written`, refused as `Writing.is_past` says |
 //! | [`Dom::insert_before`], [`Dom::replace`], [`Dom::remove`] | `Tree.inserted`, `Tree.replaced`, `Tree.taken_out` |
+//! | [`end_of`], [`push_unit`], [`unit_at`]: a text that is copied unit by unit behind all others | `with_text`, of the pool (`rip_values`) |
 //! | the codes of refusals and their order | `Tree.insert_code`, `Tree.replace_code`, `Tree.remove_code`; what bars a node, `Tree.is_barred` |
 //! | what a call answers of its step | `Answers.Makes`, `Answers.Moves` |
 //!
@@ -45,6 +46,7 @@ mod order;
 mod reading;
 #[cfg(test)]
 mod tests;
+mod units;
 mod walks;
 mod writing;
 
@@ -55,3 +57,4 @@ pub use laws::{numbers_are_new, puts_are_read, puts_leave_others};
 pub use names::{is_small, small_unit};
 pub use order::{Step, is_end};
 pub use reading::TextRefused;
+pub use units::{end_of, push_unit, unit_at};

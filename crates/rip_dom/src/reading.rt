@@ -5,10 +5,10 @@ ghost use Rattle.rip_dom.specs.Reading.{Reads, own_span, text_below};
 ghost use Rattle.rip_dom.specs.Tree.{node_at};
 ghost use Rattle.rip_dom.specs.Way.{span_at};
 
-use crate::creation::end_of;
 use crate::dom::Dom;
 use crate::kinds::is_text;
 use crate::order::{Step, is_end};
+use crate::units::end_of;
 use rip_values::{Limit, Pool, Refused, Span};
 use std::alloc::Global;
 

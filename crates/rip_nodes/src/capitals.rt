@@ -1,9 +1,10 @@
-ghost use Rattle.std.specs.Prelude.{◌≡◌, ◌+◌, ◌≤◌, [], ◌∷◌, length, slice_index_or};
+ghost use Rattle.std.specs.Prelude.{◌≡◌, ◌+◌, ◌≤◌, length};
 ghost use Rattle.rip_values.specs.Pool.{span_behind, text_at, with_text};
 ghost use Rattle.rip_nodes.specs.Answers.{AddsTexts, IsAnswered, new_text, with_new_text};
 ghost use Rattle.rip_nodes.specs.Names.{capital_text, capital_unit};
 
 use crate::answer::text_value;
+use rip_dom::{end_of, push_unit, unit_at};
 use rip_heap::{Heap, HostDone};
 use rip_values::{Fault, Limit, Pool, Span};
 use std::alloc::Global;
@@ -52,33 +53,6 @@ fn push_capitals(alloc: Global, pool: &mut Pool, name: Span) -> Span
     Span {
         start: end.start,
         count: held.count,
-    }
-}
-
-// The empty text behind all others.
-fn end_of(alloc: Global, pool: &mut Pool) -> Span
-    requires { pool.old.used ≤ pool.old.limit }
-    ensures span { result ≡ span_behind pool.old [] }
-    ensures added { pool.new ≡ with_text pool.old [] 0 }
-{
-    pool.add(alloc, &[]).unwrap()
-}
-
-// A unit behind all texts, where the limit is known to leave room.
-fn push_unit(alloc: Global, pool: &mut Pool, unit: u16)
-    requires { pool.old.used + 1 ≤ pool.old.limit }
-    ensures { pool.new ≡ with_text pool.old (unit ∷ []) 1 }
-{
-    pool.add(alloc, &[unit]).unwrap();
-}
-
-// The unit at this place of the text; past its end it is 0.
-fn unit_at(pool: &Pool, text: Span, place: u32) -> u16
-    ensures { result ≡ slice_index_or (text_at pool.now text) place 0 }
-{
-    match pool.get(text).get(place as usize) {
-        Some(unit) => *unit,
-        None => 0,
     }
 }
 

@@ -5,11 +5,12 @@
 //! has told is an optional meaning: the forms in memory tell it, the real ones don't, and a clause that speaks of it
 //! holds of both. [`MemoryFiles`], [`MemorySink`], [`MemoryDoor`], [`MemoryClock`] and [`MemoryWords`] are forms in
 //! memory; [`NoDoor`], [`NoClock`] and [`NoWords`] stand where a run asks nothing of the outside. A [`KnockList`] is
-//! what a door in memory is made of. [`lines`] gives the pieces of a text between line feeds.
+//! what a door in memory is made of, and [`answer_of`] tells one of its knocks. [`lines`] gives the pieces of a text between line feeds.
 #![tactic(auto)]
 
 mod connections;
 mod knock_list;
+mod knocks;
 mod listed;
 mod memory_connections;
 mod memory_door;
@@ -25,6 +26,7 @@ mod writing;
 
 pub use connections::{Door, Knock, Sent, TraceKnock};
 pub use knock_list::{KnockError, KnockList, MAX_PIECE};
+pub use knocks::{answer_of, copy_of_knocks};
 pub use memory_door::MemoryDoor;
 pub use memory_files::MemoryFiles;
 pub use memory_moments::{MemoryClock, MemoryWords};

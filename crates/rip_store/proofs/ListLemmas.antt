@@ -1,5 +1,5 @@
 -- Lists: how many elements they have, how long their texts are, and what one element more adds.
-use Rattle.std.proofs.Common.{◌≡◌, ℕ, pos, ◌+◌, ◌<◌, ◌≤◌, min, List, [], ◌∷◌, ◌++◌, map, length, true, Option, Some, None, Ok, Err, MatchOption, Vec, Global, rules, refl, sym, ap, ◌∙◌, subst, arith, length-append}
+use Rattle.std.proofs.Common.{◌≡◌, ℕ, pos, ◌+◌, ◌<◌, ◌≤◌, min, List, [], ◌∷◌, ◌++◌, map, length, true, Option, Some, None, Ok, Err, MatchOption, Vec, Global, refl, sym, ap, ◌∙◌, subst, arith, length-append}
 use Rattle.std.specs.Option.{IsSomeAnd, ok_or}
 use Rattle.std.proofs.lemmas.Bool.Decides.{nat_tests}
 use Rattle.serde_json.specs.Written.{items_text}
@@ -8,16 +8,12 @@ use Rattle.rip_data.specs.declared.datum.Datum.{Datum}
 use Rattle.rip_data.specs.declared.datum.Datum as datum
 use Rattle.rip_data.specs.declared.datum.Datum.TheViews.{roll-DatumList}
 use Rattle.rip_data.specs.declared.datum.DatumList.{DatumList, out-DatumList}
-use Rattle.rip_data.proofs.DataLemmas.{tree_of-array}
+use Rattle.rip_data.proofs.DataLemmas.{tree_of-array, tree_of-List}
 use Rattle.rip_store.specs.declared.refusal.Refusal.TheVariants.{Range, Full}
 use Rattle.rip_store.specs.declared.outcome.ListSize.{ListSize}
 use Rattle.rip_store.specs.Args.{list_of}
 use Rattle.rip_store.specs.Operations.{◌>>=◌, count, short_list, with_last}
 use Rattle.rip_store.specs.Outcomes.{IsSizeOf, longer_count, with_item}
-
--- the tree of a list
-pub tree_of-List : (v : Vec Datum Global) → tree_of (datum.List (roll-DatumList (record { items = v }))) ≡ array (elements_of (map tree_of v.items))
-tree_of-List v = search (rules, datum.the_lemmas)
 
 -- ---- how many elements
 

@@ -2,7 +2,6 @@
 use Rattle.std.specs.Prelude.{◌≡◌, ℕ, ℤ, pos, min, List, [], ◌∷◌, ◌++◌, length, map, ⊤, Option, Some, None, Result, Ok, Err, if◌then◌else◌}
 use Rattle.std.specs.Option.{ok_or}
 use Rattle.rip_data.specs.Datum.{Tree, null, boolean, number, text, array, object, Elements, tree_of, elements_of, canonical_text}
-use Rattle.rip_data.specs.declared.datum.Datum.{Datum}
 use Rattle.rip_data.specs.declared.datum.DatumList.{DatumList, out-DatumList}
 use Rattle.rip_store.specs.declared.refusal.Refusal.{Refusal}
 use Rattle.rip_store.specs.declared.refusal.Refusal.TheVariants.{Range, Full}
@@ -14,7 +13,7 @@ use Rattle.rip_store.specs.declared.outcome.Done.{Done}
 use Rattle.rip_store.specs.declared.outcome.ListSize.{ListSize}
 use Rattle.rip_store.specs.declared.store.Replies.{Replies}
 use Rattle.rip_store.specs.Places.{Place, Stored, value_at, Change, nothing, keep, remove}
-use Rattle.rip_store.specs.Operations.{Outcome, ◌>>=◌, is_key, text_of, list_or_empty, short_list, with_last, count}
+use Rattle.rip_store.specs.Operations.{Outcome, is_key, text_of, list_or_empty, short_list, with_last, count}
 
 -- a list with a datum behind the others; another datum stays as it is
 abbrev pub with_item : Tree → Tree → Tree
@@ -76,7 +75,3 @@ pub record AreReplies (reply : Tree) (r : Replies) : Type 0 where
   pub logged : tree_of r.logged ≡ reply
   pub sent : tree_of r.sent ≡ reply
   pub kept : tree_of r.kept ≡ reply
-
--- a field of a datum: its name, and what its value stands for
-abbrev pub field_of : List ℕ × Datum → List ℕ × Tree
-field_of f = (f.0, tree_of f.1)

@@ -15,7 +15,6 @@
 #![tactic(auto)]
 
 mod args;
-mod copy;
 mod failure;
 mod laws;
 mod limits;

@@ -6,13 +6,12 @@ ghost use Rattle.rip_store.specs.Held.{stored_in};
 ghost use Rattle.rip_store.specs.Outcomes.{outcome_of, IsCause, IsSizeOf, longer_count};
 
 use crate::args::{key_and_value, number_of, one_key};
-use crate::copy::copy_datum;
 use crate::failure::Failure;
 use crate::measured::Measured;
 use crate::outcome::{Done, ListSize, Write};
 use crate::places::Places;
 use crate::refusal::Refusal;
-use rip_data::{Datum, DatumList, MAX_LENGTH, datum_size};
+use rip_data::{Datum, DatumList, MAX_LENGTH, copy_datum, datum_size};
 use rip_manifest::Operation;
 use rip_values::{NoMemory, Whole};
 use std::alloc::Global;

@@ -7,13 +7,12 @@ ghost use Rattle.rip_store.specs.Kept.{AreAccepted, AreAcceptedReplies, IsKept};
 ghost use Rattle.rip_store.specs.Outcomes.{outcome_of, IsCause, AreReplies};
 
 use crate::args::bytes_of;
-use crate::copy::copy_datum;
 use crate::failure::Failure;
 use crate::operations::operate;
 use crate::outcome::Done;
 use crate::places::Places;
 use crate::refusal::Refusal;
-use rip_data::{Datum, DatumList};
+use rip_data::{Datum, DatumList, copy_datum};
 use rip_manifest::{Function, Functions};
 use rip_values::{NoMemory, Units};
 use std::alloc::Global;

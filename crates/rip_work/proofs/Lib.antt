@@ -1,3 +1,2 @@
-pub mod CopyLemmas
 pub mod ItemLemmas
 pub mod WorkLemmas

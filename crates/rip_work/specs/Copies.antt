@@ -1,14 +1,9 @@
 -- The call of an item, and copies of calls.
 use Rattle.std.specs.Prelude.{◌≡◌, ℕ, List}
-use Rattle.rip_data.specs.Datum.{Tree, tree_of, trees_in}
-use Rattle.rip_data.specs.declared.datum.Datum.{Datum}
+use Rattle.rip_data.specs.Datum.{Tree, trees_in}
 use Rattle.rip_wire.specs.Items.{AreArgs}
 use Rattle.rip_course.specs.Parts.{Fact, passes, serves, finishes}
 use Rattle.rip_replica.specs.declared.works.Call.{Call}
-
--- a name and the tree of its value
-abbrev pub field_of : List ℕ × Datum → List ℕ × Tree
-field_of f = (f.0, tree_of f.1)
 
 -- a call has this number and name, and args of these trees
 pub record IsCopy (number : ℕ) (name : List ℕ) (args : List Tree) (c : Call) : Type 0 where

@@ -1,8 +1,8 @@
-ghost use Rattle.std.specs.Prelude.{◌≡◌, IfOk, map};
-ghost use Rattle.rip_data.specs.Datum.{tree_of, trees_in};
-ghost use Rattle.rip_work.specs.Copies.{field_of, IsCopy};
+ghost use Rattle.std.specs.Prelude.{◌≡◌, IfOk};
+ghost use Rattle.rip_data.specs.Datum.{trees_in};
+ghost use Rattle.rip_work.specs.Copies.{IsCopy};
 
-use rip_data::{Datum, DatumFields, DatumList};
+use rip_data::{DatumList, copy_list};
 use rip_replica::Call;
 use rip_values::{NoMemory, Units};
 use std::alloc::Global;
@@ -16,11 +16,11 @@ pub(crate) fn copy_call(
 ) -> Result<Call, NoMemory>
     ensures { IfOk result (IsCopy number name.now (trees_in args.now)) }
 {
-    let items = copy_elements(alloc, &args.items)?;
+    let args = copy_list(alloc, args)?;
     Ok(Call {
         number,
         name: Units::from_slice(alloc, name.as_slice())?,
-        args: DatumList { items },
+        args,
     })
 }
 
@@ -32,48 +32,4 @@ pub(crate) fn copy_text(alloc: Global, text: &Option<Units>) -> Result<Option<Un
         Some(text) => Ok(Some(Units::from_slice(alloc, text.as_slice())?)),
         None => Ok(None),
     }
-}
-
-/// A copy of a datum. It calls itself once for each level of nesting.
-#[cycle(copy)]
-fn copy_datum(alloc: Global, datum: &Datum) -> Result<Datum, NoMemory>
-    ensures { IfOk result (λ d. tree_of d ≡ tree_of datum.now) }
-{
-    match datum {
-        Datum::Null => Ok(Datum::Null),
-        Datum::Bool(b) => Ok(Datum::Bool(*b)),
-        Datum::Num(whole) => Ok(Datum::Num(*whole)),
-        Datum::Text(text) => Ok(Datum::Text(Units::from_slice(alloc, text.as_slice())?)),
-        Datum::List(list) => {
-            let items = copy_elements(alloc, &list.items)?;
-            Ok(Datum::List(DatumList { items }))
-        }
-        Datum::Fields(object) => {
-            let fields = copy_fields(alloc, &object.fields)?;
-            Ok(Datum::Fields(DatumFields { fields }))
-        }
-    }
-}
-
-#[cycle(copy)]
-fn copy_elements(alloc: Global, items: &Vec<Datum>) -> Result<Vec<Datum>, NoMemory>
-    ensures { IfOk result (λ ds. map tree_of ds.items ≡ map tree_of items.now.items) }
-{
-    let mut made = Vec::with_capacity(alloc, items.len())?;
-    for item in items {
-        made.push(copy_datum(alloc, item)?)?;
-    }
-    Ok(made)
-}
-
-#[cycle(copy)]
-fn copy_fields(alloc: Global, fields: &Vec<(Units, Datum)>) -> Result<Vec<(Units, Datum)>, NoMemory>
-    ensures { IfOk result (λ fs. map field_of fs.items ≡ map field_of fields.now.items) }
-{
-    let mut made = Vec::with_capacity(alloc, fields.len())?;
-    for field in fields {
-        let name = Units::from_slice(alloc, field.0.as_slice())?;
-        made.push((name, copy_datum(alloc, &field.1)?))?;
-    }
-    Ok(made)
 }

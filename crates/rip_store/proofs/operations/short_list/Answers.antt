@@ -1,7 +1,7 @@
 use Rattle.std.proofs.Common.{◌≤◌, ◌<◌, map, length, Some, ap, ◌∙◌, arith}
 use Rattle.std.proofs.lemmas.Bool.Decides.{nat_tests}
 use Rattle.rip_data.specs.Datum.{tree_of, array, elements_of, canonical_text}
-use Rattle.rip_store.proofs.ListLemmas.{tree_of-List}
+use Rattle.rip_data.proofs.DataLemmas.{tree_of-List}
 use Rattle.rip_store.proofs.operations.short_list.Goals as goal
 
 pub returns-then-datum_size-gt-MAX_LENGTH : goal.returns-then-datum_size-gt-MAX_LENGTH

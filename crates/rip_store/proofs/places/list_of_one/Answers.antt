@@ -1,6 +1,6 @@
 use Rattle.std.proofs.Common.{◌≡◌, [], ◌∷◌, ◌++◌, map, ap, ◌∙◌}
 use Rattle.rip_data.specs.Datum.{tree_of, array, elements_of}
-use Rattle.rip_store.proofs.ListLemmas.{tree_of-List}
+use Rattle.rip_data.proofs.DataLemmas.{tree_of-List}
 use Rattle.rip_store.proofs.places.list_of_one.Goals as goal
 
 pub returns : goal.returns

@@ -1,11 +1,10 @@
 use Rattle.std.proofs.Common.{◌≡◌, [], ◌∷◌, ◌++◌, map, ap, ap₂, ◌∙◌, rules}
 use Rattle.std.specs.Prelude.{codes}
-use Rattle.rip_data.specs.Datum.{tree_of, text, object, field, no_fields, fields_of}
+use Rattle.rip_data.specs.Datum.{tree_of, text, object, field, no_fields, field_of, fields_of}
 use Rattle.rip_data.specs.declared.datum.Datum as datum
 use Rattle.rip_data.specs.declared.datum.Datum.{Datum}
 use Rattle.rip_data.proofs.DataLemmas.{tree_of-Fields}
 use Rattle.rip_store.specs.Apply.{word}
-use Rattle.rip_store.specs.Outcomes.{field_of}
 use Rattle.rip_store.proofs.refusal.Refusal.reply.Goals as goal
 
 pub returns : goal.returns

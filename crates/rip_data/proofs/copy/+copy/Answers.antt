@@ -1,8 +1,7 @@
 use Rattle.std.proofs.Common.{ap, sym, ◌∙◌}
 use Rattle.rip_data.specs.Datum.{tree_of, array, object, elements_of, fields_of}
-use Rattle.rip_data.proofs.DataLemmas.{tree_of-array, tree_of-object, tree_of-Fields}
-use Rattle.rip_store.proofs.ListLemmas.{tree_of-List}
-use Rattle.rip_store.proofs.copy.+copy.Goals as goal
+use Rattle.rip_data.proofs.DataLemmas.{tree_of-array, tree_of-object, tree_of-Fields, tree_of-List}
+use Rattle.rip_data.proofs.copy.+copy.Goals as goal
 
 pub copy_datum-returns-in_ok-items-in-List : goal.copy_datum-returns-in_ok-items-in-List
 copy_datum-returns-in_ok-items-in-List t c =

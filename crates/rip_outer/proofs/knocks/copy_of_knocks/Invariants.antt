@@ -1,5 +1,5 @@
 use Rattle.std.proofs.Common.{◌≡◌, take}
-use Rattle.rip_outer.proofs.memory_door.copy_of_knocks.Given as goal
+use Rattle.rip_outer.proofs.knocks.copy_of_knocks.Given as goal
 
 -- the knocks that were passed are copied
 abbrev pub invariant-loop-knock : goal.invariant-loop-knock

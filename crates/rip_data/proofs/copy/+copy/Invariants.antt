@@ -1,7 +1,6 @@
 use Rattle.std.proofs.Common.{◌≡◌, take, map}
-use Rattle.rip_data.specs.Datum.{tree_of}
-use Rattle.rip_store.specs.Outcomes.{field_of}
-use Rattle.rip_store.proofs.copy.+copy.Given as goal
+use Rattle.rip_data.specs.Datum.{field_of, tree_of}
+use Rattle.rip_data.proofs.copy.+copy.Given as goal
 
 -- the copies are those of the elements so far
 abbrev pub invariant-copy_elements-loop-item : goal.invariant-copy_elements-loop-item

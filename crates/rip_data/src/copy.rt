@@ -1,14 +1,13 @@
 ghost use Rattle.std.specs.Prelude.{◌≡◌, IfOk, map};
-ghost use Rattle.rip_data.specs.Datum.{tree_of};
-ghost use Rattle.rip_store.specs.Outcomes.{field_of};
+ghost use Rattle.rip_data.specs.Datum.{field_of, tree_of, trees_in};
 
-use rip_data::{Datum, DatumFields, DatumList};
+use crate::datum::{Datum, DatumFields, DatumList};
 use rip_values::{NoMemory, Units};
 use std::alloc::Global;
 
-/// A copy of a datum. It calls itself once for each level of nesting.
+/// The same datum once more. It calls itself once for each level of nesting.
 #[cycle(copy)]
-pub(crate) fn copy_datum(alloc: Global, datum: &Datum) -> Result<Datum, NoMemory>
+pub fn copy_datum(alloc: Global, datum: &Datum) -> Result<Datum, NoMemory>
     ensures { IfOk result (λ d. tree_of d ≡ tree_of datum.now) }
 {
     match datum {
@@ -48,4 +47,12 @@ fn copy_fields(alloc: Global, fields: &Vec<(Units, Datum)>) -> Result<Vec<(Units
         made.push((name, copy_datum(alloc, &field.1)?))?;
     }
     Ok(made)
+}
+
+/// The same list once more.
+pub fn copy_list(alloc: Global, list: &DatumList) -> Result<DatumList, NoMemory>
+    ensures { IfOk result (λ copy. trees_in copy ≡ trees_in list.now) }
+{
+    let items = copy_elements(alloc, &list.items)?;
+    Ok(DatumList { items })
 }
