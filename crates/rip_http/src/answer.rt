@@ -1,5 +1,5 @@
 ghost use Rattle.std.specs.Prelude.{◌≡◌, ◌++◌, OnOk, IfOk, codes, decimal};
-ghost use Rattle.rip_http.specs.Answers.{phrase, field, status_line, content_type, allow_line, identifier_text, opened_lines, opening_lines, length_line, close_line, body_of, answer_text};
+ghost use Rattle.rip_http.specs.Answers.{field, line, status_line, content_type, allow_line, identifier_text, opened_lines, opening_lines, length_line, close_line, body_of, answer_text};
 
 use crate::request::Method;
 use itoa::Buffer;
@@ -35,27 +35,6 @@ pub struct HttpAnswer {
     pub bare: bool,
 }
 
-/// The phrase of a status code.
-fn phrase(code: u16) -> &'static [u8]
-    ensures { result.now ≡ phrase code }
-{
-    match code {
-        200 => b"OK",
-        400 => b"Bad Request",
-        404 => b"Not Found",
-        405 => b"Method Not Allowed",
-        409 => b"Conflict",
-        410 => b"Gone",
-        411 => b"Length Required",
-        413 => b"Content Too Large",
-        431 => b"Request Header Fields Too Large",
-        500 => b"Internal Server Error",
-        501 => b"Not Implemented",
-        503 => b"Service Unavailable",
-        _ => b"",
-    }
-}
-
 fn write(out: &mut Vec<u8>, text: &[u8]) -> Result<(), NoMemory>
     ensures { OnOk result (out.new.items ≡ out.old.items ++ text.now) }
 {
@@ -75,11 +54,31 @@ fn write_number(out: &mut Vec<u8>, n: u64) -> Result<(), NoMemory>
 fn write_status(out: &mut Vec<u8>, code: u16) -> Result<(), NoMemory>
     ensures { OnOk result (out.new.items ≡ out.old.items ++ status_line code) }
 {
+    match code {
+        200 => write(out, b"HTTP/1.1 200 OK\r\n"),
+        400 => write(out, b"HTTP/1.1 400 Bad Request\r\n"),
+        404 => write(out, b"HTTP/1.1 404 Not Found\r\n"),
+        405 => write(out, b"HTTP/1.1 405 Method Not Allowed\r\n"),
+        409 => write(out, b"HTTP/1.1 409 Conflict\r\n"),
+        410 => write(out, b"HTTP/1.1 410 Gone\r\n"),
+        411 => write(out, b"HTTP/1.1 411 Length Required\r\n"),
+        413 => write(out, b"HTTP/1.1 413 Content Too Large\r\n"),
+        431 => write(out, b"HTTP/1.1 431 Request Header Fields Too Large\r\n"),
+        500 => write(out, b"HTTP/1.1 500 Internal Server Error\r\n"),
+        501 => write(out, b"HTTP/1.1 501 Not Implemented\r\n"),
+        503 => write(out, b"HTTP/1.1 503 Service Unavailable\r\n"),
+        _ => write_other_status(out, code),
+    }
+}
+
+/// Writes the status line of a code that is never sent, which has no phrase.
+fn write_other_status(out: &mut Vec<u8>, code: u16) -> Result<(), NoMemory>
+    ensures { OnOk result (out.new.items
+        ≡ out.old.items ++ line (codes "HTTP/1.1 " ++ decimal code ++ codes " ")) }
+{
     write(out, b"HTTP/1.1 ")?;
     write_number(out, u64::from(code))?;
-    write(out, b" ")?;
-    write(out, phrase(code))?;
-    write(out, b"\r\n")
+    write(out, b" \r\n")
 }
 
 /// Writes a field whose value is a text.
@@ -106,9 +105,9 @@ fn write_type(out: &mut Vec<u8>, html: bool) -> Result<(), NoMemory>
         (out.new.items ≡ out.old.items ++ field (codes "Content-Type") (content_type html)) }
 {
     if html {
-        write_field(out, b"Content-Type", b"text/html; charset=utf-8")
+        write(out, b"Content-Type: text/html; charset=utf-8\r\n")
     } else {
-        write_field(out, b"Content-Type", b"application/json")
+        write(out, b"Content-Type: application/json\r\n")
     }
 }
 
