@@ -13,7 +13,7 @@ use Rattle.rip_store.specs.declared.outcome.Done.{Done}
 use Rattle.rip_store.specs.declared.outcome.ListSize.{ListSize}
 use Rattle.rip_store.specs.declared.store.Replies.{Replies}
 use Rattle.rip_store.specs.Places.{Place, Stored, value_at, Change, nothing, keep, remove}
-use Rattle.rip_store.specs.Operations.{Outcome, is_key, text_of, list_or_empty, short_list, with_last, count}
+use Rattle.rip_store.specs.Operations.{Outcome, ◌>>=◌, is_key, text_of, list_or_empty, short_list, with_last, count}
 
 -- a list with a datum behind the others; another datum stays as it is
 abbrev pub with_item : Tree → Tree → Tree
