@@ -1,8 +1,13 @@
 -- What the code shows is what the units begin with.
-use Rattle.std.proofs.Common.{◌≡◌, ℕ, ◌≤◌, arith, get_or, ◌⊎◌, inl, inr, true, false, not, ◌||◌, ◌&&◌, ◌==◌, List, [], ◌∷◌, length, take, drop, take_while, None, Some, option_map, refl, sym, ap, ◌∙◌, ⊎_elim, take-append-drop, length-take-le, eqb-true}
+use Rattle.std.proofs.Common.{◌≡◌, ℕ, ◌≤◌, arith, get_or, ◌⊎◌, inl, inr, Bool, true, false, not, cond, ◌||◌, ◌&&◌, ◌==◌, List, [], ◌∷◌, length, take, drop, take_while, None, Some, option_map, refl, sym, ap, ◌∙◌, ⊎_elim, take-append-drop, length-take-le, eqb-true}
 use Rattle.std.proofs.lemmas.Bool.{and_parts, or_from, cond-true, both_ways, false≢true}
 use Rattle.std.proofs.lemmas.Option.{none-some}
-use Rattle.rip_lexer.specs.Units.{class_of, is_line_end, is_blank, is_blank_class, begins}
+use Rattle.std.specs.List.{prefix_len}
+use Rattle.rip_grammar.specs.declared.word.Word.{Word}
+use Rattle.rip_grammar.specs.declared.word.Word.TheVariants as W
+use Rattle.rip_grammar.specs.Words.{is_name}
+use Rattle.rip_lexer.specs.Units.{class_of, is_line_end, is_blank, is_blank_class, is_name_start, is_name_unit, begins}
+use Rattle.rip_lexer.specs.Words.{is_among, look_up, reserved_words, word_in}
 use Rattle.rip_lexer.specs.Gap.{Blank, LineComment, BlockComment, holds_close, begins_comment}
 use Rattle.rip_lexer.specs.Tokens.{Begins, fault_of, Refuses, Spelling, InText, InComment, AtUnit}
 use Rattle.rip_lexer.specs.View.{IsConstruct, ReadsEnd, before_close, comment_of, first_part}
@@ -13,19 +18,45 @@ use Rattle.rip_lexer.specs.declared.refusal.LexKind.TheVariants.{BadCharacter, O
 use Rattle.rip_lexer.specs.declared.units.UnitClass.{UnitClass}
 use Rattle.rip_lexer.specs.declared.units.UnitClass.TheVariants.{White, LineEnd, Other}
 use Rattle.rip_lexer.specs.declared.token.TokenKind.{TokenKind}
-use Rattle.rip_lexer.specs.declared.token.TokenKind.TheVariants.{Text}
+use Rattle.rip_lexer.specs.declared.token.TokenKind.TheVariants.{Name, Reserved, Text}
 use Rattle.rip_lexer.proofs.Choice.{chosen, mapped_none}
-use Rattle.rip_lexer.proofs.Longest.{closed, begins_text}
+use Rattle.rip_lexer.proofs.Longest.{closed, begins_text, begins_word, word_front}
+use Rattle.rip_lexer.proofs.Spellings.{look_up-none, look_up-some, reserved_named}
 
-pub token_of : (kind : TokenKind) (units front : List ℕ) (n : ℕ) → front ≡ take n units → Begins kind (take n units) (drop n units) → fault_of kind (take n units) (drop n units) ≡ None → IsConstruct units (C.Token kind (length front))
-token_of kind units front n front-is begins no-fault = (take n units, drop n units, sym (take-append-drop n units), begins, no-fault, ap length front-is)
+from_not : (b c : Bool) → not b ≡ not c → b ≡ c
+from_not true true same = refl
+from_not false false same = refl
+from_not true false same = absurd (false≢true same)
+from_not false true same = absurd (false≢true (sym same))
+
+pub token_of : (kind : TokenKind) (word : Word) (units front : List ℕ) (n : ℕ) → front ≡ take n units → Begins kind (take n units) (drop n units) → fault_of kind (take n units) (drop n units) ≡ None → word ≡ word_in kind (take n units) → IsConstruct units (C.Token kind word (length front))
+token_of kind word units front n front-is begins no-fault word-is = (take n units, drop n units, sym (take-append-drop n units), begins, no-fault, ap length front-is, word-is)
+
+-- the name or reserved word that the units begin with
+pub word_token : (units front : List ℕ) (n : ℕ) (word : Word) (name : Bool) → front ≡ take n units → n ≡ prefix_len is_name_unit units → begins is_name_start units ≡ true → word ≡ look_up W.Name reserved_words front → name ≡ is_name word
+    → IsConstruct units (C.Token (cond name Name Reserved) word (length front))
+word_token units front n word name front-is n-is starts word-is name-is = by name name-is
+  where
+    looked : word ≡ look_up W.Name reserved_words (take n units)
+    looked = word-is ∙ ap (look_up W.Name reserved_words) front-is
+
+    kind-is : is_name word ≡ not (is_among reserved_words (take n units))
+    kind-is = ap is_name looked ∙ reserved_named (take n units)
+
+    by : (b : Bool) → b ≡ is_name word → IsConstruct units (C.Token (cond b Name Reserved) word (length front))
+    by true is =
+        let none = from_not (is_among reserved_words (take n units)) false (sym kind-is ∙ sym is) in
+        token_of Name word units front n front-is (begins_word units n n-is starts Name refl (word_front units n n-is starts, none)) refl (looked ∙ look_up-none W.Name reserved_words (take n units) none)
+    by false is =
+        let among = from_not (is_among reserved_words (take n units)) true (sym kind-is ∙ sym is) in
+        token_of Reserved word units front n front-is (begins_word units n n-is starts Reserved refl among) refl (looked ∙ look_up-some W.Name W.Unused reserved_words (take n units) among)
 
 -- the text that the code found
-pub text_token : (units : List ℕ) (end : TextEnd) → ReadsEnd units end → end.fault ≡ None → IsConstruct units (C.Token Text end.count)
+pub text_token : (units : List ℕ) (end : TextEnd) → ReadsEnd units end → end.fault ≡ None → IsConstruct units (C.Token Text W.Text end.count)
 text_token units end found none =
     let close = closed units found.quote found.characters found.rest (sym found.fault-is ∙ none) in
     let text = begins_text units found.quote found.characters found.rest close.tail end.count found.reads close.rest-is close.right found.count-is in
-    (take end.count units, drop end.count units, sym (take-append-drop end.count units), text.1, refl, sym (length-take-le end.count units text.0))
+    (take end.count units, drop end.count units, sym (take-append-drop end.count units), text.1, refl, sym (length-take-le end.count units text.0), refl)
 
 pub text_refused : (units : List ℕ) (end : TextEnd) (f : Fault) → ReadsEnd units end → end.fault ≡ Some f → Refuses units f.offset f.kind
 text_refused units end f found some = InText found.quote found.characters found.rest found.reads (sym found.fault-is ∙ some)

@@ -1,10 +1,12 @@
 -- Each script has a list of tokens or a first refusal.
-use Rattle.std.proofs.Common.{◌≡◌, ℕ, zero, suc, ◌+◌, ◌<◌, ◌≤◌, ◌⊎◌, inl, inr, Bool, true, false, ◌&&◌, ◌||◌, ◌==◌, List, [], ◌∷◌, ◌++◌, length, take, drop, Option, Some, None, refl, sym, ap, ◌∙◌, subst, arith, length-append}
+use Rattle.std.proofs.Common.{◌≡◌, ℕ, zero, suc, ◌+◌, ◌<◌, ◌≤◌, ◌⊎◌, inl, inr, Bool, true, false, cond, ◌&&◌, ◌||◌, ◌==◌, List, [], ◌∷◌, ◌++◌, length, take, drop, Option, Some, None, refl, sym, ap, ◌∙◌, subst, arith, length-append}
 use Rattle.std.specs.List.{prefix_len}
 use Rattle.std.proofs.lemmas.Bool.{and_parts, false≢true}
 use Rattle.std.proofs.lemmas.List.Sums.{prefix_len-le-length}
+use Rattle.rip_grammar.specs.declared.word.Word.TheVariants as W
+use Rattle.rip_grammar.specs.Words.{is_name}
 use Rattle.rip_lexer.specs.Units.{class_of, is_digit, is_digit_class, is_name_start, is_name_start_class, is_name_unit, is_quote, is_quote_class, is_mark, is_mark_class, is_hex_digit, is_one_of, begins}
-use Rattle.rip_lexer.specs.Words.{is_among, reserved_words, punctuators}
+use Rattle.rip_lexer.specs.Words.{Entry, look_up, reserved_words, punctuators, word_in}
 use Rattle.rip_lexer.specs.Numeral.{numeral_fault}
 use Rattle.rip_lexer.specs.Text.{spell, width, fault_at, option_or}
 use Rattle.rip_lexer.specs.Fault.{fault}
@@ -24,10 +26,10 @@ use Rattle.rip_lexer.specs.declared.token.TokenKind.{TokenKind}
 use Rattle.rip_lexer.specs.declared.token.TokenKind.TheVariants.{Name, Reserved, Numeral, Text, Punctuator}
 use Rattle.rip_lexer.specs.declared.units.UnitClass.{UnitClass}
 use Rattle.rip_lexer.specs.declared.units.UnitClass.TheVariants.{NameStart, Digit, LineEnd, White, Quote, Mark, Other}
-use Rattle.rip_lexer.proofs.Constructs.{token_of, spelling_refused, comment_refused, text_token, text_refused, unit_refused}
+use Rattle.rip_lexer.proofs.Constructs.{token_of, word_token, spelling_refused, comment_refused, text_token, text_refused, unit_refused}
 use Rattle.rip_lexer.proofs.Gaps.{part_stands, more_gap, no_gap, length_part}
 use Rattle.rip_lexer.proofs.Lexing.{ends_at, token_leads, token_fits}
-use Rattle.rip_lexer.proofs.Longest.{begins_word, word_front, begins_numeral, begins_punctuator}
+use Rattle.rip_lexer.proofs.Longest.{begins_numeral, begins_punctuator}
 use Rattle.rip_lexer.proofs.Texts.{Reads, text_turn, character_stands, closed_end, open_end}
 
 -- TEXTS
@@ -95,12 +97,11 @@ text_end_exists quote rest is_quote =
 abbrev pub HasConstruct : List ℕ → Type 0
 HasConstruct units = (construct : Construct) × IsConstruct units construct
 
-word_by : (units : List ℕ) (n : ℕ) → n ≡ prefix_len is_name_unit units → begins is_name_start units ≡ true → (reserved : Bool) → is_among reserved_words (take n units) ≡ reserved → HasConstruct units
-word_by units n count starts true e = (C.Token Reserved (length (take n units)), token_of Reserved units (take n units) n refl (begins_word units n count starts Reserved refl e) refl)
-word_by units n count starts false e = (C.Token Name (length (take n units)), token_of Name units (take n units) n refl (begins_word units n count starts Name refl (word_front units n count starts, e)) refl)
-
 word_exists : (units : List ℕ) → begins is_name_start units ≡ true → HasConstruct units
-word_exists units starts = word_by units (prefix_len is_name_unit units) refl starts (is_among reserved_words (take (prefix_len is_name_unit units) units)) refl
+word_exists units starts =
+    let front = take (prefix_len is_name_unit units) units in
+    let word = look_up W.Name reserved_words front in
+    (C.Token (cond (is_name word) Name Reserved) word (length front), word_token units front (prefix_len is_name_unit units) word (is_name word) refl refl starts refl refl)
 
 numeral_short : (units : List ℕ) → numeral_count units ≤ length units
 numeral_short [] = prefix_len-le-length is_digit []
@@ -109,7 +110,7 @@ numeral_short (z ∷ x ∷ hs) = grind (arith, prefix_len-le-length is_hex_digit
 
 numeral_by : (units : List ℕ) (n : ℕ) → n ≡ numeral_count units → n ≤ length units → begins is_digit units ≡ true
     → (found : Option Fault) → numeral_fault (take n units) (drop n units) ≡ found → HasConstruct units
-numeral_by units n count short starts None e = (C.Token Numeral (length (take n units)), token_of Numeral units (take n units) n refl (begins_numeral units n count short starts) e)
+numeral_by units n count short starts None e = (C.Token Numeral W.Numeral (length (take n units)), token_of Numeral W.Numeral units (take n units) n refl (begins_numeral units n count short starts) e refl)
 numeral_by units n count short starts (Some f) e = (C.Refused f, spelling_refused Numeral units n f (begins_numeral units n count short starts) e)
 
 numeral_exists : (units : List ℕ) → begins is_digit units ≡ true → HasConstruct units
@@ -122,13 +123,13 @@ spelling_short (c ∷ spelling) (d ∷ units) begun =
     let less : length spelling ≤ length units = spelling_short spelling units (and_parts (d == c) (begins_with spelling units) begun).1 in
     omega arith
 
-first_short : (spellings : List (List ℕ)) (units : List ℕ) → first_count spellings units ≤ length units
+first_short : (entries : List Entry) (units : List ℕ) → first_count entries units ≤ length units
 first_short [] units = omega arith
-first_short (spelling ∷ spellings) units = grind (arith, spelling_short spelling units, first_short spellings units)
+first_short (e ∷ entries) units = grind (arith, spelling_short e.spelling units, first_short entries units)
 
 punctuator_by : (units : List ℕ) (n : ℕ) → n ≡ first_count punctuators units → n ≤ length units → begins is_mark units ≡ true → begins_comment units ≡ false
     → (found : Option Fault) → punctuator_fault (take n units) (drop n units) ≡ found → HasConstruct units
-punctuator_by units n count short starts opens None e = (C.Token Punctuator (length (take n units)), token_of Punctuator units (take n units) n refl (begins_punctuator units n count short starts opens) e)
+punctuator_by units n count short starts opens None e = (C.Token Punctuator (word_in Punctuator (take n units)) (length (take n units)), token_of Punctuator _ units (take n units) n refl (begins_punctuator units n count short starts opens) e refl)
 punctuator_by units n count short starts opens (Some f) e = (C.Refused f, spelling_refused Punctuator units n f (begins_punctuator units n count short starts opens) e)
 
 punctuator_exists : (units : List ℕ) → first_part units ≡ None → begins is_mark units ≡ true → (comment : Bool) → begins_comment units ≡ comment → HasConstruct units
@@ -138,7 +139,7 @@ punctuator_exists units no_gap starts false opens =
     punctuator_by units n refl (first_short punctuators units) starts opens (punctuator_fault (take n units) (drop n units)) refl
 
 text_by : (units : List ℕ) (end : TextEnd) → ReadsEnd units end → (found : Option Fault) → end.fault ≡ found → HasConstruct units
-text_by units end reads None e = (C.Token Text end.count, text_token units end reads e)
+text_by units end reads None e = (C.Token Text W.Text end.count, text_token units end reads e)
 text_by units end reads (Some f) e = (C.Refused f, text_refused units end f reads e)
 
 text_exists : (quote : ℕ) (rest : List ℕ) → class_of quote ≡ Quote → HasConstruct (quote ∷ rest)
@@ -213,12 +214,12 @@ course_step : (at : ℕ) (units : List ℕ) (gap : LongestGap units) (construct 
 course_step at units gap C.Nothing end more = ([], Whole, ends_at at gap.count units gap.behind gap.line Whole gap.reads end)
 course_step at units gap (C.Refused f) refused more =
     ([], RefusedAt (at + gap.count + f.offset) f.kind, ends_at at gap.count units gap.behind gap.line (RefusedAt (at + gap.count + f.offset) f.kind) gap.reads (f.offset, refused, refl))
-course_step at units gap (C.Token kind n) it more =
-    let token : Token = record { kind = kind; start = at + gap.count; count = n; line_before = gap.line } in
-    let fits = token_fits gap.behind kind n it in
+course_step at units gap (C.Token kind word n) it more =
+    let token : Token = record { kind = kind; word = word; start = at + gap.count; count = n; line_before = gap.line } in
+    let fits = token_fits gap.behind kind word n it in
     let long : length gap.behind ≡ length it.0 + length it.1 = ap length it.2 ∙ length-append it.0 it.1 in
     let behind = more (at + gap.count + n) it.1 (omega (arith, fits.0, long, it.5, gap.fewer)) in
-    (token ∷ behind.0, behind.1, (it.1, token_leads units at gap.count gap.line gap.behind kind n gap.reads it, behind.2))
+    (token ∷ behind.0, behind.1, (it.1, token_leads units at gap.count gap.line gap.behind kind word n gap.reads it, behind.2))
 
 course : (fuel at : ℕ) (units : List ℕ) → length units < fuel → HasCourse at units
 course zero at units few = absurd (omega arith)

@@ -5,7 +5,9 @@ use Rattle.std.specs.List.{AllByRecursion}
 use Rattle.std.proofs.lemmas.List.{drop_at}
 use Rattle.std.proofs.lemmas.List.Elements.{All-from_recursion}
 use Rattle.std.proofs.lemmas.Option.{none-some}
+use Rattle.rip_grammar.specs.declared.word.Word.{Word}
 use Rattle.rip_lexer.specs.Fault.{fault}
+use Rattle.rip_lexer.specs.Words.{word_in}
 use Rattle.rip_lexer.specs.Numeral.{numeral_fault, numeral_value}
 use Rattle.rip_lexer.specs.declared.token.TokenKind.TheVariants.{Name, Reserved, Numeral, Text, Punctuator}
 use Rattle.rip_lexer.specs.declared.refusal.LexKind.TheVariants.{FractionLiteral, OctalLiteral, LiteralTooLarge}
@@ -41,40 +43,41 @@ pub refused_script : (text rest : List ℕ) (place count : ℕ) (line : Bool) (b
 refused_script text rest place count line behind tokens offset cause goes gap refused =
     (tokens ++ [], goes [] (RefusedAt (place + count + offset) cause) (ends_at place count rest behind line (RefusedAt (place + count + offset) cause) gap (offset, refused, refl)))
 
-pub token_fits : (behind : List ℕ) (kind : TokenKind) (n : ℕ) → IsConstruct behind (C.Token kind n) → (0 < n) × (n ≤ length behind)
-token_fits behind kind n it =
+pub token_fits : (behind : List ℕ) (kind : TokenKind) (word : Word) (n : ℕ) → IsConstruct behind (C.Token kind word n) → (0 < n) × (n ≤ length behind)
+token_fits behind kind word n it =
     let some = not_empty kind it.0 it.3.spelled in
     let long = ap length it.2 in
     (omega (arith, it.5), omega (arith, it.5, length-append it.0 it.1))
 
 -- the token that was read, behind its gap
-pub token_leads : (rest : List ℕ) (place count : ℕ) (line : Bool) (behind : List ℕ) (kind : TokenKind) (n : ℕ) → ReadsGap rest count line behind → (it : IsConstruct behind (C.Token kind n)) → Leads place rest (record { kind = kind; start = place + count; count = n; line_before = line }) it.1
-token_leads rest place count line behind kind n gap it = record {
+pub token_leads : (rest : List ℕ) (place count : ℕ) (line : Bool) (behind : List ℕ) (kind : TokenKind) (word : Word) (n : ℕ) → ReadsGap rest count line behind → (it : IsConstruct behind (C.Token kind word n)) → Leads place rest (record { kind = kind; word = word; start = place + count; count = n; line_before = line }) it.1
+token_leads rest place count line behind kind word n gap it = record {
   gap = gap.gap;
   spelling = it.0;
   splits = gap.splits ∙ ap (λ u. gap_text gap.gap u) it.2;
   is_gap = subst (λ u. IsGap gap.gap u) it.2 gap.is_gap;
   begins_token = it.3;
   no_fault = it.4;
+  word = it.6;
   start = ap (λ m. place + m) gap.count-is;
   count = it.5;
   line_before = gap.line-is;
 }
 
-pub token_read : (text rest : List ℕ) (place count : ℕ) (line : Bool) (behind : List ℕ) (tokens : List Token) (kind : TokenKind) (n : ℕ) → Goes text place rest tokens → ReadsGap rest count line behind → IsConstruct behind (C.Token kind n) → Goes text (place + count + n) (drop n behind) (tokens ++ (record { kind = kind; start = place + count; count = n; line_before = line } ∷ []))
-token_read text rest place count line behind tokens kind n goes gap it more outcome lexes =
-    let t : Token = record { kind = kind; start = place + count; count = n; line_before = line } in
+pub token_read : (text rest : List ℕ) (place count : ℕ) (line : Bool) (behind : List ℕ) (tokens : List Token) (kind : TokenKind) (word : Word) (n : ℕ) → Goes text place rest tokens → ReadsGap rest count line behind → IsConstruct behind (C.Token kind word n) → Goes text (place + count + n) (drop n behind) (tokens ++ (record { kind = kind; word = word; start = place + count; count = n; line_before = line } ∷ []))
+token_read text rest place count line behind tokens kind word n goes gap it more outcome lexes =
+    let t : Token = record { kind = kind; word = word; start = place + count; count = n; line_before = line } in
     let spelling = it.0 in
     let after = it.1 in
     let tail : drop n behind ≡ after = ap (drop n) it.2 ∙ drop_at spelling after n (sym it.5) in
     subst (λ ts. Lexes 0 text ts outcome) (sym (append_assoc tokens (t ∷ []) more))
-    (goes (t ∷ more) outcome (after, token_leads rest place count line behind kind n gap it, subst (λ u. Lexes (place + count + n) u more outcome) tail lexes))
+    (goes (t ∷ more) outcome (after, token_leads rest place count line behind kind word n gap it, subst (λ u. Lexes (place + count + n) u more outcome) tail lexes))
 
 -- a turn of the loop over constructs
-pub token_goes_on : (text rest : List ℕ) (place count : ℕ) (line : Bool) (behind after : List ℕ) (tokens next : List Token) (kind : TokenKind) (n : ℕ) → Goes text place rest tokens → ReadsGap rest count line behind → IsConstruct behind (C.Token kind n) → after ≡ drop n behind → next ≡ tokens ++ (record { kind = kind; start = place + count; count = n; line_before = line } ∷ []) → Goes text (place + count + n) after next
-token_goes_on text rest place count line behind after tokens next kind n goes gap it after-is next-is =
+pub token_goes_on : (text rest : List ℕ) (place count : ℕ) (line : Bool) (behind after : List ℕ) (tokens next : List Token) (kind : TokenKind) (word : Word) (n : ℕ) → Goes text place rest tokens → ReadsGap rest count line behind → IsConstruct behind (C.Token kind word n) → after ≡ drop n behind → next ≡ tokens ++ (record { kind = kind; word = word; start = place + count; count = n; line_before = line } ∷ []) → Goes text (place + count + n) after next
+token_goes_on text rest place count line behind after tokens next kind word n goes gap it after-is next-is =
     subst (λ u. Goes text (place + count + n) u next) (sym after-is)
-    (subst (λ ts. Goes text (place + count + n) (drop n behind) ts) (sym next-is) (token_read text rest place count line behind tokens kind n goes gap it))
+    (subst (λ ts. Goes text (place + count + n) (drop n behind) ts) (sym next-is) (token_read text rest place count line behind tokens kind word n goes gap it))
 
 pub same_tokens : (text : List ℕ) (ts us : List Token) → IsTokens text ts → IsTokens text us → ts ≡ us
 same_tokens text ts us a b = (one_reading 0 text ts us Whole Whole a b).0
@@ -136,6 +139,7 @@ token_stands at text script t rest text-is within leads =
         inside = inside;
         not_empty = subst (λ n. 0 < n) (sym leads.count) (not_empty t.kind leads.spelling leads.begins_token.spelled);
         spelled = subst (λ u. IsSpelling t.kind u) (sym units) leads.begins_token.spelled;
+        word = leads.word ∙ ap (word_in t.kind) (sym units);
         whole = λ is-numeral. subst (λ u. numeral_value u ≤ 9007199254740991) (sym units) (numeral_right t.kind leads.spelling rest leads.no_fault is-numeral);
       },
       sym (sym (drop-drop t.count t.start script) ∙ ap (drop t.count) behind ∙ drop_at leads.spelling rest t.count (sym leads.count)),

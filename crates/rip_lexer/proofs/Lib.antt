@@ -6,8 +6,10 @@ pub mod Gaps
 pub mod Lexing
 pub mod Longest
 pub mod Numbers
+pub mod Rows
 pub mod Runs
 pub mod Spellings
+pub mod Tables
 pub mod Texts
 pub mod Unique
 pub mod Values

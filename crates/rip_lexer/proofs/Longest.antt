@@ -1,20 +1,22 @@
 -- What the units begin with, spelling by spelling, and that no longer spelling begins there.
-use Rattle.std.proofs.Common.{◌≡◌, ◌≢◌, ℕ, suc, ◌+◌, ◌<◌, ◌≤◌, Bool, true, false, ◌&&◌, ◌==◌, nat_le, cond, List, [], ◌∷◌, ◌++◌, length, take, drop, bytes_eq, None, filter_map, refl, sym, ap, ◌∙◌, subst, ⊎_elim, arith, take-append-drop, length-take-le, length-append, eqb-true, eq-eqb, leb-true}
+use Rattle.std.proofs.Common.{◌≡◌, ◌≢◌, ℕ, zero, suc, ◌+◌, ◌<◌, ◌≤◌, Bool, true, false, ◌&&◌, ◌==◌, nat_le, cond, List, [], ◌∷◌, ◌++◌, length, take, drop, bytes_eq, None, filter_map, refl, sym, ap, ◌∙◌, subst, ⊎_elim, arith, take-append-drop, length-take-le, length-append, eqb-true, eq-eqb, leb-true}
 use Rattle.std.specs.List.{list_all, prefix_len}
 use Rattle.std.specs.Cmp.Lexicographic.{bytes_decides}
-use Rattle.std.proofs.lemmas.Bool.{and_parts, and_from, and_left, or_left, or_right, or_cases, cond-true, cond-false, cases_Bool, false≢true}
+use Rattle.std.proofs.lemmas.Bool.{and_parts, and_from, and_left, or_left, or_right, or_cases, cond-true, cond-false, cases_Bool, false≢true, false_from_ne_true}
 use Rattle.std.proofs.lemmas.List.{take_at}
 use Rattle.std.proofs.lemmas.List.Sums.{prefix_len-le-length}
 use Rattle.std.proofs.lemmas.Option.{none-some}
+use Rattle.rip_grammar.specs.declared.word.Word.{Word}
+use Rattle.rip_grammar.specs.declared.word.Word.TheVariants as W
 use Rattle.rip_lexer.specs.Units.{class_of, is_one_of, is_digit, is_digit_class, is_name_unit, is_name_class, is_name_start, is_name_start_class, is_quote_class, is_mark, is_mark_class, is_hex_digit, begins}
-use Rattle.rip_lexer.specs.Words.{is_word, is_among, reserved_words, punctuators}
+use Rattle.rip_lexer.specs.Words.{Entry, is_word, is_among, look_up, reserved_words, punctuators, word_in}
 use Rattle.rip_lexer.specs.Numeral.{is_decimal, has_prefix, is_hexadecimal, is_numeral}
 use Rattle.rip_lexer.specs.Text.{spell, spell_all, AreCharacters, character_value, refused_in, ends_text, ReadsText, StandsFor, text_fault}
 use Rattle.rip_lexer.specs.Gap.{begins_comment}
 use Rattle.rip_lexer.specs.Tokens.{IsSpelling, Begins}
 use Rattle.rip_lexer.specs.Fault.{fault}
 use Rattle.rip_lexer.specs.declared.refusal.LexKind.TheVariants.{OpenText}
-use Rattle.rip_lexer.specs.View.{numeral_count, begins_with, first_count}
+use Rattle.rip_lexer.specs.View.{numeral_count, begins_with, first_count, first_word}
 use Rattle.rip_lexer.specs.declared.units.UnitClass.{UnitClass}
 use Rattle.rip_lexer.specs.declared.units.UnitClass.TheVariants.{NameStart, Digit, Quote, Mark}
 use Rattle.rip_lexer.specs.declared.character.Character.{Character}
@@ -301,34 +303,57 @@ begins_with_front (c ∷ s) (d ∷ units) front =
     (λ i. first i ∷ below i)
 
 -- no spelling is longer than one before it
-abbrev falls : List (List ℕ) → Bool
+abbrev falls : List Entry → Bool
 falls [] = true
-falls (s ∷ spellings) = list_all (λ w. nat_le (length w) (length s)) spellings && falls spellings
+falls (e ∷ entries) = list_all (λ (d : Entry). nat_le (length d.spelling) (length e.spelling)) entries && falls entries
 
-count_bound : (spellings : List (List ℕ)) (other more : List ℕ) → falls spellings ≡ true → is_among spellings other ≡ true → length other ≤ first_count spellings (other ++ more)
+count_bound : (entries : List Entry) (other more : List ℕ) → falls entries ≡ true → is_among entries other ≡ true → length other ≤ first_count entries (other ++ more)
 count_bound [] other more sorted among = absurd (false≢true among)
-count_bound (s ∷ spellings) other more sorted among =
-    let parts = and_parts (list_all (λ w. nat_le (length w) (length s)) spellings) _ sorted in
+count_bound (e ∷ entries) other more sorted among =
+    let s = e.spelling in
+    let parts = and_parts (list_all (λ (d : Entry). nat_le (length d.spelling) (length s)) entries) _ sorted in
     ⊎_elim
     (λ here.
     let same = (bytes_decides other s).0 here in
     subst (λ m. length other ≤ m) (sym (cond-true (begins_with s (other ++ more)) _ _ (ap (λ w. begins_with w (other ++ more)) (sym same) ∙ begins_with_itself other more))) (let e = ap length same in omega arith))
     (λ later.
-    let short = leb-true (length other) (length s) (among_all spellings (λ w. nat_le (length w) (length s)) other later parts.0) in
-    by (begins_with s (other ++ more)) short (count_bound spellings other more parts.1 later))
+    let short = leb-true (length other) (length s) (among_all entries (λ w. nat_le (length w) (length s)) other later parts.0) in
+    by (begins_with s (other ++ more)) short (count_bound entries other more parts.1 later))
     (or_cases (bytes_eq other s) _ among)
   where
-    by : (b : Bool) → length other ≤ length s → length other ≤ first_count spellings (other ++ more) → length other ≤ cond b (length s) (first_count spellings (other ++ more))
+    by : (b : Bool) → length other ≤ length e.spelling → length other ≤ first_count entries (other ++ more) → length other ≤ cond b (length e.spelling) (first_count entries (other ++ more))
     by true short below = short
     by false short below = below
 
-count_among : (spellings : List (List ℕ)) (units : List ℕ) → 0 < first_count spellings units → is_among spellings (take (first_count spellings units) units) ≡ true
+count_among : (entries : List Entry) (units : List ℕ) → 0 < first_count entries units → is_among entries (take (first_count entries units) units) ≡ true
 count_among [] units some = absurd (omega arith)
-count_among (s ∷ spellings) units some = by (begins_with s units) refl some (λ below. count_among spellings units below)
+count_among (e ∷ entries) units some = by (begins_with e.spelling units) refl some (λ below. count_among entries units below)
   where
-    by : (b : Bool) → begins_with s units ≡ b → 0 < cond b (length s) (first_count spellings units) → (0 < first_count spellings units → is_among spellings (take (first_count spellings units) units) ≡ true) → is_among (s ∷ spellings) (take (cond b (length s) (first_count spellings units)) units) ≡ true
-    by true here some below = or_left _ _ ((bytes_decides (take (length s) units) s).1 (begins_with_front s units here))
+    by : (b : Bool) → begins_with e.spelling units ≡ b → 0 < cond b (length e.spelling) (first_count entries units) → (0 < first_count entries units → is_among entries (take (first_count entries units) units) ≡ true) → is_among (e ∷ entries) (take (cond b (length e.spelling) (first_count entries units)) units) ≡ true
+    by true here some below = or_left _ _ ((bytes_decides (take (length e.spelling) units) e.spelling).1 (begins_with_front e.spelling units here))
     by false other some below = or_right _ _ (below some)
+
+begins_with_its_front : (n : ℕ) (units : List ℕ) → begins_with (take n units) units ≡ true
+begins_with_its_front zero units = refl
+begins_with_its_front (suc n) [] = refl
+begins_with_its_front (suc n) (d ∷ units) = and_from (d == d) _ (eq-eqb d d refl) (begins_with_its_front n units)
+
+-- the first spelling that the units begin with is looked up
+first_word-looked_up : (entries : List Entry) (units : List ℕ) → first_word entries units ≡ look_up W.Unused entries (take (first_count entries units) units)
+first_word-looked_up [] units = refl
+first_word-looked_up (e ∷ entries) units = by (begins_with e.spelling units) refl (first_word-looked_up entries units)
+  where
+    by : (b : Bool) → begins_with e.spelling units ≡ b → first_word entries units ≡ look_up W.Unused entries (take (first_count entries units) units)
+        → cond b e.word (first_word entries units) ≡ look_up W.Unused (e ∷ entries) (take (cond b (length e.spelling) (first_count entries units)) units)
+    by true here below = sym (cond-true _ _ _ ((bytes_decides (take (length e.spelling) units) e.spelling).1 (begins_with_front e.spelling units here)))
+    by false other below =
+        let front = take (first_count entries units) units in
+        let apart = false_from_ne_true (bytes_eq front e.spelling) (λ same. false≢true (sym other ∙ ap (λ w. begins_with w units) (sym ((bytes_decides front e.spelling).0 same)) ∙ begins_with_its_front (first_count entries units) units)) in
+        below ∙ sym (cond-false _ _ _ apart)
+
+-- the word of the longest punctuator
+pub mark_word : (units : List ℕ) (n : ℕ) (word : Word) → n ≡ first_count punctuators units → word ≡ first_word punctuators units → word ≡ word_in Punctuator (take n units)
+mark_word units n word n-is word-is = word-is ∙ first_word-looked_up punctuators units ∙ ap (λ m. look_up W.Unused punctuators (take m units)) (sym n-is)
 
 sorted_punctuators : falls punctuators ≡ true
 unfolding punctuators

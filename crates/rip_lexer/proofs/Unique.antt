@@ -6,6 +6,7 @@ use Rattle.std.proofs.lemmas.List.{take_at, drop_at}
 use Rattle.std.proofs.lemmas.Option.{none-some, same_Some}
 use Rattle.rip_lexer.specs.Fault.{fault}
 use Rattle.rip_lexer.specs.Units.{class_of, is_blank, is_blank_class, is_quote_class, is_mark_class, begins}
+use Rattle.rip_lexer.specs.Words.{word_in}
 use Rattle.rip_lexer.specs.Text.{spell_all, ReadsText, text_fault}
 use Rattle.rip_lexer.specs.Gap.{BlockComment, holds_close, begins_comment, line_in, gap_text}
 use Rattle.rip_lexer.specs.Tokens.{IsSpelling, Begins, fault_of, Refuses, Spelling, InText, InComment, AtUnit, Leads, Outcome, Whole, RefusedAt, IsEnd, Ends, Lexes}
@@ -248,10 +249,12 @@ one_token at text t u rest more a b =
     let one = one_gap a.gap b.gap (a.spelling ++ rest) (b.spelling ++ more) (sym a.splits ∙ b.splits) a.is_gap b.is_gap (alone t.kind a.spelling rest a.begins_token) (alone u.kind b.spelling more b.begins_token) in
     let same = one_spelling t.kind u.kind a.spelling rest b.spelling more a.begins_token b.begins_token one.1 in
     let kinds = same.kind in
+    let spellings = same.spelling in
+    let words : t.word ≡ u.word = a.word ∙ (λ i. word_in (kinds i) (spellings i)) ∙ sym b.word in
     let starts-same : t.start ≡ u.start = a.start ∙ ap (λ g. at + length (gap_text g [])) one.0 ∙ sym b.start in
     let counts : t.count ≡ u.count = a.count ∙ ap length same.spelling ∙ sym b.count in
     let lines : t.line_before ≡ u.line_before = a.line_before ∙ ap (λ g. list_any line_in g) one.0 ∙ sym b.line_before in
-    ((λ i. record { kind = kinds i; start = starts-same i; count = counts i; line_before = lines i }), same.rest)
+    ((λ i. record { kind = kinds i; word = words i; start = starts-same i; count = counts i; line_before = lines i }), same.rest)
 
 -- a text has one reading
 pub one_reading : (at : ℕ) (text : List ℕ) (ts us : List Token) (o p : Outcome) → Lexes at text ts o → Lexes at text us p → (ts ≡ us) × (o ≡ p)

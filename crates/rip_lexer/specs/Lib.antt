@@ -2,6 +2,7 @@ pub mod Fault
 pub mod Gap
 pub mod Numeral
 pub mod Printed
+pub mod Tables
 pub mod Text
 pub mod Tokens
 pub mod Units

@@ -3,7 +3,7 @@ use Rattle.std.specs.Prelude.{◌≡◌, ℕ, ◌+◌, ◌<◌, ◌≤◌, true,
 use Rattle.std.specs.Str.{bytes_eq}
 use Rattle.std.specs.List.{list_any}
 use Rattle.rip_lexer.specs.Units.{class_of, is_digit, begins}
-use Rattle.rip_lexer.specs.Words.{is_word, is_among, reserved_words, punctuators}
+use Rattle.rip_lexer.specs.Words.{is_word, is_among, reserved_words, punctuators, word_in}
 use Rattle.rip_lexer.specs.Numeral.{is_numeral, numeral_fault, numeral_value}
 use Rattle.rip_lexer.specs.Text.{ReadsText, StandsFor, text_fault}
 use Rattle.rip_lexer.specs.Gap.{Part, line_in, gap_text, IsGap, begins_comment, holds_close}
@@ -62,6 +62,7 @@ pub record Leads (at : ℕ) (text : List ℕ) (token : Token) (rest : List ℕ) 
   pub is_gap : IsGap gap (spelling ++ rest)
   pub begins_token : Begins token.kind spelling rest
   pub no_fault : fault_of token.kind spelling rest ≡ None
+  pub word : token.word ≡ word_in token.kind spelling
   pub start : token.start ≡ at + length (gap_text gap [])
   pub count : token.count ≡ length spelling
   pub line_before : token.line_before ≡ list_any line_in gap
@@ -107,12 +108,13 @@ IsRefusal text Memory = Unit {0}
 abbrev pub units_of : List ℕ → Token → List ℕ
 units_of text token = take token.count (drop token.start text)
 
--- The token stands within the script, and its units spell a token of its kind. The value of a numeral is at most
--- 2 ^ 53 - 1.
+-- The token stands within the script, its units spell a token of its kind, and its word is theirs. The value of a
+-- numeral is at most 2 ^ 53 - 1.
 pub record IsTokenOf (text : List ℕ) (token : Token) : Type 0 where
   pub inside : token.start + token.count ≤ length text
   pub not_empty : 0 < token.count
   pub spelled : IsSpelling token.kind (units_of text token)
+  pub word : token.word ≡ word_in token.kind (units_of text token)
   pub whole : token.kind ≡ Numeral → numeral_value (units_of text token) ≤ 9007199254740991
 
 -- whatever list of tokens the script has, the answer is that list, or memory ran out

@@ -1,7 +1,10 @@
 -- What some units begin with, as functions. The functions below `tokens` are stated by these; that they agree with
 -- the relations of the other files is proved, and no public clause cites them.
-use Rattle.std.specs.Prelude.{◌≡◌, ℕ, ◌+◌, ◌≤◌, Bool, true, false, not, ◌||◌, ◌&&◌, ◌==◌, if◌then◌else◌, List, [], ◌∷◌, ◌++◌, length, Option, Some, None, option_map, take_while, filter}
+use Rattle.std.specs.Prelude.{◌≡◌, ℕ, ◌+◌, ◌≤◌, Bool, true, false, not, ◌||◌, ◌&&◌, ◌==◌, if◌then◌else◌, List, [], ◌∷◌, ◌++◌, length, Option, Some, None, option_map, take_while}
 use Rattle.std.specs.List.{list_any, prefix_len}
+use Rattle.rip_grammar.specs.declared.word.Word.{Word}
+use Rattle.rip_grammar.specs.declared.word.Word.TheVariants as W
+use Rattle.rip_lexer.specs.Words.{Entry, word_in}
 use Rattle.rip_lexer.specs.Units.{is_one_of, is_digit, is_line_end, is_blank, is_hex_digit, begins}
 use Rattle.rip_lexer.specs.Text.{ReadsText, begins_hex, text_fault}
 use Rattle.rip_lexer.specs.Gap.{Part, Blank, LineComment, BlockComment, line_in, gap_text, IsGap}
@@ -109,21 +112,28 @@ begins_with [] units = true
 begins_with (c ∷ spelling) [] = false
 begins_with (c ∷ spelling) (d ∷ units) = (d == c) && begins_with spelling units
 
--- how many units the first of these spellings has that the units begin with, and 0 where there is none
-abbrev pub first_count : List (List ℕ) → List ℕ → ℕ
+-- how many units the first spelling of these has that the units begin with, and 0 where there is none
+abbrev pub first_count : List Entry → List ℕ → ℕ
 first_count [] units = 0
-first_count (spelling ∷ spellings) units = if begins_with spelling units then length spelling else first_count spellings units
+first_count (e ∷ entries) units = if begins_with e.spelling units then length e.spelling else first_count entries units
+
+-- the word of that spelling
+abbrev pub first_word : List Entry → List ℕ → Word
+first_word [] units = W.Unused
+first_word (e ∷ entries) units = if begins_with e.spelling units then e.word else first_word entries units
 
 -- the units begin with this token, with what is refused, or there are none
 abbrev pub IsConstruct : List ℕ → Construct → Type 0
 IsConstruct units C.Nothing = units ≡ []
-IsConstruct units (C.Token kind count) =
-    (spelling : List ℕ) × (rest : List ℕ) × (units ≡ spelling ++ rest) × Begins kind spelling rest × (fault_of kind spelling rest ≡ None) × (count ≡ length spelling)
+IsConstruct units (C.Token kind word count) =
+    (spelling : List ℕ) × (rest : List ℕ) × (units ≡ spelling ++ rest) × Begins kind spelling rest
+    × (fault_of kind spelling rest ≡ None) × (count ≡ length spelling) × (word ≡ word_in kind spelling)
 IsConstruct units (C.Refused found) = Refuses units found.offset found.kind
 
--- the spellings of this many units
-abbrev pub of_length : ℕ → List (List ℕ) → List (List ℕ)
-of_length n spellings = filter (λ s. length s == n) spellings
+-- the entries whose spellings have this many units
+abbrev pub of_length : ℕ → List Entry → List Entry
+of_length n [] = []
+of_length n (e ∷ entries) = if length e.spelling == n then e ∷ of_length n entries else of_length n entries
 
 -- what is refused is refused within so many units
 abbrev pub OffsetWithin : ℕ → Construct → Type 0

@@ -1,4 +1,5 @@
 ghost use Rattle.std.specs.Prelude.{◌≡◌, ◌≤◌, None, IsTrue, IfSome, bytes_eq, codes, length};
+ghost use Rattle.rip_grammar.specs.Words.{is_name};
 ghost use Rattle.rip_lexer.specs.Fault.{fault};
 ghost use Rattle.rip_lexer.specs.Gap.{begins_comment};
 ghost use Rattle.rip_lexer.specs.Units.{begins, is_digit, is_mark, is_name_start, is_quote};
@@ -7,12 +8,13 @@ ghost use Rattle.rip_lexer.specs.View.{first_part, IsConstruct, OffsetWithin};
 
 use crate::ascii::{POINT, SLASH, STAR};
 use crate::numeral::{numeral_count, numeral_fault};
-use crate::punctuator::punctuator_count;
+use crate::punctuator::longest_mark;
 use crate::refusal::{Fault, LexKind};
 use crate::text::text_end;
 use crate::token::TokenKind;
 use crate::units::{UnitClass, begins_with_digit, class_of, name_unit_count};
-use crate::words::is_reserved;
+use crate::words::name_word;
+use rip_grammar::Word;
 
 /// What stands behind a gap.
 #[derive(Clone, Copy, Debug, PartialEq, Eq)]
@@ -20,7 +22,11 @@ pub(crate) enum Construct {
     /// The end of the script.
     Nothing,
     /// A token of so many units.
-    Token { kind: TokenKind, count: usize },
+    Token {
+        kind: TokenKind,
+        word: Word,
+        count: usize,
+    },
     /// What is refused.
     Refused(Fault),
 }
@@ -56,16 +62,25 @@ fn word(units: &[u16]) -> Construct
     ensures construct { IsConstruct units.now result }
     ensures bound { OffsetWithin (length units.now) result }
 {
-    let (word, _) = units.split_at(name_unit_count(units));
-    let kind = if is_reserved(word) {
-        TokenKind::Reserved
-    } else {
+    let (spelling, _) = units.split_at(name_unit_count(units));
+    let word = name_word(spelling);
+    let kind = if is_name(word) {
         TokenKind::Name
+    } else {
+        TokenKind::Reserved
     };
     Construct::Token {
         kind,
-        count: word.len(),
+        word,
+        count: spelling.len(),
     }
+}
+
+/// Whether the word is that of a name.
+fn is_name(word: Word) -> bool
+    ensures { result ≡ is_name word }
+{
+    matches!(word, Word::Name)
 }
 
 /// The numeral that the units begin with.
@@ -79,6 +94,7 @@ fn numeral(units: &[u16]) -> Construct
         Some(fault) => Construct::Refused(fault),
         None => Construct::Token {
             kind: TokenKind::Numeral,
+            word: Word::Numeral,
             count: spelling.len(),
         },
     }
@@ -95,6 +111,7 @@ fn text(units: &[u16]) -> Construct
         Some(fault) => Construct::Refused(fault),
         None => Construct::Token {
             kind: TokenKind::Text,
+            word: Word::Text,
             count: end.count,
         },
     }
@@ -110,11 +127,13 @@ fn punctuator(units: &[u16]) -> Construct
     if begins_comment(units) {
         return refused(LexKind::OpenComment);
     }
-    let (spelling, rest) = units.split_at(punctuator_count(units));
+    let (count, word) = longest_mark(units);
+    let (spelling, rest) = units.split_at(count);
     match punctuator_fault(spelling, rest) {
         Some(fault) => Construct::Refused(fault),
         None => Construct::Token {
             kind: TokenKind::Punctuator,
+            word,
             count: spelling.len(),
         },
     }

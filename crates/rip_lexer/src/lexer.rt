@@ -1,5 +1,6 @@
 ghost use Rattle.std.specs.Prelude.{All, IfErr, IfOk};
 ghost use Rattle.rip_lexer.specs.Tokens.{GivesRefusal, GivesTokens, HaveAReading, HaveNotBoth, HaveOneList, HaveOneRefusal, IsRefusal, IsTokenOf, IsTokens, TextsHaveOneValue};
+ghost use Rattle.rip_lexer.specs.Tables.{MarksAreApart, NamesAreIdentifiers, ReservedAreApart};
 
 use crate::construct::{Construct, first_construct};
 use crate::gap::longest_gap;
@@ -40,9 +41,10 @@ pub fn tokens(alloc: Global, text: &[u16]) -> Result<Tokens, LexRefusal>
                     kind: fault.kind,
                 });
             }
-            Construct::Token { kind, count } => {
+            Construct::Token { kind, word, count } => {
                 tokens.push(Token {
                     kind,
+                    word,
                     start: place as u32,
                     count: count as u32,
                     line_before: gap.holds_line_end,
@@ -61,4 +63,12 @@ pub fn readings_are_one()
     ensures refusals { HaveOneRefusal }
     ensures apart { HaveNotBoth }
     ensures texts { TextsHaveOneValue }
+{}
+
+/// The words of tokens: exactly the names and reserved words may stand behind `.` and as keys, and no two punctuators are
+/// one word, nor two reserved words that a rule has.
+pub fn words_are_apart()
+    ensures names { NamesAreIdentifiers }
+    ensures marks { MarksAreApart }
+    ensures reserved { ReservedAreApart }
 {}

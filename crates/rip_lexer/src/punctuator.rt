@@ -1,68 +1,75 @@
 ghost use Rattle.std.specs.Prelude.{◌≡◌, ◌≤◌, length};
 ghost use Rattle.rip_lexer.specs.Words.{punctuators};
-ghost use Rattle.rip_lexer.specs.View.{first_count};
+ghost use Rattle.rip_lexer.specs.View.{first_count, first_word};
 
 use crate::ascii::{
     AMPERSAND, BAR, CARET, CLOSE_BRACE, CLOSE_BRACKET, CLOSE_PARENTHESIS, COLON, COMMA, EQUALS,
     EXCLAMATION, GREATER, LESS, MINUS, OPEN_BRACE, OPEN_BRACKET, OPEN_PARENTHESIS, PERCENT, PLUS,
     POINT, QUESTION, SEMICOLON, SLASH, STAR, TILDE,
 };
+use rip_grammar::Word;
+use rip_values::{BinaryOperator, LogicalOperator, StepOperator, UnaryOperator};
 
-/// How many units the longest punctuator has that the units begin with (ECMA-262 7.7), and 0 where there is none.
+/// How many units the longest punctuator has that the units begin with (ECMA-262 7.7), and its word; no units where there
+/// is none.
 #[tactic(auto, unfolding(crate::specs::Words::punctuators))]
-pub(crate) fn punctuator_count(units: &[u16]) -> usize
-    ensures value { result ≡ first_count punctuators units.now }
-    ensures bound { result ≤ length units.now }
+pub(crate) fn longest_mark(units: &[u16]) -> (usize, Word)
+    ensures count { result.0 ≡ first_count punctuators units.now }
+    ensures word { result.1 ≡ first_word punctuators units.now }
+    ensures bound { result.0 ≤ length units.now }
 {
     match units {
-        [GREATER, GREATER, GREATER, EQUALS, ..] => 4,
-        [EQUALS, EQUALS, EQUALS, ..]
-        | [EXCLAMATION, EQUALS, EQUALS, ..]
-        | [GREATER, GREATER, GREATER, ..]
-        | [LESS, LESS, EQUALS, ..]
-        | [GREATER, GREATER, EQUALS, ..] => 3,
-        [LESS, EQUALS, ..]
-        | [GREATER, EQUALS, ..]
-        | [EQUALS, EQUALS, ..]
-        | [EXCLAMATION, EQUALS, ..]
-        | [PLUS, PLUS, ..]
-        | [MINUS, MINUS, ..]
-        | [LESS, LESS, ..]
-        | [GREATER, GREATER, ..]
-        | [AMPERSAND, AMPERSAND, ..]
-        | [BAR, BAR, ..]
-        | [PLUS, EQUALS, ..]
-        | [MINUS, EQUALS, ..]
-        | [STAR, EQUALS, ..]
-        | [PERCENT, EQUALS, ..]
-        | [SLASH, EQUALS, ..]
-        | [AMPERSAND, EQUALS, ..]
-        | [BAR, EQUALS, ..]
-        | [CARET, EQUALS, ..] => 2,
-        [OPEN_BRACE, ..]
-        | [CLOSE_BRACE, ..]
-        | [OPEN_PARENTHESIS, ..]
-        | [CLOSE_PARENTHESIS, ..]
-        | [OPEN_BRACKET, ..]
-        | [CLOSE_BRACKET, ..]
-        | [POINT, ..]
-        | [SEMICOLON, ..]
-        | [COMMA, ..]
-        | [LESS, ..]
-        | [GREATER, ..]
-        | [PLUS, ..]
-        | [MINUS, ..]
-        | [STAR, ..]
-        | [SLASH, ..]
-        | [PERCENT, ..]
-        | [AMPERSAND, ..]
-        | [BAR, ..]
-        | [CARET, ..]
-        | [EXCLAMATION, ..]
-        | [TILDE, ..]
-        | [QUESTION, ..]
-        | [COLON, ..]
-        | [EQUALS, ..] => 1,
-        _ => 0,
+        [GREATER, GREATER, GREATER, EQUALS, ..] => (
+            4,
+            Word::Compound(BinaryOperator::ShiftRightUnsigned),
+        ),
+        [EQUALS, EQUALS, EQUALS, ..] => (3, Word::Infix(BinaryOperator::StrictEqual)),
+        [EXCLAMATION, EQUALS, EQUALS, ..] => (3, Word::Infix(BinaryOperator::StrictNotEqual)),
+        [GREATER, GREATER, GREATER, ..] => (3, Word::Infix(BinaryOperator::ShiftRightUnsigned)),
+        [LESS, LESS, EQUALS, ..] => (3, Word::Compound(BinaryOperator::ShiftLeft)),
+        [GREATER, GREATER, EQUALS, ..] => (3, Word::Compound(BinaryOperator::ShiftRight)),
+        [LESS, EQUALS, ..] => (2, Word::Infix(BinaryOperator::LessOrEqual)),
+        [GREATER, EQUALS, ..] => (2, Word::Infix(BinaryOperator::GreaterOrEqual)),
+        [EQUALS, EQUALS, ..] => (2, Word::Infix(BinaryOperator::Equal)),
+        [EXCLAMATION, EQUALS, ..] => (2, Word::Infix(BinaryOperator::NotEqual)),
+        [PLUS, PLUS, ..] => (2, Word::Step(StepOperator::Increment)),
+        [MINUS, MINUS, ..] => (2, Word::Step(StepOperator::Decrement)),
+        [LESS, LESS, ..] => (2, Word::Infix(BinaryOperator::ShiftLeft)),
+        [GREATER, GREATER, ..] => (2, Word::Infix(BinaryOperator::ShiftRight)),
+        [AMPERSAND, AMPERSAND, ..] => (2, Word::Logical(LogicalOperator::And)),
+        [BAR, BAR, ..] => (2, Word::Logical(LogicalOperator::Or)),
+        [PLUS, EQUALS, ..] => (2, Word::Compound(BinaryOperator::Add)),
+        [MINUS, EQUALS, ..] => (2, Word::Compound(BinaryOperator::Subtract)),
+        [STAR, EQUALS, ..] => (2, Word::Compound(BinaryOperator::Multiply)),
+        [PERCENT, EQUALS, ..] => (2, Word::Compound(BinaryOperator::Remainder)),
+        [SLASH, EQUALS, ..] => (2, Word::Compound(BinaryOperator::Divide)),
+        [AMPERSAND, EQUALS, ..] => (2, Word::Compound(BinaryOperator::BitAnd)),
+        [BAR, EQUALS, ..] => (2, Word::Compound(BinaryOperator::BitOr)),
+        [CARET, EQUALS, ..] => (2, Word::Compound(BinaryOperator::BitXor)),
+        [OPEN_BRACE, ..] => (1, Word::OpenBrace),
+        [CLOSE_BRACE, ..] => (1, Word::CloseBrace),
+        [OPEN_PARENTHESIS, ..] => (1, Word::OpenParenthesis),
+        [CLOSE_PARENTHESIS, ..] => (1, Word::CloseParenthesis),
+        [OPEN_BRACKET, ..] => (1, Word::OpenBracket),
+        [CLOSE_BRACKET, ..] => (1, Word::CloseBracket),
+        [POINT, ..] => (1, Word::Point),
+        [SEMICOLON, ..] => (1, Word::Semicolon),
+        [COMMA, ..] => (1, Word::Comma),
+        [LESS, ..] => (1, Word::Infix(BinaryOperator::Less)),
+        [GREATER, ..] => (1, Word::Infix(BinaryOperator::Greater)),
+        [PLUS, ..] => (1, Word::Infix(BinaryOperator::Add)),
+        [MINUS, ..] => (1, Word::Infix(BinaryOperator::Subtract)),
+        [STAR, ..] => (1, Word::Infix(BinaryOperator::Multiply)),
+        [SLASH, ..] => (1, Word::Infix(BinaryOperator::Divide)),
+        [PERCENT, ..] => (1, Word::Infix(BinaryOperator::Remainder)),
+        [AMPERSAND, ..] => (1, Word::Infix(BinaryOperator::BitAnd)),
+        [BAR, ..] => (1, Word::Infix(BinaryOperator::BitOr)),
+        [CARET, ..] => (1, Word::Infix(BinaryOperator::BitXor)),
+        [EXCLAMATION, ..] => (1, Word::Prefix(UnaryOperator::Not)),
+        [TILDE, ..] => (1, Word::Prefix(UnaryOperator::BitNot)),
+        [QUESTION, ..] => (1, Word::Question),
+        [COLON, ..] => (1, Word::Colon),
+        [EQUALS, ..] => (1, Word::Assign),
+        _ => (0, Word::Unused),
     }
 }

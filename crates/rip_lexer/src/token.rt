@@ -1,3 +1,4 @@
+use rip_grammar::Word;
 use rip_values::List;
 
 /// The kinds of token of a script.
@@ -14,9 +15,11 @@ pub enum TokenKind {
 }
 
 /// A token of a script. Places and counts are in units of the script's text, from 0.
-#[derive(Clone, Copy, Debug, PartialEq, Eq, Hash)]
+#[derive(Clone, Copy, Debug, PartialEq, Eq)]
 pub struct Token {
     pub kind: TokenKind,
+    /// What it is to the grammar.
+    pub word: Word,
     /// The place of its first unit.
     pub start: u32,
     /// How many units it has.

@@ -7,12 +7,10 @@ pub mod Following
 pub mod Seeking
 pub mod Kept
 pub mod Literals
-pub mod Lookup
 pub mod Made
 pub mod Numbers
 pub mod Parts
 pub mod Shown
-pub mod Spellings
 pub mod Told
 pub mod Fitting
 pub mod Trees
@@ -20,4 +18,3 @@ pub mod Refusing
 pub mod Holding
 pub mod Textless
 pub mod Existing
-pub mod Tables

@@ -2,6 +2,7 @@
 use Rattle.std.proofs.Common.{◌≡◌, ℕ, zero, suc, ◌+◌, ◌<◌, ◌≤◌, Bool, true, false, List, [], ◌∷◌, ◌++◌, length, map, All, cond, bytes_eq, refl, sym, ap, ◌∙◌, subst, arith, get_or, append_assoc}
 use Rattle.std.specs.List.{list_all}
 use Rattle.std.proofs.lemmas.Bool.{and_parts}
+use Rattle.rip_lexer.specs.Words.{Entry, look_up, punctuators, reserved_words, word_in}
 use Rattle.rip_lexer.specs.Tokens.{Outcome, Lexes, IsTokens, IsTokenOf, units_of}
 use Rattle.rip_lexer.proofs.Lexing.{tokens_stand}
 use Rattle.rip_lexer.proofs.Longest.{not_empty}
@@ -11,7 +12,7 @@ use Rattle.rip_lexer.specs.declared.token.TokenKind.TheVariants as K
 use Rattle.rip_grammar.specs.declared.word.Word.{Word}
 use Rattle.rip_grammar.specs.declared.word.Word.TheVariants as W
 use Rattle.rip_grammar.specs.declared.word.Lexeme.{Lexeme}
-use Rattle.rip_parser.specs.Words.{Entry, look_up, reserved, marks, word_in, word_of, lexeme_of, end_of, lexemes_of}
+use Rattle.rip_parser.specs.Words.{lexeme_of, end_of, lexemes_of}
 use Rattle.rip_parser.specs.Listed.{AreInOrder, IsTextToken}
 use Rattle.rip_parser.specs.Building.{IsReadable}
 use Rattle.rip_parser.proofs.Following.{Each}
@@ -43,22 +44,23 @@ is_valueless W.Numeral = false
 is_valueless W.Text = false
 is_valueless w = true
 
-look_up-valueless : (es : List Entry) (s : List ℕ) → list_all (λ (e : Entry). is_valueless e.word) es ≡ true → is_valueless (look_up es s) ≡ true
+-- what is no name, numeral or text has no value
+look_up-valueless : (entries : List Entry) (s : List ℕ) → list_all (λ (e : Entry). is_valueless e.word) entries ≡ true → is_valueless (look_up W.Unused entries s) ≡ true
 look_up-valueless [] s all = refl
-look_up-valueless (e ∷ es) s all =
-    let parts = and_parts (is_valueless e.word) _ all in by (bytes_eq s e.spelling) parts.0 (look_up-valueless es s parts.1)
+look_up-valueless (e ∷ entries) s all =
+    let parts = and_parts (is_valueless e.word) _ all in by (bytes_eq s e.spelling) parts.0 (look_up-valueless entries s parts.1)
   where
-    by : (b : Bool) → is_valueless e.word ≡ true → is_valueless (look_up es s) ≡ true → is_valueless (cond b e.word (look_up es s)) ≡ true
+    by : (b : Bool) → is_valueless e.word ≡ true → is_valueless (look_up W.Unused entries s) ≡ true → is_valueless (cond b e.word (look_up W.Unused entries s)) ≡ true
     by true here below = here
     by false here below = below
 
-reserved-valueless : (s : List ℕ) → is_valueless (look_up reserved s) ≡ true
-unfolding reserved
-reserved-valueless s = look_up-valueless reserved s refl
+reserved-valueless : (s : List ℕ) → is_valueless (look_up W.Unused reserved_words s) ≡ true
+unfolding reserved_words
+reserved-valueless s = look_up-valueless reserved_words s refl
 
-marks-valueless : (s : List ℕ) → is_valueless (look_up marks s) ≡ true
-unfolding marks
-marks-valueless s = look_up-valueless marks s refl
+marks-valueless : (s : List ℕ) → is_valueless (look_up W.Unused punctuators s) ≡ true
+unfolding punctuators
+marks-valueless s = look_up-valueless punctuators s refl
 
 valueless-readable : (text : List ℕ) (tokens : List Token) (t : Lexeme) (w : Word) → is_valueless w ≡ true → IsReadable text tokens t w
 valueless-readable text tokens t W.Numeral e = cc
@@ -74,20 +76,21 @@ length-seam [] ts t = omega arith
 length-seam (b ∷ before) ts t = let below = length-seam before ts t in omega arith
 
 -- the lexeme of a token can be read
-token-readable : (text : List ℕ) (before ts : List Token) (t : Token) → IsTokenOf text t → (k : TokenKind) → t.kind ≡ k → IsReadable text (before ++ t ∷ ts) (lexeme_of text t) (word_in k (units_of text t))
+token-readable : (text : List ℕ) (before ts : List Token) (t : Token) → IsTokenOf text t → (k : TokenKind) → t.kind ≡ k → IsReadable text (before ++ t ∷ ts) (lexeme_of t) (word_in k (units_of text t))
 token-readable text before ts t of K.Name is = tt
-token-readable text before ts t of K.Reserved is = valueless-readable text (before ++ t ∷ ts) (lexeme_of text t) (look_up reserved (units_of text t)) (reserved-valueless (units_of text t))
+token-readable text before ts t of K.Reserved is = valueless-readable text (before ++ t ∷ ts) (lexeme_of t) (word_in K.Reserved (units_of text t)) (reserved-valueless (units_of text t))
 token-readable text before ts t of K.Numeral is = of.whole is
 token-readable text before ts t of K.Text is =
-    (length before, length-seam before ts t, λ d. subst (λ (x : Token). IsTextToken (lexeme_of text t) x) (sym (get_or-seam before ts t d)) (is, refl, refl))
-token-readable text before ts t of K.Punctuator is = valueless-readable text (before ++ t ∷ ts) (lexeme_of text t) (look_up marks (units_of text t)) (marks-valueless (units_of text t))
+    (length before, length-seam before ts t, λ d. subst (λ (x : Token). IsTextToken (lexeme_of t) x) (sym (get_or-seam before ts t d)) (is, refl, refl))
+token-readable text before ts t of K.Punctuator is = valueless-readable text (before ++ t ∷ ts) (lexeme_of t) (word_in K.Punctuator (units_of text t)) (marks-valueless (units_of text t))
 
-readable-from : (text : List ℕ) (all before ts : List Token) → All (IsTokenOf text) all → all ≡ before ++ ts → Each (Reads text all) (map (lexeme_of text) ts ++ end_of (length text) ∷ [])
+readable-from : (text : List ℕ) (all before ts : List Token) → All (IsTokenOf text) all → all ≡ before ++ ts → Each (Reads text all) (map lexeme_of ts ++ end_of (length text) ∷ [])
 readable-from text all before [] of splits = (tt, tt)
 readable-from text all before (t ∷ ts) of splits =
     let within : length before < length all = subst (λ (l : List Token). length before < length l) (sym splits) (length-seam before ts t) in
-    let here : IsTokenOf text t = subst (λ (x : Token). IsTokenOf text x) (ap (λ (l : List Token). get_or l (length before) t) splits ∙ get_or-seam before ts t t) (of (length before) t within) in (
-      subst (λ (l : List Token). IsReadable text l (lexeme_of text t) (word_of text t)) (sym splits) (token-readable text before ts t here t.kind refl),
+    let here : IsTokenOf text t = subst (λ (x : Token). IsTokenOf text x) (ap (λ (l : List Token). get_or l (length before) t) splits ∙ get_or-seam before ts t t) (of (length before) t within) in
+    let reads : IsReadable text (before ++ t ∷ ts) (lexeme_of t) t.word = subst (λ (w : Word). IsReadable text (before ++ t ∷ ts) (lexeme_of t) w) (sym here.word) (token-readable text before ts t here t.kind refl) in (
+      subst (λ (l : List Token). IsReadable text l (lexeme_of t) t.word) (sym splits) reads,
       readable-from text all (before ++ t ∷ []) ts of (splits ∙ sym (append_assoc before (t ∷ []) ts)),
     )
 

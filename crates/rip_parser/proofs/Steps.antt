@@ -77,7 +77,7 @@ unexpected-deep lexemes R.Memory body by is = tt
 
 -- the end stands behind the tokens
 pub ends-in-end : (text : List ℕ) (tokens : List Token) → EndsInEnd (lexemes_of text tokens)
-ends-in-end text tokens = (map (lexeme_of text) tokens, end_of (length text), refl, refl)
+ends-in-end text tokens = (map lexeme_of tokens, end_of (length text), refl, refl)
 
 -- depths, as they were counted
 pub shallow-of : (count n : ℕ) → count ≡ min n 201 → count < 201 → n ≤ 200

@@ -8,7 +8,5 @@ pub mod Printed
 pub mod Running
 pub mod Search
 pub mod Shows
-pub mod Tables
 pub mod TooDeep
-pub mod View
 pub mod Words

@@ -1,5 +1,4 @@
 ghost use Rattle.rip_parser.specs.Laws.{AreHeldOnce, HaveNotBoth, HaveOneRefusal, HaveOneTree, HasReading};
-ghost use Rattle.rip_parser.specs.Tables.{MarksAreApart, NamesAreIdentifiers, ReservedAreApart};
 
 /// A script that has tokens has one tree, or it is refused at one place for one cause, and never both.
 pub fn trees_are_one()
@@ -12,12 +11,4 @@ pub fn trees_are_one()
 /// Each node of a script's tree but its root is the child of one node, once; the root is none.
 pub fn nodes_are_held_once()
     ensures { AreHeldOnce }
-{}
-
-/// The words of tokens: exactly the names and reserved words may stand behind `.` and as keys, and no two punctuators are
-/// one word, nor two reserved words that a rule has.
-pub fn words_are_apart()
-    ensures names { NamesAreIdentifiers }
-    ensures marks { MarksAreApart }
-    ensures reserved { ReservedAreApart }
 {}

@@ -1,4 +1,5 @@
-use Rattle.std.proofs.Common.{sym, ◌∙◌}
+use Rattle.std.proofs.Common.{refl, sym, ◌∙◌}
+use Rattle.rip_grammar.specs.declared.word.Word.TheVariants as W
 use Rattle.rip_lexer.specs.Numeral.{numeral_fault}
 use Rattle.rip_lexer.specs.declared.token.TokenKind.TheVariants.{Numeral}
 use Rattle.rip_lexer.proofs.Longest.{begins_numeral}
@@ -19,4 +20,4 @@ returns-in-None-clause-construct c =
     let front = c.split_at.ensures.front in
     let back = c.split_at.ensures.back in
     let begins = begins_numeral units c.numeral_count.result c.numeral_count.ensures.value c.numeral_count.ensures.bound c.requires in
-    token_of Numeral units _ c.numeral_count.result front begins ((λ i. numeral_fault (sym front i) (sym back i)) ∙ sym c.in-None.ensures.value)
+    token_of Numeral W.Numeral units _ c.numeral_count.result front begins ((λ i. numeral_fault (sym front i) (sym back i)) ∙ sym c.in-None.ensures.value) refl

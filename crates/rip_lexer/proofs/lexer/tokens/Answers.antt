@@ -54,13 +54,13 @@ returns-in-Refused-clause-first c = λ place cause first.
 
 pub script-smaller : goal.script-smaller
 script-smaller c =
-    let fits = token_fits c.split_at.result.1.now c.in-Token.kind c.in-Token.count c.in-Token.ensures.construct in
+    let fits = token_fits c.split_at.result.1.now c.in-Token.kind c.in-Token.word c.in-Token.count c.in-Token.ensures.construct in
     omega (arith, fits.0, c.split_at.ensures.back_len, c.split_at-in-Token.ensures.back_len)
 
 pub script-preserved : goal.script-preserved
 script-preserved c =
     let pushed = c.in_ok-push-in-Token.ensures.items in
     record {
-      bound = omega (arith, (token_fits c.split_at.result.1.now c.in-Token.kind c.in-Token.count c.in-Token.ensures.construct).1, c.split_at.ensures.back_len, c.split_at-in-Token.ensures.back_len);
-      reads = token_goes_on c.args.text.now c.script.rest.now c.script.place c.longest_gap-gap.result.count c.longest_gap-gap.result.holds_line_end c.split_at.result.1.now c.split_at-in-Token.result.1.now c.script.tokens.items c.push.new.self.items c.in-Token.kind c.in-Token.count c.script.invariant.reads (behind-gap (goal.at.script-preserved c).After-split_at) c.in-Token.ensures.construct c.split_at-in-Token.ensures.back pushed;
+      bound = omega (arith, (token_fits c.split_at.result.1.now c.in-Token.kind c.in-Token.word c.in-Token.count c.in-Token.ensures.construct).1, c.split_at.ensures.back_len, c.split_at-in-Token.ensures.back_len);
+      reads = token_goes_on c.args.text.now c.script.rest.now c.script.place c.longest_gap-gap.result.count c.longest_gap-gap.result.holds_line_end c.split_at.result.1.now c.split_at-in-Token.result.1.now c.script.tokens.items c.push.new.self.items c.in-Token.kind c.in-Token.word c.in-Token.count c.script.invariant.reads (behind-gap (goal.at.script-preserved c).After-split_at) c.in-Token.ensures.construct c.split_at-in-Token.ensures.back pushed;
     }

@@ -1,5 +1,5 @@
-use Rattle.rip_parser.proofs.Tables.{names_are_identifiers, marks_are_apart, reserved_are_apart}
-use Rattle.rip_parser.proofs.laws.words_are_apart.Goals as goal
+use Rattle.rip_lexer.proofs.Tables.{names_are_identifiers, marks_are_apart, reserved_are_apart}
+use Rattle.rip_lexer.proofs.lexer.words_are_apart.Goals as goal
 
 pub returns-clause-names : goal.returns-clause-names
 returns-clause-names c = names_are_identifiers

@@ -1,4 +1,4 @@
--- Each word of the table has one spelling.
+-- Each word of the tables has one spelling.
 use Rattle.std.proofs.Common.{◌≡◌, ℕ, Bool, true, false, not, ◌||◌, List, [], ◌∷◌, bytes_eq, refl, sym, ap, ◌∙◌, ◌⊎◌, inl, inr, ⊎_elim}
 use Rattle.std.specs.Prelude.{codes}
 use Rattle.std.proofs.lemmas.Bool.{or_cases}
@@ -8,13 +8,12 @@ use Rattle.rip_values.specs.declared.operator.LogicalOperator.TheVariants as L
 use Rattle.rip_values.specs.declared.operator.StepOperator.TheVariants as S
 use Rattle.rip_values.specs.declared.operator.UnaryOperator.TheVariants as U
 use Rattle.rip_lexer.specs.declared.token.TokenKind.TheVariants as K
-use Rattle.rip_lexer.specs.Words.{is_among, reserved_words, punctuators}
+use Rattle.rip_lexer.specs.Words.{is_among, look_up, punctuators, reserved_words, word_in}
 use Rattle.rip_lexer.proofs.Spellings.{among_all}
 use Rattle.rip_grammar.specs.declared.word.Word.{Word}
 use Rattle.rip_grammar.specs.declared.word.Word.TheVariants as W
 use Rattle.rip_grammar.specs.Words.{is_identifier_name}
-use Rattle.rip_parser.specs.Words.{look_up, reserved, marks, word_in}
-use Rattle.rip_parser.specs.Tables.{NamesAreIdentifiers, MarksAreApart, ReservedAreApart}
+use Rattle.rip_lexer.specs.Tables.{NamesAreIdentifiers, MarksAreApart, ReservedAreApart}
 
 abbrev spelling_of : Word → List ℕ
 spelling_of W.OpenBrace = codes "{"
@@ -106,13 +105,13 @@ opposite : (b : Bool) → not b ≡ true → b ≡ false
 opposite true is = absurd (cc)
 opposite false is = refl
 
-reserved_are_names : (s : List ℕ) → is_among reserved_words s ≡ true → is_identifier_name (look_up reserved s) ≡ true
-unfolding reserved_words reserved
-reserved_are_names s among = among_all reserved_words (λ w. is_identifier_name (look_up reserved w)) s among refl
+reserved_are_names : (s : List ℕ) → is_among reserved_words s ≡ true → is_identifier_name (look_up W.Unused reserved_words s) ≡ true
+unfolding reserved_words
+reserved_are_names s among = among_all reserved_words (λ w. is_identifier_name (look_up W.Unused reserved_words w)) s among refl
 
-marks_are_no_names : (s : List ℕ) → is_among punctuators s ≡ true → not (is_identifier_name (look_up marks s)) ≡ true
-unfolding punctuators marks
-marks_are_no_names s among = among_all punctuators (λ w. not (is_identifier_name (look_up marks w))) s among refl
+marks_are_no_names : (s : List ℕ) → is_among punctuators s ≡ true → not (is_identifier_name (look_up W.Unused punctuators s)) ≡ true
+unfolding punctuators
+marks_are_no_names s among = among_all punctuators (λ w. not (is_identifier_name (look_up W.Unused punctuators w))) s among refl
 
 pub names_are_identifiers : NamesAreIdentifiers
 names_are_identifiers K.Name s is = refl
@@ -121,30 +120,30 @@ names_are_identifiers K.Numeral s is = refl
 names_are_identifiers K.Text s is = refl
 names_are_identifiers K.Punctuator s is = opposite _ (marks_are_no_names s is)
 
-mark_spelled : (s : List ℕ) → is_among punctuators s ≡ true → bytes_eq (spelling_of (look_up marks s)) s ≡ true
-unfolding punctuators marks
-mark_spelled s among = among_all punctuators (λ w. bytes_eq (spelling_of (look_up marks w)) w) s among refl
+mark_spelled : (s : List ℕ) → is_among punctuators s ≡ true → bytes_eq (spelling_of (look_up W.Unused punctuators s)) s ≡ true
+unfolding punctuators
+mark_spelled s among = among_all punctuators (λ w. bytes_eq (spelling_of (look_up W.Unused punctuators w)) w) s among refl
 
 pub marks_are_apart : MarksAreApart
 marks_are_apart s other is are same =
-    sym ((bytes_decides (spelling_of (look_up marks s)) s).0 (mark_spelled s is))
+    sym ((bytes_decides (spelling_of (look_up W.Unused punctuators s)) s).0 (mark_spelled s is))
     ∙ ap spelling_of same
-    ∙ (bytes_decides (spelling_of (look_up marks other)) other).0 (mark_spelled other are)
+    ∙ (bytes_decides (spelling_of (look_up W.Unused punctuators other)) other).0 (mark_spelled other are)
 
-reserved_spelled : (s : List ℕ) → is_among reserved_words s ≡ true → (is_unused (look_up reserved s) || bytes_eq (spelling_of (look_up reserved s)) s) ≡ true
-unfolding reserved_words reserved
-reserved_spelled s among = among_all reserved_words (λ w. is_unused (look_up reserved w) || bytes_eq (spelling_of (look_up reserved w)) w) s among refl
+reserved_spelled : (s : List ℕ) → is_among reserved_words s ≡ true → (is_unused (look_up W.Unused reserved_words s) || bytes_eq (spelling_of (look_up W.Unused reserved_words s)) s) ≡ true
+unfolding reserved_words
+reserved_spelled s among = among_all reserved_words (λ w. is_unused (look_up W.Unused reserved_words w) || bytes_eq (spelling_of (look_up W.Unused reserved_words w)) w) s among refl
 
 -- a reserved word that no rule has, or one that is spelled as its word
-reserved_known : (s : List ℕ) → is_among reserved_words s ≡ true → (look_up reserved s ≡ W.Unused) ⊎ (spelling_of (look_up reserved s) ≡ s)
+reserved_known : (s : List ℕ) → is_among reserved_words s ≡ true → (look_up W.Unused reserved_words s ≡ W.Unused) ⊎ (spelling_of (look_up W.Unused reserved_words s) ≡ s)
 reserved_known s among =
-    ⊎_elim (λ none. inl (unused _ none)) (λ spelled. inr ((bytes_decides (spelling_of (look_up reserved s)) s).0 spelled))
-    (or_cases (is_unused (look_up reserved s)) _ (reserved_spelled s among))
+    ⊎_elim (λ none. inl (unused _ none)) (λ spelled. inr ((bytes_decides (spelling_of (look_up W.Unused reserved_words s)) s).0 spelled))
+    (or_cases (is_unused (look_up W.Unused reserved_words s)) _ (reserved_spelled s among))
 
 pub reserved_are_apart : ReservedAreApart
 reserved_are_apart s other is are same = apart (reserved_known s is) (reserved_known other are)
   where
-    apart : (look_up reserved s ≡ W.Unused) ⊎ (spelling_of (look_up reserved s) ≡ s) → (look_up reserved other ≡ W.Unused) ⊎ (spelling_of (look_up reserved other) ≡ other)
+    apart : (look_up W.Unused reserved_words s ≡ W.Unused) ⊎ (spelling_of (look_up W.Unused reserved_words s) ≡ s) → (look_up W.Unused reserved_words other ≡ W.Unused) ⊎ (spelling_of (look_up W.Unused reserved_words other) ≡ other)
         → (s ≡ other) ⊎ (word_in K.Reserved s ≡ W.Unused)
     apart (inl none) known = inr none
     apart (inr spelled) (inl none) = inr (same ∙ none)

@@ -1,12 +1,11 @@
--- The table of words is held against the tokens (ECMA-262 7.6, 7.7).
+-- The tables of words are held against the grammar: names are those that it has, and words are apart (ECMA-262 7.6, 7.7).
 use Rattle.std.specs.Prelude.{◌≡◌, ℕ, Bool, true, false, List, ◌⊎◌}
 use Rattle.rip_lexer.specs.declared.token.TokenKind.{TokenKind}
 use Rattle.rip_lexer.specs.declared.token.TokenKind.TheVariants as K
 use Rattle.rip_lexer.specs.Tokens.{IsSpelling}
-use Rattle.rip_lexer.specs.Words.{is_among, reserved_words, punctuators}
+use Rattle.rip_lexer.specs.Words.{is_among, punctuators, reserved_words, word_in}
 use Rattle.rip_grammar.specs.declared.word.Word.TheVariants as W
 use Rattle.rip_grammar.specs.Words.{is_identifier_name}
-use Rattle.rip_parser.specs.Words.{word_in}
 
 -- an IdentifierName is a name or a reserved word (7.6)
 abbrev pub is_name_kind : TokenKind → Bool
