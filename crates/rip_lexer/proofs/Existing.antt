@@ -1,17 +1,17 @@
 -- Each script has a list of tokens or a first refusal.
-use Rattle.std.proofs.Common.{◌≡◌, ℕ, zero, suc, ◌+◌, ◌<◌, ◌≤◌, ◌⊎◌, inl, inr, Bool, true, false, cond, ◌&&◌, ◌||◌, ◌==◌, List, [], ◌∷◌, ◌++◌, length, take, drop, Option, Some, None, refl, sym, ap, ◌∙◌, subst, arith, length-append}
+use Rattle.std.proofs.Common.{◌≡◌, ℕ, zero, suc, ◌+◌, ◌<◌, ◌≤◌, ◌⊎◌, inl, inr, Bool, true, false, cond, ◌==◌, List, [], ◌∷◌, length, take, drop, Option, Some, None, refl, sym, ap, ◌∙◌, arith, length-append}
 use Rattle.std.specs.List.{prefix_len}
 use Rattle.std.proofs.lemmas.Bool.{and_parts, false≢true}
 use Rattle.std.proofs.lemmas.List.Sums.{prefix_len-le-length}
 use Rattle.rip_grammar.specs.declared.word.Word.TheVariants as W
 use Rattle.rip_grammar.specs.Words.{is_name}
-use Rattle.rip_lexer.specs.Units.{class_of, is_digit, is_digit_class, is_name_start, is_name_start_class, is_name_unit, is_quote, is_quote_class, is_mark, is_mark_class, is_hex_digit, is_one_of, begins}
+use Rattle.rip_lexer.specs.Units.{class_of, is_digit, is_digit_class, is_name_start, is_name_start_class, is_name_unit, is_quote, is_mark, is_mark_class, is_hex_digit, begins}
 use Rattle.rip_lexer.specs.Words.{Entry, look_up, reserved_words, punctuators, word_in}
 use Rattle.rip_lexer.specs.Numeral.{numeral_fault}
 use Rattle.rip_lexer.specs.Text.{spell, width, fault_at, option_or}
 use Rattle.rip_lexer.specs.Fault.{fault}
 use Rattle.rip_lexer.specs.Gap.{Part, Blank, LineComment, BlockComment, begins_comment}
-use Rattle.rip_lexer.specs.Tokens.{Leads, Outcome, Whole, RefusedAt, Lexes, IsTokens, IsFirstRefusal, punctuator_fault, HaveAReading}
+use Rattle.rip_lexer.specs.Tokens.{Outcome, Whole, RefusedAt, Lexes, IsTokens, IsFirstRefusal, punctuator_fault, HaveAReading}
 use Rattle.rip_lexer.specs.View.{first_part, part_count, first_character, numeral_count, begins_with, first_count, ReadsGap, ReadsEnd, IsConstruct}
 use Rattle.rip_lexer.specs.declared.character.Character.{Character}
 use Rattle.rip_lexer.specs.declared.character.Character.TheVariants.{Plain, Escaped, Null, Hexadecimal, Unicode, Continuation, ContinuationPair, Refused}
@@ -22,7 +22,6 @@ use Rattle.rip_lexer.specs.declared.refusal.LexKind.{LexKind}
 use Rattle.rip_lexer.specs.declared.refusal.LexKind.TheVariants.{BadCharacter, OpenComment}
 use Rattle.rip_lexer.specs.declared.text.TextEnd.{TextEnd}
 use Rattle.rip_lexer.specs.declared.token.Token.{Token}
-use Rattle.rip_lexer.specs.declared.token.TokenKind.{TokenKind}
 use Rattle.rip_lexer.specs.declared.token.TokenKind.TheVariants.{Name, Reserved, Numeral, Text, Punctuator}
 use Rattle.rip_lexer.specs.declared.units.UnitClass.{UnitClass}
 use Rattle.rip_lexer.specs.declared.units.UnitClass.TheVariants.{NameStart, Digit, LineEnd, White, Quote, Mark, Other}

@@ -1,4 +1,4 @@
-ghost use Rattle.std.specs.Prelude.{◌≡◌, ◌+◌, length, map, IfOk};
+ghost use Rattle.std.specs.Prelude.{◌≡◌, map, IfOk};
 ghost use Rattle.rip_parser.specs.Words.{lexeme_of, lexemes_of};
 
 use rip_grammar::{Lexeme, Word};
