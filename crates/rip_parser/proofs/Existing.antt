@@ -167,7 +167,7 @@ text-made before spelling units stands =
 module _ (script : List ℕ) (tokens : List Token) (all : All (IsTokenOf script) tokens) where
   text-of : (t : Lexeme) (before : List ℕ) → IsListed tokens t → Text before (spelling_of script t)
   text-of t before listed =
-      let stands = text_stands script tokens t (record { kind = K.Text; start = 0; count = 0; line_before = false }) all listed in
+      let stands = text_stands script tokens t (record { kind = K.Text; word = W.Text; start = 0; count = 0; line_before = false }) all listed in
       text-made before (spelling_of script t) stands.0 stands.1
 
   record Single-made (t : Lexeme) (w : Word) (before : List ℕ) : Type 0 where

@@ -1,5 +1,6 @@
 use Rattle.std.proofs.Common.{rules, ◌≡◌, ◌<◌, ◌≤◌, length, false, ltb, subst, arith, get_or}
 use Rattle.std.proofs.lemmas.List.Sorted.{IsPartitionPoint-from_clause}
+use Rattle.rip_grammar.specs.declared.word.Word.TheVariants as W
 use Rattle.rip_lexer.specs.declared.token.Token.{Token}
 use Rattle.rip_lexer.specs.declared.token.TokenKind.TheVariants as K
 use Rattle.rip_parser.specs.Listed.{AreInOrder, IsListed, IsTextToken}
@@ -8,7 +9,7 @@ use Rattle.rip_parser.proofs.literal.is_text_token.Goals as goal
 use Rattle.rip_parser.proofs.literal.is_text_token.Goals.{After-partition_point-index}
 
 abbrev no_token : Token
-no_token = record { kind = K.Name; start = 0; count = 0; line_before = false }
+no_token = record { kind = K.Name; word = W.Name; start = 0; count = 0; line_before = false }
 
 -- the listed text stands at the place that was found
 place : (c : After-partition_point-index) → AreInOrder c.args.tokens.now → (listed : IsListed c.args.tokens.now c.args.lexeme) → listed.0 ≡ c.partition_point-index.result

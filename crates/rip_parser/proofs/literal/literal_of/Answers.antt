@@ -1,5 +1,6 @@
 use Rattle.std.proofs.Common.{◌≡◌, false, ◌++◌, ◌∷◌, [], ℕ, List, refl, sym, ap, ◌∙◌, subst}
 use Rattle.std.specs.Prelude.{IsTrue, ◌↔◌}
+use Rattle.rip_grammar.specs.declared.word.Word.TheVariants as W
 use Rattle.rip_lexer.specs.Text.{StandsFor}
 use Rattle.rip_lexer.specs.declared.token.TokenKind.TheVariants as K
 use Rattle.rip_tree.specs.Making.{Growth}
@@ -9,7 +10,7 @@ use Rattle.rip_parser.proofs.literal.literal_of.Goals as goal
 use Rattle.rip_parser.proofs.literal.literal_of.Goals.{After-text_value-arg-1}
 
 stands : (c : After-text_value-arg-1) → (units : List ℕ) × StandsFor (spelling_of c.args.script.now c.args.lexeme) units
-stands c = text_stands c.args.script.now c.args.tokens.now c.args.lexeme (record { kind = K.Text; start = 0; count = 0; line_before = false }) c.requires (c.if-not-is_text_token.ensures.found refl)
+stands c = text_stands c.args.script.now c.args.tokens.now c.args.lexeme (record { kind = K.Text; word = W.Text; start = 0; count = 0; line_before = false }) c.requires (c.if-not-is_text_token.ensures.found refl)
 
 pub text_value-requires : goal.text_value-requires
 text_value-requires c = subst (λ (u : List ℕ). (units : List ℕ) × StandsFor u units) (sym c.spelling_of-spelling.ensures) (stands c)
