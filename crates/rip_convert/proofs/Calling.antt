@@ -2,21 +2,26 @@
 use Rattle.std.specs.Prelude.{IsTrue, IsSome, unwrap_or}
 use Rattle.rip_convert.proofs.Chars.{utf8_nil}
 use Rattle.std.proofs.Common.{rules, ◌≡◌, ◌≢◌, ◌↔◌, ℕ, ◌+◌, ◌-◌, ◌≤◌, nat_le, Bool, true, false, cond, Option, None, Some, Result, Ok, Err, List, [], ◌∷◌, ◌++◌, All, length, refl, sym, ap, subst, ◌∙◌, arith, append_assoc}
-use Rattle.std.proofs.lemmas.Bool.{le-leb}
+use Rattle.std.proofs.lemmas.Bool.{le-leb, leb-true}
 use Rattle.json.specs.Print.{quoted}
-use Rattle.serde_json.specs.Data.{Data}
+use Rattle.serde_json.specs.Data.{Data, Items, depth}
+use Rattle.serde_json.specs.Data as json
 use Rattle.serde_json.specs.Written.{compact_text}
 use Rattle.rip_values.specs.declared.value.Span.{Span}
 use Rattle.rip_values.specs.declared.value.Value.{Value}
 use Rattle.rip_values.specs.declared.value.Fault.{Fault}
 use Rattle.rip_values.specs.declared.value.Fault.TheVariants.{BadArgument}
 use Rattle.rip_values.specs.Pool.{text_at}
+use Rattle.rip_values.specs.declared.value.Value.TheVariants.{Object}
+use Rattle.rip_heap.specs.Arrays.{elements_at}
 use Rattle.rip_heap.specs.World.{World}
-use Rattle.rip_data.specs.Datum.{utf8_of}
-use Rattle.rip_convert.specs.Arguments.{Walk, text_judged, line_judged, call_line, call_text, walked}
-use Rattle.rip_convert.specs.Told.{IsCallOf}
-use Rattle.rip_convert.specs.Written.{added, left_after, value_data}
+use Rattle.rip_data.specs.Datum.{Tree, Elements, no_elements, element, elements_of, data_of, canonical_text, utf8_of}
+use Rattle.rip_data.specs.Datum as datum
+use Rattle.rip_convert.specs.Arguments.{text_judged, line_judged, call_line, call_text}
+use Rattle.rip_convert.specs.Told.{IsArgument, IsCallOf, CallsAreTold, ListsAreTold}
+use Rattle.rip_convert.specs.Written.{added, elements_data, left_after, parts_data, value_data}
 use Rattle.rip_convert.proofs.Judged.{with_data, walked-same}
+use Rattle.rip_convert.proofs.ToldData.{data-told, data-deep}
 use Rattle.rip_convert.proofs.Lines.{canonical_line, call_is_line, some_text, call_has_six}
 
 pub call_err : (w : World) (name : Span) (v : Value) (fault : Fault) → left_after 8 w v 16384 ≡ Err fault → call_text w name v ≡ Err fault
@@ -49,16 +54,77 @@ name_part name h = ap (λ b. cond b (Some (quoted name)) None) (le-leb (length (
 pub joined : (q t : List ℕ) → ((((91 ∷ []) ++ q) ++ 44 ∷ []) ++ t) ++ 93 ∷ [] ≡ 91 ∷ (q ++ 44 ∷ (t ++ 93 ∷ []))
 joined q t = ap (λ l. 91 ∷ l) (append_assoc (q ++ 44 ∷ []) t (93 ∷ []) ∙ append_assoc q (44 ∷ []) (t ++ 93 ∷ []))
 
+-- WHAT IS TOLD
+
+-- the text of a call is that of a datum, which is the data of the arguments
+call-told : (w : World) (name : Span) (v : Value) (text : List ℕ) → call_text w name v ≡ Ok text
+    → (t : Tree) × (IsArgument t × (data_of t ≡ value_data 8 w v) × (call_line (utf8_of (text_at w.pool name)) (canonical_text t) ≡ text))
+call-told w name v text h = by (left_after 8 w v 16384) refl (sym (ap (λ m. line_judged spelt (text_judged m)) (walked-same 8 w v 16384)) ∙ h)
+  where
+    spelt : List ℕ
+    spelt = utf8_of (text_at w.pool name)
+
+    d : Data
+    d = value_data 8 w v
+
+    fits : (rest : ℕ) → left_after 8 w v 16384 ≡ Ok rest → (b : Bool) → nat_le (length (compact_text d)) 16384 ≡ b
+        → ◌≡◌ {A = Result (List ℕ) Fault} (line_judged spelt (cond b (Ok (compact_text d)) (Err BadArgument))) (Ok text)
+        → (t : Tree) × (IsArgument t × (data_of t ≡ d) × (call_line spelt (canonical_text t) ≡ text))
+    fits rest left true short e =
+        let t = data-told 8 w v 16384 rest left in
+        let few : length (compact_text d) ≤ 16384 = leb-true (length (compact_text d)) 16384 short in
+        let line : call_line spelt (compact_text d) ≡ text = cc in (
+          t.0,
+          (
+            record {
+              made = t.1.0;
+              shallow = subst (λ x. depth x ≤ 8) (sym t.1.1) (data-deep 8 w v);
+              short = subst (λ x. length (compact_text x) ≤ 16384) (sym t.1.1) few;
+            },
+            t.1.1,
+            ap (λ x. call_line spelt (compact_text x)) t.1.1 ∙ line,
+          ),
+        )
+    fits rest left false short e = absurd (cc)
+
+    by : (m : Result ℕ Fault) → left_after 8 w v 16384 ≡ m → line_judged spelt (text_judged (with_data d m)) ≡ Ok text
+        → (t : Tree) × (IsArgument t × (data_of t ≡ d) × (call_line spelt (canonical_text t) ≡ text))
+    by (Ok rest) is e = fits rest is (nat_le (length (compact_text d)) 16384) refl e
+    by (Err fault) is e = absurd (cc)
+
+pub calls_are_told : CallsAreTold
+calls_are_told w name v text h = let t = call-told w name v text h in (canonical_text t.0, ((t.0, (t.1.0, refl)), t.1.2))
+
+list_of : (ts : Elements) → (args : List Tree) × (elements_of args ≡ ts)
+list_of no_elements = ([], refl)
+list_of (element t ts) = let rest = list_of ts in (t ∷ rest.0, ap (element t) rest.1)
+
+-- what has the data of an array is one
+array_of : (t : Tree) (ds : Items) → data_of t ≡ json.array ds → (args : List Tree) × (datum.array (elements_of args) ≡ t)
+array_of datum.null ds h = absurd (cc)
+array_of (datum.boolean b) ds h = absurd (cc)
+array_of (datum.number z) ds h = absurd (cc)
+array_of (datum.text u) ds h = absurd (cc)
+array_of (datum.array ts) ds h = let list = list_of ts in (list.0, ap datum.array list.1)
+array_of (datum.object fs) ds h = absurd (cc)
+
+pub lists_are_told : ListsAreTold
+lists_are_told w name n text is h =
+    let t = call-told w name (Object n) text h in
+    let d : value_data 8 w (Object n) ≡ json.array (elements_data (value_data 7 w) (elements_at w n)) = ap (λ holder. parts_data holder (value_data 7 w) w n) is in
+    let a = array_of t.0 (elements_data (value_data 7 w) (elements_at w n)) (t.1.1 ∙ d) in
+    (a.0, (subst IsArgument (sym a.1) t.1.0, ap (λ x. call_line (utf8_of (text_at w.pool name)) (canonical_text x)) a.1 ∙ t.1.2))
+
 pub line_of_call : (name text : List ℕ) → IsCallOf name text → All (λ byte. byte ≢ 10) text
 line_of_call name text h =
     let canonical = h.1.0 in
-    let args : All (λ byte. byte ≢ 10) h.0 = subst (All (λ byte. byte ≢ 10)) canonical.1.1 (canonical_line canonical.0 canonical.1.0) in
+    let args : All (λ byte. byte ≢ 10) h.0 = subst (All (λ byte. byte ≢ 10)) canonical.1.1 (canonical_line canonical.0 canonical.1.0.made) in
     subst (All (λ byte. byte ≢ 10)) h.1.1 (call_is_line name h.0 args)
 
 pub least_of_call : (name text : List ℕ) → IsCallOf name text → 6 ≤ length text
 least_of_call name text h =
     let canonical = h.1.0 in
-    let some : 1 ≤ length h.0 = subst (λ l. 1 ≤ length l) canonical.1.1 (some_text canonical.0 canonical.1.0) in
+    let some : 1 ≤ length h.0 = subst (λ l. 1 ≤ length l) canonical.1.1 (some_text canonical.0 canonical.1.0.made) in
     subst (λ l. 6 ≤ length l) h.1.1 (call_has_six name h.0 some)
 
 pub none_of : (o : Option (List ℕ)) (b : Bool) → (IsTrue b ↔ IsSome o) → b ≡ false → o ≡ None

@@ -1,8 +1,8 @@
 -- The judging and the data of a value are the walk over it; what the judging takes are its pieces.
-use Rattle.std.proofs.Common.{◌≡◌, ℕ, zero, suc, ◌+◌, ◌-◌, ◌≤◌, nat_le, Bool, true, false, cond, Result, Ok, Err, List, [], ◌∷◌, ◌++◌, length, map, refl, sym, ap, subst, ◌∙◌, arith, append_assoc, append-nil, inl, inr}
+use Rattle.std.proofs.Common.{◌≡◌, ℕ, ℤ, zero, suc, ◌+◌, ◌-◌, ◌≤◌, ◌&&◌, nat_le, Bool, true, false, cond, Result, Ok, Err, List, [], ◌∷◌, ◌++◌, length, map, refl, sym, ap, ◌∙◌, arith, append_assoc, append-nil, inl, inr}
 use Rattle.std.specs.Char.Utf16.{has_unpaired_surrogate}
-use Rattle.std.proofs.lemmas.Bool.{cases_lt, le-leb, lt-leb}
-use Rattle.serde_json.specs.Data.{Data, null, boolean, number, string, array, object, Items, no_items, item, Members, no_members, put}
+use Rattle.std.proofs.lemmas.Bool.{cases_lt, le-leb, leb-true, lt-leb}
+use Rattle.serde_json.specs.Data.{Data, null, number, string, array, object, item, Members, no_members, put}
 use Rattle.serde_json.specs.View.{items_of}
 use Rattle.rip_values.specs.declared.value.Value.{Value}
 use Rattle.rip_values.specs.declared.value.Value.TheVariants.{Undefined, Null, Bool as Boolean, Num, NaN, Text, Object}
@@ -16,8 +16,9 @@ use Rattle.rip_heap.specs.Arrays.{elements_at}
 use Rattle.rip_heap.specs.Holders.{holder_of}
 use Rattle.rip_heap.specs.World.{World, object_at}
 use Rattle.rip_data.specs.Datum.{number_of_whole, utf8_of}
-use Rattle.rip_convert.specs.Arguments.{Walk, then_walks, taking, spelled, elements_walked, fields_walked, properties_of, parts_walked, value_walked, walked}
-use Rattle.rip_convert.specs.Written.{then_left, spelled_left, elements_left, fields_left, parts_left, value_left, piece_left, left_after, elements_data, fields_data, parts_data, data_by, value_data, elements_pieces, fields_pieces, parts_pieces, pieces_by, pieces}
+use Rattle.rip_data.specs.Reading.{is_whole}
+use Rattle.rip_convert.specs.Arguments.{Walk, are_units, whole_walked, then_walks, taking, spelled, elements_walked, fields_walked, properties_of, parts_walked, value_walked, walked}
+use Rattle.rip_convert.specs.Written.{then_left, spelled_left, whole_left, elements_left, fields_left, parts_left, value_left, piece_left, left_after, elements_data, fields_data, parts_data, data_by, value_data, elements_pieces, fields_pieces, parts_pieces, pieces_by, pieces}
 
 -- what is found, where the judging leaves pieces
 abbrev pub with_data : {A : Type 0} → A → Result ℕ Fault → Walk A
@@ -25,7 +26,7 @@ with_data found (Ok left) = Ok (found, left)
 with_data found (Err fault) = Err fault
 
 spelled-same : (units : List ℕ) (left : ℕ) → spelled units left ≡ with_data (utf8_of units) (spelled_left units left)
-spelled-same units left = by (nat_le (length units) left) (has_unpaired_surrogate units)
+spelled-same units left = by (nat_le (length units) left && are_units units) (has_unpaired_surrogate units)
   where
     by : (b c : Bool) → cond b (cond c (Err LoneSurrogate) (Ok (utf8_of units, left - length units))) (Err BadArgument) ≡ with_data (utf8_of units) (cond b (cond c (Err LoneSurrogate) (Ok (left - length units))) (Err BadArgument))
     by true true = refl
@@ -91,11 +92,18 @@ text-then : (bytes : List ℕ) (m : Result ℕ Fault) → then_walks (with_data 
 text-then bytes (Ok rest) = refl
 text-then bytes (Err fault) = refl
 
+whole-same : (z : ℤ) (left : ℕ) → whole_walked z left ≡ with_data (number (number_of_whole z)) (whole_left z left)
+whole-same z left = by (is_whole (number_of_whole z))
+  where
+    by : (b : Bool) → cond b (Ok (number (number_of_whole z), left)) (Err BadArgument) ≡ with_data (number (number_of_whole z)) (cond b (Ok left) (Err BadArgument))
+    by true = refl
+    by false = refl
+
 value-same : (parts : ℕ → ℕ → Walk Data) (judge : ℕ → ℕ → Result ℕ Fault) (tell : ℕ → Data) → ((n left : ℕ) → parts n left ≡ with_data (tell n) (judge n left)) → (w : World) (v : Value) (left : ℕ) → value_walked parts w v left ≡ with_data (data_by tell w v) (value_left judge w v left)
 value-same parts judge tell each w Undefined left = refl
 value-same parts judge tell each w Null left = refl
 value-same parts judge tell each w (Boolean b) left = refl
-value-same parts judge tell each w (Num z) left = refl
+value-same parts judge tell each w (Num z) left = whole-same z left
 value-same parts judge tell each w NaN left = refl
 value-same parts judge tell each w (Text span) left =
     ap (λ m. then_walks m (λ bytes rest. Ok (string bytes, rest))) (spelled-same (text_at w.pool span) left) ∙ text-then (utf8_of (text_at w.pool span)) (spelled_left (text_at w.pool span) left)
@@ -123,19 +131,31 @@ walked-same (suc levels) w v left =
 
 -- PIECES
 
-then-ok : (m : Result ℕ Fault) (next : ℕ → Result ℕ Fault) (rest : ℕ) → then_left m next ≡ Ok rest → (mid : ℕ) × ((m ≡ Ok mid) × (next mid ≡ Ok rest))
+pub then-ok : (m : Result ℕ Fault) (next : ℕ → Result ℕ Fault) (rest : ℕ) → then_left m next ≡ Ok rest → (mid : ℕ) × ((m ≡ Ok mid) × (next mid ≡ Ok rest))
 then-ok (Ok mid) next rest h = (mid, (refl, h))
 then-ok (Err fault) next rest h = absurd (cc)
 
-spelled-pieces : (units : List ℕ) (left rest : ℕ) → spelled_left units left ≡ Ok rest → rest + length units ≡ left
-spelled-pieces units left rest h = elim (cases_lt left (length units)) [
-  | inl over ↦ absurd (let e = rw (lt-leb (length units) left over) at h in cc)
-  | inr fits ↦ by (has_unpaired_surrogate units) (rw (le-leb (length units) left fits) at h) fits
-]
+-- a text that is judged well fits the pieces, and is of units, of which no surrogate is without its partner
+pub spelled-ok : (units : List ℕ) (left rest : ℕ) → spelled_left units left ≡ Ok rest → (length units ≤ left) × (are_units units ≡ true) × (has_unpaired_surrogate units ≡ false) × (rest + length units ≡ left)
+spelled-ok units left rest h = by (nat_le (length units) left) (are_units units) (has_unpaired_surrogate units) refl refl refl h
   where
-    by : (c : Bool) → ◌≡◌ {A = Result ℕ Fault} (cond c (Err LoneSurrogate) (Ok (left - length units))) (Ok rest) → length units ≤ left → rest + length units ≡ left
-    by true e fits = absurd (cc)
-    by false e fits = let same : left - length units ≡ rest = cc in omega (arith, same, fits)
+    by : (a b c : Bool) → nat_le (length units) left ≡ a → are_units units ≡ b → has_unpaired_surrogate units ≡ c
+        → ◌≡◌ {A = Result ℕ Fault} (cond (a && b) (cond c (Err LoneSurrogate) (Ok (left - length units))) (Err BadArgument)) (Ok rest)
+        → (length units ≤ left) × (are_units units ≡ true) × (has_unpaired_surrogate units ≡ false) × (rest + length units ≡ left)
+    by true true false fits are none e =
+        let few = leb-true (length units) left fits in
+        let same : left - length units ≡ rest = cc in
+        (few, are, none, omega (arith, same, few))
+    by true true true fits are none e = absurd (cc)
+    by true false c fits are none e = absurd (cc)
+    by false b c fits are none e = absurd (cc)
+
+pub whole-ok : (z : ℤ) (left rest : ℕ) → whole_left z left ≡ Ok rest → (is_whole (number_of_whole z) ≡ true) × (left ≡ rest)
+whole-ok z left rest h = by (is_whole (number_of_whole z)) refl h
+  where
+    by : (b : Bool) → is_whole (number_of_whole z) ≡ b → ◌≡◌ {A = Result ℕ Fault} (cond b (Ok left) (Err BadArgument)) (Ok rest) → (is_whole (number_of_whole z) ≡ true) × (left ≡ rest)
+    by true is e = (is, cc)
+    by false is e = absurd (cc)
 
 module _ (judge : Value → ℕ → Result ℕ Fault) (count : Value → ℕ) (each : (v : Value) (left rest : ℕ) → judge v left ≡ Ok rest → rest + count v ≡ left) where
   elements-count : (vs : List Value) (left rest : ℕ) → elements_left judge vs left ≡ Ok rest → rest + elements_pieces count vs ≡ left
@@ -149,7 +169,7 @@ module _ (judge : Value → ℕ → Result ℕ Fault) (count : Value → ℕ) (e
   fields-count pool (p ∷ ps) left rest h =
       let s = then-ok (spelled_left (text_at pool p.name) left) (λ rest. then_left (judge p.value rest) (fields_left judge pool ps)) rest h in
       let t = then-ok (judge p.value s.0) (fields_left judge pool ps) rest s.1.1 in
-      omega (arith, spelled-pieces (text_at pool p.name) left s.0 s.1.0, each p.value s.0 t.0 t.1.0, fields-count pool ps t.0 rest t.1.1)
+      omega (arith, (spelled-ok (text_at pool p.name) left s.0 s.1.0).3, each p.value s.0 t.0 t.1.0, fields-count pool ps t.0 rest t.1.1)
 
   parts-count : (holder : Holder) (w : World) (n left rest : ℕ) → parts_left holder judge w n left ≡ Ok rest → rest + parts_pieces holder count w n ≡ left
   parts-count ArrayObject w n left rest h = elements-count (elements_at w n) left rest h
@@ -160,9 +180,9 @@ value-count : (parts : ℕ → ℕ → Result ℕ Fault) (count : ℕ → ℕ) �
 value-count parts count each w Undefined left rest h = absurd (cc)
 value-count parts count each w Null left rest h = let e : left ≡ rest = cc in omega (arith, e)
 value-count parts count each w (Boolean b) left rest h = let e : left ≡ rest = cc in omega (arith, e)
-value-count parts count each w (Num z) left rest h = let e : left ≡ rest = cc in omega (arith, e)
+value-count parts count each w (Num z) left rest h = omega (arith, (whole-ok z left rest h).1)
 value-count parts count each w NaN left rest h = absurd (cc)
-value-count parts count each w (Text span) left rest h = omega (arith, spelled-pieces (text_at w.pool span) left rest h)
+value-count parts count each w (Text span) left rest h = omega (arith, (spelled-ok (text_at w.pool span) left rest h).3)
 value-count parts count each w (Object n) left rest h = omega (arith, each n left rest h)
 
 piece-count : (left : ℕ) (next : ℕ → Result ℕ Fault) (rest count : ℕ) → ((mid : ℕ) → next mid ≡ Ok rest → rest + count ≡ mid + 1) → piece_left left next ≡ Ok rest → rest + count ≡ left

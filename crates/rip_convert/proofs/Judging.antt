@@ -1,23 +1,23 @@
 -- The judging of values, one part behind the other.
-use Rattle.std.proofs.Common.{◌≡◌, ℕ, ℤ, zero, suc, ◌+◌, ◌-◌, ◌<◌, ◌≤◌, nat_le, Bool, true, cond, inl, inr, Option, None, Some, option_map, Result, Ok, Err, List, [], ◌∷◌, drop, length, get_or, refl, sym, ap, ◌∙◌, arith}
+use Rattle.std.proofs.Common.{◌≡◌, ℕ, ℤ, zero, suc, ◌+◌, ◌-◌, ◌<◌, ◌≤◌, ◌&&◌, true, cond, inl, inr, Option, None, Some, option_map, Result, Ok, Err, List, [], ◌∷◌, drop, length, get_or, refl, sym, ap, ap₂, ◌∙◌, arith}
+use Rattle.std.specs.Char.Utf16.{has_unpaired_surrogate}
 use Rattle.std.specs.Prelude.{slice_get, option_and_then, unwrap_or}
 use Rattle.std.proofs.lemmas.Bool.{le-leb}
 use Rattle.std.proofs.lemmas.List.{at_drop_more, at_drop_all}
 use Rattle.std.proofs.lemmas.Option.{slice_get_cases}
 use Rattle.rip_values.specs.declared.value.Span.{Span}
 use Rattle.rip_values.specs.declared.value.Value.{Value}
-use Rattle.rip_values.specs.declared.value.Value.TheVariants.{Undefined, Null, Bool as Boolean, Num, Text, Object}
+use Rattle.rip_values.specs.declared.value.Value.TheVariants.{Undefined, Num, Text, Object}
 use Rattle.rip_values.specs.declared.value.Fault.{Fault}
-use Rattle.rip_values.specs.declared.value.Fault.TheVariants.{BadArgument}
+use Rattle.rip_values.specs.declared.value.Fault.TheVariants.{BadArgument, LoneSurrogate}
 use Rattle.rip_values.specs.Pool.{Texts, text_at}
+use Rattle.rip_values.specs.Whole.{IsWhole}
 use Rattle.rip_heap.specs.declared.property.Property.{Property}
 use Rattle.rip_heap.specs.Holders.{holder_of}
 use Rattle.rip_heap.specs.World.{World, Object as HeapObject, object_at}
-use Rattle.rip_convert.specs.Arguments.{properties_of}
-use Rattle.rip_convert.specs.Written.{then_left, spelled_left, elements_left, fields_left, parts_left, piece_left, left_after, parts_data, value_data}
-use Rattle.serde_json.specs.Data.{null, boolean, number, string}
-use Rattle.rip_data.specs.Datum.{number_of_whole, utf8_of}
-use Rattle.std.specs.Result.{OnOk}
+use Rattle.rip_convert.specs.Arguments.{are_units, properties_of}
+use Rattle.rip_convert.specs.Written.{then_left, spelled_left, whole_left, elements_left, fields_left, parts_left, piece_left, left_after}
+use Rattle.rip_convert.proofs.Telling.{is_whole_of}
 
 abbrev named : Property → Span × Value
 named p = (p.name, p.value)
@@ -65,40 +65,24 @@ left_object (suc levels) w n left h some =
     ap (λ b. cond b (parts_left (holder_of (object_at w n)) (left_after levels w) w n (left - 1)) (Err BadArgument)) (le-leb 1 left some)
     ∙ ap (λ k. parts_left (holder_of (object_at w n)) (left_after k w) w n (left - 1)) (sym e)
 
-pub no_property : (o : Option HeapObject) (i : ℕ) → option_map named (option_and_then (λ o. slice_get o.properties i) o) ≡ None → length (properties_of o) ≤ i
-no_property None i h = omega arith
-no_property (Some o) i h = elim (slice_get_cases o.properties i).1 [
-  | inl there ↦ absurd (let some : ◌≡◌ {A = Option (Span × Value)} (Some (named there.0)) None = sym (ap (option_map named) there.2) ∙ h in cc)
-  | inr past ↦ past.0
-]
-
 -- a text
 pub left_text : (levels : ℕ) (w : World) (span : Span) (left : ℕ) → 0 < left → left_after levels w (Text span) left ≡ spelled_left (text_at w.pool span) (left - 1)
 left_text zero w span left some = ap (λ b. cond b (spelled_left (text_at w.pool span) (left - 1)) (Err BadArgument)) (le-leb 1 left some)
 left_text (suc levels) w span left some = ap (λ b. cond b (spelled_left (text_at w.pool span) (left - 1)) (Err BadArgument)) (le-leb 1 left some)
 
-pub data_text : (levels : ℕ) (w : World) (span : Span) → value_data levels w (Text span) ≡ string (utf8_of (text_at w.pool span))
-data_text zero w span = refl
-data_text (suc levels) w span = refl
+-- a number
+pub left_number : (levels : ℕ) (w : World) (z : ℤ) (left : ℕ) → IsWhole z → 0 < left → left_after levels w (Num z) left ≡ Ok (left - 1)
+left_number levels w z left whole some = by levels
+  where
+    here : piece_left left (whole_left z) ≡ Ok (left - 1)
+    here = ap (λ b. cond b (whole_left z (left - 1)) (Err BadArgument)) (le-leb 1 left some) ∙ ap (λ b. cond b (Ok (left - 1)) (Err BadArgument)) (is_whole_of z whole)
 
-pub data_object : (levels : ℕ) (w : World) (n : ℕ) → 0 < levels → value_data levels w (Object n) ≡ parts_data (holder_of (object_at w n)) (value_data (levels - 1) w) w n
-data_object zero w n h = absurd (omega (arith, h))
-data_object (suc levels) w n h =
-    let e : suc levels - 1 ≡ levels = omega arith in
-    ap (λ k. parts_data (holder_of (object_at w n)) (value_data k w) w n) (sym e)
+    by : (levels : ℕ) → left_after levels w (Num z) left ≡ Ok (left - 1)
+    by zero = here
+    by (suc levels) = here
 
-pub on_ok : {T E : Type 0} (r : Result T E) (P Q : Type 0) → OnOk r P → (P → Q) → OnOk r Q
-on_ok (Ok a) P Q h f = f h
-on_ok (Err e) P Q h f = h
-
-pub data_null : (levels : ℕ) (w : World) → value_data levels w Null ≡ null
-data_null zero w = refl
-data_null (suc levels) w = refl
-
-pub data_number : (levels : ℕ) (w : World) (z : ℤ) → value_data levels w (Num z) ≡ number (number_of_whole z)
-data_number zero w z = refl
-data_number (suc levels) w z = refl
-
-pub data_boolean : (levels : ℕ) (w : World) (b : Bool) → value_data levels w (Boolean b) ≡ boolean b
-data_boolean zero w b = refl
-data_boolean (suc levels) w b = refl
+-- units that fit
+pub left_units : (units : List ℕ) (left : ℕ) → length units ≤ left → are_units units ≡ true → spelled_left units left ≡ cond (has_unpaired_surrogate units) (Err LoneSurrogate) (Ok (left - length units))
+left_units units left fits are =
+    ap (λ b. cond b (cond (has_unpaired_surrogate units) (Err LoneSurrogate) (Ok (left - length units))) (Err BadArgument))
+    (ap₂ (λ x y. x && y) (le-leb (length units) left fits) are)

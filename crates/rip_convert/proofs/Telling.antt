@@ -1,19 +1,35 @@
 -- What is told is data that is well made.
-use Rattle.std.proofs.Common.{◌≡◌, ℕ, ℤ, pos, negsuc, List, [], ◌∷◌, ◌++◌, Ordering, Less, Equal, Greater, refl, sym, ap, ap₂, ◌∙◌, subst}
+use Rattle.std.specs.Prelude.{⊤}
+use Rattle.std.proofs.Common.{arith, ◌≡◌, ℕ, ℤ, pos, negsuc, true, List, Ordering, Less, Equal, Greater, refl, sym, ap, ap₂, ◌∙◌, subst}
 use Rattle.std.specs.Ordering.{nat_cmp, match_ordering}
 use Rattle.std.specs.Cmp.Lexicographic.{slice_cmp}
 use Rattle.serde_json.specs.Data.{Data, Items, no_items, item, Members, no_members, member, put}
 use Rattle.serde_json.specs.Data as json
-use Rattle.serde_json.specs.Find.{of_integer}
-use Rattle.serde_json.specs.View.{view, items_view}
-use Rattle.serde_json.specs.declared.value.Value.{Value as JsonValue}
-use Rattle.rip_values.specs.Text.{IsSameText}
+use Rattle.rip_values.specs.Text.{IsUtf16}
 use Rattle.rip_values.specs.Whole.{IsWhole}
-use Rattle.rip_data.proofs.DataLemmas.{utf8_of-IsSameText, IsUtf16-IsSameText}
-use Rattle.rip_data.specs.Datum.{number, text, array, object, Elements, no_elements, element, Fields, no_fields, field, data_of, items_of, members_of, number_of_whole, AreData, HaveData, AreInOrder}
-use Rattle.rip_convert.specs.Told.{IsSpelt, IsTold, AreTold, HaveTold}
+use Rattle.std.proofs.lemmas.Int.{ints}
+use Rattle.rip_data.specs.Reading.{is_whole}
+use Rattle.rip_data.specs.Datum.{Tree, number, text, array, object, Elements, no_elements, element, Fields, no_fields, field, data_of, items_of, members_of, number_of_whole, utf8_of, IsDatum, AreData, HaveData, AreInOrder}
 
-elements : (ds : Items) → AreTold ds → (ts : Elements) × (AreData ts × (items_of ts ≡ ds))
+-- the bytes are the UTF-8 of a text of UTF-16 units
+abbrev pub IsSpelt : List ℕ → Type 0
+IsSpelt bytes = (units : List ℕ) × (IsUtf16 units × (utf8_of units ≡ bytes))
+
+-- the data is that of a datum that is well made
+abbrev pub IsTold : Data → Type 0
+IsTold d = (t : Tree) × (IsDatum t × (data_of t ≡ d))
+
+-- each of the items is
+abbrev pub AreTold : Items → Type 0
+AreTold no_items = ⊤
+AreTold (item d ds) = IsTold d × AreTold ds
+
+-- each of the members is, and its name is a text
+abbrev pub HaveTold : Members → Type 0
+HaveTold no_members = ⊤
+HaveTold (member k d ms) = IsSpelt k × (IsTold d × HaveTold ms)
+
+pub elements : (ds : Items) → AreTold ds → (ts : Elements) × (AreData ts × (items_of ts ≡ ds))
 elements no_items h = (no_elements, (tt, refl))
 elements (item d ds) h =
     let rest = elements ds h.1 in
@@ -42,6 +58,15 @@ told_items ds h = let all = elements ds h in (array all.0, (all.1.0, ap json.arr
 
 pub told_members : (ms : Members) → HaveTold ms → AreInOrder ms → IsTold (json.object ms)
 told_members ms h order = let all = fields ms h in (object all.0, ((all.1.0, subst AreInOrder (sym all.1.1) order), ap json.object all.1.1))
+
+-- the test of a whole number, and what it says
+pub whole_is : (z : ℤ) → is_whole (number_of_whole z) ≡ true → IsWhole z
+whole_is (pos n) h = grind (arith, ints)
+whole_is (negsuc n) h = grind (arith, ints)
+
+pub is_whole_of : (z : ℤ) → IsWhole z → is_whole (number_of_whole z) ≡ true
+is_whole_of (pos n) h = grind (arith, ints)
+is_whole_of (negsuc n) h = grind (arith, ints)
 
 pub told_whole : (z : ℤ) → IsWhole z → IsTold (json.number (number_of_whole z))
 told_whole z h = (number z, (h, refl))

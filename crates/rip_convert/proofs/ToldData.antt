@@ -1,35 +1,28 @@
--- The data of values that were judged is well made.
-use Rattle.std.proofs.Common.{◌≡◌, ℕ, ◌+◌, ◌<◌, Option, None, Some, option_map, inl, inr, List, [], ◌∷◌, ◌++◌, Ordering, Less, Equal, Greater, drop, take, get_or, length, refl, sym, ap, subst, ◌∙◌, arith}
+-- The data of values that were judged is well made, and nests no deeper than there are levels.
+use Rattle.std.proofs.Common.{◌≡◌, ℕ, zero, suc, ◌-◌, ◌≤◌, Result, Ok, Err, inl, inr, List, [], ◌∷◌, Ordering, Less, Equal, Greater, refl, ap, ◌∙◌, arith}
 use Rattle.std.specs.Ordering.{nat_cmp, match_ordering, ordering_reverse}
 use Rattle.std.specs.Cmp.Lexicographic.{slice_cmp}
+use Rattle.std.proofs.lemmas.Bool.{cases_lt, le-leb, lt-leb}
 use Rattle.std.proofs.lemmas.Cmp.{nat_list_cmp_total}
-use Rattle.std.proofs.lemmas.List.{take_more}
-use Rattle.serde_json.specs.Data.{Data, array, object, Items, Members, no_members, member, put}
-use Rattle.std.specs.Prelude.{option_and_then, slice_get, unwrap_or}
-use Rattle.std.proofs.lemmas.Option.{slice_get_cases}
-use Rattle.rip_values.specs.declared.value.Span.{Span}
+use Rattle.serde_json.specs.Data.{Data, null, boolean, Members, no_members, member, put, depth, items_depth, members_depth}
 use Rattle.rip_values.specs.declared.value.Value.{Value}
-use Rattle.rip_values.specs.declared.value.Value.TheVariants.{Undefined}
-use Rattle.rip_heap.specs.World.{Object as HeapObject}
-use Rattle.rip_convert.specs.Arguments.{properties_of}
+use Rattle.rip_values.specs.declared.value.Value.TheVariants.{Undefined, Null, Bool as Boolean, Num, NaN, Text, Object}
+use Rattle.rip_values.specs.declared.value.Fault.{Fault}
+use Rattle.rip_values.specs.declared.value.Fault.TheVariants.{BadArgument}
 use Rattle.rip_values.specs.Pool.{Texts, text_at}
+use Rattle.rip_heap.specs.declared.holder.Holder.{Holder}
+use Rattle.rip_heap.specs.declared.holder.Holder.TheVariants.{PlainObject, ArrayObject, OtherObject}
 use Rattle.rip_heap.specs.declared.property.Property.{Property}
+use Rattle.rip_heap.specs.Arrays.{elements_at}
+use Rattle.rip_heap.specs.Holders.{holder_of}
+use Rattle.rip_heap.specs.World.{World, object_at}
 use Rattle.rip_data.specs.Datum.{utf8_of, IsBeforeAll, AreInOrder}
-use Rattle.rip_convert.specs.Told.{IsSpelt, IsTold, AreTold, HaveTold}
-use Rattle.rip_convert.specs.Written.{elements_data, fields_data}
-use Rattle.rip_convert.proofs.Telling.{told_put}
-
-pub told-more : (tell : Value → Data) (vs : List Value) (v : Value) → AreTold (elements_data tell vs) → IsTold (tell v) → AreTold (elements_data tell (vs ++ v ∷ []))
-told-more tell [] v h new = (new, tt)
-told-more tell (x ∷ vs) v h new = (h.0, told-more tell vs v h.1 new)
-
-pub fields-more : (tell : Value → Data) (pool : Texts) (found : Members) (ps : List Property) (p : Property) → fields_data tell pool found (ps ++ p ∷ []) ≡ put (utf8_of (text_at pool p.name)) (tell p.value) (fields_data tell pool found ps)
-fields-more tell pool found [] p = refl
-fields-more tell pool found (q ∷ ps) p = fields-more tell pool (put (utf8_of (text_at pool q.name)) (tell q.value) found) ps p
-
-pub element-told : (tell : Value → Data) (vs : List Value) (i : ℕ) (v : Value) → i < length vs → v ≡ get_or vs i Undefined → AreTold (elements_data tell (take i vs)) → IsTold (tell v) → AreTold (elements_data tell (take (i + 1) vs))
-element-told tell vs i v h is done new =
-    subst (λ xs. AreTold (elements_data tell xs)) (sym (take_more vs i Undefined h)) (told-more tell (take i vs) (get_or vs i Undefined) done (subst (λ x. IsTold (tell x)) is new))
+use Rattle.rip_data.specs.Datum as datum
+use Rattle.rip_convert.specs.Arguments.{properties_of}
+use Rattle.rip_convert.specs.Written.{then_left, spelled_left, elements_left, fields_left, parts_left, value_left, piece_left, left_after, elements_data, fields_data, parts_data, data_by, value_data}
+use Rattle.rip_convert.proofs.Judged.{then-ok, spelled-ok, whole-ok}
+use Rattle.rip_convert.proofs.Telling.{IsSpelt, IsTold, AreTold, HaveTold, told_put, told_items, told_members, told_whole, told_spelt, whole_is}
+use Rattle.rip_convert.proofs.Utf16.{spelt_of}
 
 -- ORDER
 
@@ -57,33 +50,98 @@ ordered-put k d (member l e ms) h = by (slice_cmp nat_cmp k l) refl (ordered-put
         let less : slice_cmp nat_cmp l k ≡ Less = nat_list_cmp_total.antisymm l k ∙ ap ordering_reverse is in
         (before-put l k d ms less h.0, further)
 
--- FIELDS
+-- WHAT IS TOLD
 
-abbrev named : Property → Span × Value
-named p = (p.name, p.value)
+spelled-told : (units : List ℕ) (left rest : ℕ) → spelled_left units left ≡ Ok rest → IsSpelt (utf8_of units)
+spelled-told units left rest h = let ok = spelled-ok units left rest h in spelt_of units ok.1 ok.2
 
--- those before and at a place
-field-taken : (tell : Value → Data) (pool : Texts) (o : Option HeapObject) (i : ℕ) (name : Span) (v : Value) → option_map named (option_and_then (λ o. slice_get o.properties i) o) ≡ Some (name, v)
-    → fields_data tell pool no_members (take (i + 1) (properties_of o)) ≡ put (utf8_of (text_at pool name)) (tell v) (fields_data tell pool no_members (take i (properties_of o)))
-field-taken tell pool None i name v h = absurd (cc)
-field-taken tell pool (Some o) i name v h = elim (slice_get_cases o.properties i).1 [
-  | inl there ↦
-      let same : Some (named there.0) ≡ Some (name, v) = sym (ap (option_map named) there.2) ∙ h in
-      let pair : named there.0 ≡ (name, v) = ap (λ r. unwrap_or r (name, v)) same in
-      let found = fields_data tell pool no_members (take i o.properties) in
-      ap (fields_data tell pool no_members) (take_more o.properties i there.0 there.1)
-      ∙ fields-more tell pool no_members (take i o.properties) (get_or o.properties i there.0)
-      ∙ ap (λ p. put (utf8_of (text_at pool p.name)) (tell p.value) found) there.3
-      ∙ ap (λ q. put (utf8_of (text_at pool q.0)) (tell q.1) found) pair
-  | inr past ↦ absurd (let none : ◌≡◌ {A = Option (Span × Value)} None (Some (name, v)) = sym (ap (option_map named) past.1) ∙ h in cc)
+module _ (judge : Value → ℕ → Result ℕ Fault) (tell : Value → Data) (each : (v : Value) (left rest : ℕ) → judge v left ≡ Ok rest → IsTold (tell v)) where
+  elements-told : (vs : List Value) (left rest : ℕ) → elements_left judge vs left ≡ Ok rest → AreTold (elements_data tell vs)
+  elements-told [] left rest h = tt
+  elements-told (v ∷ vs) left rest h =
+      let t = then-ok (judge v left) (elements_left judge vs) rest h in
+      (each v left t.0 t.1.0, elements-told vs t.0 rest t.1.1)
+
+  fields-told : (pool : Texts) (found : Members) (ps : List Property) (left rest : ℕ) → fields_left judge pool ps left ≡ Ok rest → HaveTold found → AreInOrder found
+      → HaveTold (fields_data tell pool found ps) × AreInOrder (fields_data tell pool found ps)
+  fields-told pool found [] left rest h told order = (told, order)
+  fields-told pool found (p ∷ ps) left rest h told order =
+      let s = then-ok (spelled_left (text_at pool p.name) left) (λ rest. then_left (judge p.value rest) (fields_left judge pool ps)) rest h in
+      let t = then-ok (judge p.value s.0) (fields_left judge pool ps) rest s.1.1 in
+      let name = utf8_of (text_at pool p.name) in
+      fields-told pool (put name (tell p.value) found) ps t.0 rest t.1.1
+      (told_put name (tell p.value) found (spelled-told (text_at pool p.name) left s.0 s.1.0) (each p.value s.0 t.0 t.1.0) told)
+      (ordered-put name (tell p.value) found order)
+
+  parts-told : (holder : Holder) (w : World) (n left rest : ℕ) → parts_left holder judge w n left ≡ Ok rest → IsTold (parts_data holder tell w n)
+  parts-told ArrayObject w n left rest h = told_items (elements_data tell (elements_at w n)) (elements-told (elements_at w n) left rest h)
+  parts-told PlainObject w n left rest h =
+      let ps = properties_of (object_at w n) in
+      let all = fields-told w.pool no_members ps left rest h tt tt in
+      told_members (fields_data tell w.pool no_members ps) all.0 all.1
+  parts-told OtherObject w n left rest h = absurd (cc)
+
+value-told : (parts : ℕ → ℕ → Result ℕ Fault) (tell : ℕ → Data) → ((n left rest : ℕ) → parts n left ≡ Ok rest → IsTold (tell n)) → (w : World) (v : Value) (left rest : ℕ) → value_left parts w v left ≡ Ok rest → IsTold (data_by tell w v)
+value-told parts tell each w Undefined left rest h = absurd (cc)
+value-told parts tell each w Null left rest h = (datum.null, (tt, refl))
+value-told parts tell each w (Boolean b) left rest h = (datum.boolean b, (tt, refl))
+value-told parts tell each w (Num z) left rest h = told_whole z (whole_is z (whole-ok z left rest h).0)
+value-told parts tell each w NaN left rest h = absurd (cc)
+value-told parts tell each w (Text span) left rest h = told_spelt (utf8_of (text_at w.pool span)) (spelled-told (text_at w.pool span) left rest h)
+value-told parts tell each w (Object n) left rest h = each n left rest h
+
+piece-told : (left : ℕ) (next : ℕ → Result ℕ Fault) (rest : ℕ) (d : Data) → ((mid : ℕ) → next mid ≡ Ok rest → IsTold d) → piece_left left next ≡ Ok rest → IsTold d
+piece-told left next rest d each h = elim (cases_lt left 1) [
+  | inl none ↦ absurd (let e = rw (lt-leb 1 left none) at h in cc)
+  | inr some ↦ each (left - 1) (rw (le-leb 1 left some) at h)
 ]
 
-pub field-told : (tell : Value → Data) (pool : Texts) (o : Option HeapObject) (i : ℕ) (name : Span) (v : Value) → option_map named (option_and_then (λ o. slice_get o.properties i) o) ≡ Some (name, v)
-    → HaveTold (fields_data tell pool no_members (take i (properties_of o))) → IsSpelt (utf8_of (text_at pool name)) → IsTold (tell v) → HaveTold (fields_data tell pool no_members (take (i + 1) (properties_of o)))
-field-told tell pool o i name v h done spelt told =
-    subst HaveTold (sym (field-taken tell pool o i name v h)) (told_put (utf8_of (text_at pool name)) (tell v) (fields_data tell pool no_members (take i (properties_of o))) spelt told done)
+-- the data of a value where the judging leaves pieces
+pub data-told : (levels : ℕ) (w : World) (v : Value) (left rest : ℕ) → left_after levels w v left ≡ Ok rest → IsTold (value_data levels w v)
+data-told zero w v left rest h =
+    piece-told left (value_left (λ n rest. Err BadArgument) w v) rest (data_by (λ n. null) w v)
+    (λ mid e. value-told (λ n rest. Err BadArgument) (λ n. null) (λ n left rest none. absurd (cc)) w v mid rest e) h
+data-told (suc levels) w v left rest h =
+    piece-told left (value_left (λ n rest. parts_left (holder_of (object_at w n)) (left_after levels w) w n rest) w v) rest (data_by (λ n. parts_data (holder_of (object_at w n)) (value_data levels w) w n) w v)
+    (λ mid e. value-told (λ n rest. parts_left (holder_of (object_at w n)) (left_after levels w) w n rest) (λ n. parts_data (holder_of (object_at w n)) (value_data levels w) w n)
+    (λ n left rest f. parts-told (left_after levels w) (value_data levels w) (data-told levels w) (holder_of (object_at w n)) w n left rest f) w v mid rest e) h
 
-pub field-ordered : (tell : Value → Data) (pool : Texts) (o : Option HeapObject) (i : ℕ) (name : Span) (v : Value) → option_map named (option_and_then (λ o. slice_get o.properties i) o) ≡ Some (name, v)
-    → AreInOrder (fields_data tell pool no_members (take i (properties_of o))) → AreInOrder (fields_data tell pool no_members (take (i + 1) (properties_of o)))
-field-ordered tell pool o i name v h done =
-    subst AreInOrder (sym (field-taken tell pool o i name v h)) (ordered-put (utf8_of (text_at pool name)) (tell v) (fields_data tell pool no_members (take i (properties_of o))) done)
+-- HOW DEEP IT NESTS
+
+put-deep : (most : ℕ) (k : List ℕ) (d : Data) (ms : Members) → depth d ≤ most → members_depth ms ≤ most → members_depth (put k d ms) ≤ most
+put-deep most k d no_members one all = omega arith
+put-deep most k d (member l e ms) one all = by (slice_cmp nat_cmp k l) (put-deep most k d ms one (omega arith))
+  where
+    by : (o : Ordering) → members_depth (put k d ms) ≤ most → members_depth (match_ordering o (member k d (member l e ms)) (member l d ms) (member l e (put k d ms))) ≤ most
+    by Less further = omega arith
+    by Equal further = omega arith
+    by Greater further = omega arith
+
+module _ (most : ℕ) (tell : Value → Data) (each : (v : Value) → depth (tell v) ≤ most) where
+  elements-deep : (vs : List Value) → items_depth (elements_data tell vs) ≤ most
+  elements-deep [] = omega arith
+  elements-deep (v ∷ vs) = omega (arith, each v, elements-deep vs)
+
+  fields-deep : (pool : Texts) (found : Members) (ps : List Property) → members_depth found ≤ most → members_depth (fields_data tell pool found ps) ≤ most
+  fields-deep pool found [] h = h
+  fields-deep pool found (p ∷ ps) h =
+      fields-deep pool (put (utf8_of (text_at pool p.name)) (tell p.value) found) ps (put-deep most (utf8_of (text_at pool p.name)) (tell p.value) found (each p.value) h)
+
+  parts-deep : (holder : Holder) (w : World) (n : ℕ) → depth (parts_data holder tell w n) ≤ suc most
+  parts-deep ArrayObject w n = omega (arith, elements-deep (elements_at w n))
+  parts-deep PlainObject w n = omega (arith, fields-deep w.pool no_members (properties_of (object_at w n)) (omega arith))
+  parts-deep OtherObject w n = omega arith
+
+value-deep : (most : ℕ) (tell : ℕ → Data) → ((n : ℕ) → depth (tell n) ≤ most) → (w : World) (v : Value) → depth (data_by tell w v) ≤ most
+value-deep most tell each w Undefined = omega arith
+value-deep most tell each w Null = omega arith
+value-deep most tell each w (Boolean b) = omega arith
+value-deep most tell each w (Num z) = omega arith
+value-deep most tell each w NaN = omega arith
+value-deep most tell each w (Text span) = omega arith
+value-deep most tell each w (Object n) = each n
+
+pub data-deep : (levels : ℕ) (w : World) (v : Value) → depth (value_data levels w v) ≤ levels
+data-deep zero w v = value-deep 0 (λ n. null) (λ n. omega arith) w v
+data-deep (suc levels) w v =
+    value-deep (suc levels) (λ n. parts_data (holder_of (object_at w n)) (value_data levels w) w n) (λ n. parts-deep levels (value_data levels w) (data-deep levels w) (holder_of (object_at w n)) w n) w v

@@ -1,17 +1,26 @@
 -- A text in which no surrogate is without its partner is UTF-16.
-use Rattle.std.proofs.Common.{◌≡◌, ℕ, zero, suc, ◌+◌, ◌-◌, ◌*◌, ◌/◌, ◌%◌, ◌<◌, ◌≤◌, Bool, true, false, cond, not, ◌||◌, ◌&&◌, Option, None, Some, List, [], ◌∷◌, ◌++◌, length, get_or, refl, sym, ap, ap₂, subst, ◌∙◌, arith, inl, inr, ◌⊎◌}
-use Rattle.std.specs.Prelude.{is_some}
+use Rattle.std.proofs.Common.{◌≡◌, ℕ, zero, suc, ◌+◌, ◌-◌, ◌/◌, ◌%◌, ◌<◌, ◌≤◌, Bool, true, false, not, ◌&&◌, List, [], ◌∷◌, ◌++◌, length, get_or, refl, sym, ap, ap₂, subst, ◌∙◌, arith, inl, inr, ◌⊎◌}
+use Rattle.std.specs.Prelude.{is_some, nat_lt}
 use Rattle.std.specs.List.{list_any}
 use Rattle.std.specs.Char.Escape.{encode_utf16}
 use Rattle.std.specs.Char.Utf16.{has_unpaired_surrogate, surrogate_pair_char, utf16_chars}
 use Rattle.std.specs.Char.{IsScalar}
-use Rattle.std.proofs.lemmas.Bool.{cases_lt, lt-ltb, le-ltb}
-use Rattle.std.proofs.str.Utf16.{lone_unit_char_low, lone_unit_char_high, lone_unit_char_surrogate, utf16_chars-nil, utf16_chars_lone, utf16_chars_pair}
-use Rattle.rip_values.specs.Text.{encode_utf16_all, IsUtf16}
+use Rattle.std.proofs.lemmas.Bool.{cases_lt, lt-ltb, le-ltb, ltb-true}
+use Rattle.std.proofs.str.Utf16.{lone_unit_char_low, lone_unit_char_high, lone_unit_char_surrogate, utf16_chars_lone, utf16_chars_pair}
+use Rattle.rip_values.specs.Text.{IsUtf16}
 use Rattle.rip_data.specs.Datum.{utf8_of}
 use Rattle.rip_data.specs.Written.{IsPair}
-use Rattle.rip_convert.specs.Told.{IsSpelt}
+use Rattle.rip_convert.specs.Arguments.{are_units}
+use Rattle.rip_convert.proofs.Telling.{IsSpelt}
 use Rattle.rip_convert.proofs.Chars.{scalar-low, scalar-high}
+
+and_first : (a b : Bool) → a && b ≡ true → a ≡ true
+and_first true b h = refl
+and_first false b h = absurd (cc)
+
+and_second : (a b : Bool) → a && b ≡ true → b ≡ true
+and_second true b h = h
+and_second false b h = absurd (cc)
 
 pair? : (u v : ℕ) → IsPair u v ⊎ ¬ (IsPair u v)
 pair? u v = elim (cases_lt u 0xD800) [
@@ -77,5 +86,15 @@ whole (suc fuel) (u ∷ v ∷ us) h all none = elim (pair? u v) [
   | inr alone ↦ alone_step u (v ∷ us) (all 0) alone none (whole fuel (v ∷ us) (omega (arith, h)) (λ k. all (suc k)))
 ]
 
-pub spelt_of : (us : List ℕ) → ((k : ℕ) → get_or us k 0 < 65536) → has_unpaired_surrogate us ≡ false → IsSpelt (utf8_of us)
-spelt_of us all none = (us, (whole (length us) us (omega arith) all none, refl))
+-- the test of units, and what it says
+units-below : (us : List ℕ) → are_units us ≡ true → (k : ℕ) → get_or us k 0 < 65536
+units-below [] h k = omega arith
+units-below (u ∷ us) h zero = ltb-true u 65536 (and_first (nat_lt u 65536) (are_units us) h)
+units-below (u ∷ us) h (suc k) = units-below us (and_second (nat_lt u 65536) (are_units us) h) k
+
+pub are_units_of : (us : List ℕ) → ((k : ℕ) → get_or us k 0 < 65536) → are_units us ≡ true
+are_units_of [] all = refl
+are_units_of (u ∷ us) all = ap₂ (λ x y. x && y) (lt-ltb u 65536 (all 0)) (are_units_of us (λ k. all (suc k)))
+
+pub spelt_of : (us : List ℕ) → are_units us ≡ true → has_unpaired_surrogate us ≡ false → IsSpelt (utf8_of us)
+spelt_of us are none = (us, (whole (length us) us (omega arith) (units-below us are) none, refl))

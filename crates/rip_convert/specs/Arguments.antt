@@ -1,5 +1,6 @@
 -- Data made of values: what the arguments of a call to the server are as JSON (RFC 8259).
-use Rattle.std.specs.Prelude.{ℕ, zero, suc, ◌-◌, nat_le, if◌then◌else◌, List, [], ◌∷◌, ◌++◌, length, Option, None, Some, Result, Ok, Err}
+use Rattle.std.specs.Prelude.{ℕ, ℤ, zero, suc, ◌-◌, ◌^◌, ◌&&◌, nat_le, nat_lt, Bool, if◌then◌else◌, List, [], ◌∷◌, ◌++◌, length, Option, None, Some, Result, Ok, Err}
+use Rattle.std.specs.List.{list_all}
 use Rattle.std.specs.Char.Utf16.{has_unpaired_surrogate}
 use Rattle.json.specs.Print.{quoted}
 use Rattle.serde_json.specs.Data.{Data, null, boolean, number, string, array, object, Members, no_members, put}
@@ -18,6 +19,7 @@ use Rattle.rip_heap.specs.Arrays.{elements_at}
 use Rattle.rip_heap.specs.Holders.{holder_of}
 use Rattle.rip_heap.specs.World.{World, Object as HeapObject, object_at}
 use Rattle.rip_data.specs.Datum.{number_of_whole, utf8_of}
+use Rattle.rip_data.specs.Reading.{is_whole}
 
 -- what a walk over values finds, and how many pieces are left to it; or the fault that ends it
 abbrev pub Walk : Type 0 → Type 0
@@ -32,10 +34,15 @@ then_walks (Err fault) next = Err fault
 abbrev pub taking : {A : Type 0} → ℕ → (ℕ → Walk A) → Walk A
 taking left next = if nat_le 1 left then next (left - 1) else Err BadArgument
 
--- a text or a name in UTF-8: each of its units is a piece, and no surrogate is without its partner
+-- each number is a unit of UTF-16 (RFC 2781), below 2^16, as in each text of a heap
+abbrev pub are_units : List ℕ → Bool
+are_units units = list_all (λ unit. nat_lt unit (2 ^ 16)) units
+
+-- a text or a name in UTF-8: each of its units is a piece, and no surrogate is without its partner; numbers that are no units
+-- are no data
 abbrev pub spelled : List ℕ → ℕ → Walk (List ℕ)
 spelled units left =
-    if nat_le (length units) left then
+    if nat_le (length units) left && are_units units then
     (if has_unpaired_surrogate units then Err LoneSurrogate else Ok (utf8_of units, left - length units))
     else Err BadArgument
 
@@ -66,12 +73,16 @@ parts_walked PlainObject walk w n left =
     then_walks (fields_walked walk w.pool no_members (properties_of (object_at w n)) left) (λ ms rest. Ok (object ms, rest))
 parts_walked OtherObject walk w n left = Err BadArgument
 
+-- a number: each of a heap is a whole one, and no other is data
+abbrev pub whole_walked : ℤ → ℕ → Walk Data
+whole_walked z left = if is_whole (number_of_whole z) then Ok (number (number_of_whole z), left) else Err BadArgument
+
 -- a value, whose objects are walked so: undefined and NaN are no data
 abbrev pub value_walked : (ℕ → ℕ → Walk Data) → World → Value → ℕ → Walk Data
 value_walked parts w Undefined left = Err BadArgument
 value_walked parts w Null left = Ok (null, left)
 value_walked parts w (Boolean b) left = Ok (boolean b, left)
-value_walked parts w (Num z) left = Ok (number (number_of_whole z), left)
+value_walked parts w (Num z) left = whole_walked z left
 value_walked parts w NaN left = Err BadArgument
 value_walked parts w (Text span) left = then_walks (spelled (text_at w.pool span) left) (λ bytes rest. Ok (string bytes, rest))
 value_walked parts w (Object n) left = parts n left

@@ -1,6 +1,6 @@
 -- The canonical text of values as it is written: first the values are judged, and then their data is written, the fields
 -- of each object in the order of their names.
-use Rattle.std.specs.Prelude.{◌≡◌, ◌≢◌, ◌<◌, ◌≤◌, slice_index_or, ℕ, zero, suc, ◌+◌, ◌-◌, nat_le, if◌then◌else◌, List, [], ◌∷◌, ◌++◌, length, Option, None, Some, unwrap_or, Result, Ok, Err}
+use Rattle.std.specs.Prelude.{◌≡◌, ◌≢◌, ◌<◌, ◌≤◌, slice_index_or, ℕ, ℤ, zero, suc, ◌+◌, ◌-◌, ◌&&◌, nat_le, if◌then◌else◌, List, [], ◌∷◌, ◌++◌, length, Option, None, Some, unwrap_or, Result, Ok, Err}
 use Rattle.std.specs.Char.Utf16.{has_unpaired_surrogate}
 use Rattle.std.specs.declared.cmp.Ordering.{Ordering}
 use Rattle.std.specs.declared.cmp.Ordering.TheVariants.{Greater}
@@ -21,7 +21,8 @@ use Rattle.rip_heap.specs.Holders.{holder_of}
 use Rattle.rip_heap.specs.Objects.{own_at}
 use Rattle.rip_heap.specs.World.{World, object_at}
 use Rattle.rip_data.specs.Datum.{AreInOrder, number_of_whole, utf8_of}
-use Rattle.rip_convert.specs.Arguments.{properties_of}
+use Rattle.rip_data.specs.Reading.{is_whole}
+use Rattle.rip_convert.specs.Arguments.{are_units, properties_of}
 
 -- TEXT
 
@@ -38,7 +39,7 @@ then_left (Err fault) next = Err fault
 
 abbrev pub spelled_left : List ℕ → ℕ → Result ℕ Fault
 spelled_left units left =
-    if nat_le (length units) left then
+    if nat_le (length units) left && are_units units then
     (if has_unpaired_surrogate units then Err LoneSurrogate else Ok (left - length units))
     else Err BadArgument
 
@@ -56,11 +57,14 @@ parts_left ArrayObject walk w n left = elements_left walk (elements_at w n) left
 parts_left PlainObject walk w n left = fields_left walk w.pool (properties_of (object_at w n)) left
 parts_left OtherObject walk w n left = Err BadArgument
 
+abbrev pub whole_left : ℤ → ℕ → Result ℕ Fault
+whole_left z left = if is_whole (number_of_whole z) then Ok left else Err BadArgument
+
 abbrev pub value_left : (ℕ → ℕ → Result ℕ Fault) → World → Value → ℕ → Result ℕ Fault
 value_left parts w Undefined left = Err BadArgument
 value_left parts w Null left = Ok left
 value_left parts w (Boolean b) left = Ok left
-value_left parts w (Num z) left = Ok left
+value_left parts w (Num z) left = whole_left z left
 value_left parts w NaN left = Err BadArgument
 value_left parts w (Text span) left = spelled_left (text_at w.pool span) left
 value_left parts w (Object n) left = parts n left

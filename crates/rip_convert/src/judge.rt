@@ -1,9 +1,7 @@
-ghost use Rattle.std.specs.Prelude.{◌≡◌, ◌<◌, ◌≤◌, IfOk, OnOk};
-ghost use Rattle.rip_data.specs.Datum.{utf8_of};
+ghost use Rattle.std.specs.Prelude.{◌≡◌, ◌<◌, ◌≤◌, IfOk};
 ghost use Rattle.rip_heap.specs.Holders.{holder_of};
 ghost use Rattle.rip_heap.specs.World.{object_at};
-ghost use Rattle.rip_convert.specs.Told.{IsSpelt, IsTold};
-ghost use Rattle.rip_convert.specs.Written.{left_after, parts_data, parts_left, spelled_left, value_data};
+ghost use Rattle.rip_convert.specs.Written.{left_after, parts_left, spelled_left};
 
 use crate::units::has_unpaired_surrogate;
 use rip_heap::{Heap, Holder, holder_of};
@@ -15,7 +13,6 @@ use rip_values::{Fault, Value};
 pub(crate) fn left_after(heap: &Heap, v: Value, levels: usize, left: u32) -> Result<u32, Fault>
     ensures left { result ≡ left_after levels heap.now v left }
     ensures fewer { IfOk result (λ rest. rest < left) }
-    ensures told { OnOk result (IsTold (value_data levels heap.now v)) }
 {
     if left == 0 {
         return Err(Fault::BadArgument);
@@ -42,7 +39,6 @@ pub(crate) fn left_after(heap: &Heap, v: Value, levels: usize, left: u32) -> Res
 fn spelled_left(units: &[u16], left: u32) -> Result<u32, Fault>
     ensures left { result ≡ spelled_left units.now left }
     ensures no_more { IfOk result (λ rest. rest ≤ left) }
-    ensures spelt { OnOk result (IsSpelt (utf8_of units.now)) }
 {
     if units.len() > left as usize {
         return Err(Fault::BadArgument);
@@ -59,8 +55,6 @@ fn parts_left(heap: &Heap, number: u32, levels: usize, left: u32) -> Result<u32,
     ensures left { result ≡
         parts_left (holder_of (object_at heap.now number)) (left_after levels heap.now) heap.now number left }
     ensures no_more { IfOk result (λ rest. rest ≤ left) }
-    ensures told { OnOk result (IsTold
-        (parts_data (holder_of (object_at heap.now number)) (value_data levels heap.now) heap.now number)) }
 {
     match holder_of(heap, number) {
         Holder::ArrayObject => elements_left(heap, number, levels, left),
@@ -75,8 +69,6 @@ fn elements_left(heap: &Heap, array: u32, levels: usize, pieces: u32) -> Result<
     ensures left { result ≡
         parts_left Holder.ArrayObject (left_after levels heap.now) heap.now array pieces }
     ensures no_more { IfOk result (λ rest. rest ≤ pieces) }
-    ensures told { OnOk result (IsTold
-        (parts_data Holder.ArrayObject (value_data levels heap.now) heap.now array)) }
 {
     let mut left = pieces;
     for place in 0..heap.count(array) {
@@ -92,8 +84,6 @@ fn fields_left(heap: &Heap, object: u32, levels: usize, pieces: u32) -> Result<u
     ensures left { result ≡
         parts_left Holder.PlainObject (left_after levels heap.now) heap.now object pieces }
     ensures no_more { IfOk result (λ rest. rest ≤ pieces) }
-    ensures told { OnOk result (IsTold
-        (parts_data Holder.PlainObject (value_data levels heap.now) heap.now object)) }
 {
     let mut left = pieces;
     let mut place = 0;

@@ -8,6 +8,7 @@
 //! |---|---|
 //! | [`value_of_datum`] | `Values.made_value`, the steps in the order of their charges; `Values.Does` says what an answer means; want of memory takes all back |
 //! | [`CallRow::write_call`] | `Arguments.call_text`: the walk `Arguments.walked` over the arguments, left to right, and at last their length; `Told.IsCallOf` that they are the text of a datum that is well made |
+//! | [`calls_are_told`] | `Told.CallsAreTold` and `Told.ListsAreTold`: so is each text that `Arguments.call_text` comes to, whatever the heap |
 //!
 //! A layer above may rest on this: each call is total, a number that is no object of the heap included. A limit ends the
 //! making of a value at the step that would pass it, and the steps before it stand. The walk over arguments changes
@@ -17,6 +18,7 @@
 #![tactic(auto)]
 
 mod judge;
+mod laws;
 mod line;
 mod order;
 mod row;
@@ -24,5 +26,6 @@ mod units;
 mod values;
 mod write;
 
+pub use laws::calls_are_told;
 pub use row::CallRow;
 pub use values::value_of_datum;

@@ -1,4 +1,4 @@
-ghost use Rattle.std.specs.Prelude.{◌≡◌, ◌≢◌, ◌≤◌, ◌+◌, ◌++◌, ◌↔◌, [], ℕ, List, All, IfOk, IsTrue, MatchResult, OnOk, Err, Ok, Some, IsSome, length, unwrap_or, vec_capacity};
+ghost use Rattle.std.specs.Prelude.{◌≡◌, ◌≢◌, ◌≤◌, ◌+◌, ◌++◌, ◌↔◌, [], ℕ, List, All, IfOk, IsTrue, MatchResult, Err, Ok, Some, IsSome, length, unwrap_or, vec_capacity};
 ghost use Rattle.json.specs.Print.{quoted};
 ghost use Rattle.rip_values.specs.Pool.{text_at};
 ghost use Rattle.rip_data.specs.Datum.{utf8_of};
@@ -82,7 +82,6 @@ fn fill(
     requires name { length (quoted (utf8_of (text_at heap.now.pool name))) ≤ 73 }
     ensures text { MatchResult result (λ _. call_text heap.now name args.now ≡ Ok text.new.items)
         (λ fault. call_text heap.now name args.now ≡ Err fault) }
-    ensures told { OnOk result (IsCallOf (utf8_of (text_at heap.now.pool name)) text.new.items) }
     ensures places { places.new ≡ places.old }
     ensures room { vec_capacity text.new ≡ vec_capacity text.old }
 {

@@ -1,11 +1,8 @@
-use Rattle.std.proofs.Common.{◌≡◌, ◌≤◌, ◌+◌, ◌*◌, drop, take}
-use Rattle.serde_json.specs.Data.{no_members}
-use Rattle.rip_data.specs.Datum.{AreInOrder}
+use Rattle.std.proofs.Common.{◌≡◌, ◌≤◌, ◌+◌, ◌*◌, drop}
 use Rattle.rip_heap.specs.Arrays.{elements_at}
 use Rattle.rip_heap.specs.World.{object_at}
 use Rattle.rip_convert.specs.Arguments.{properties_of}
-use Rattle.rip_convert.specs.Told.{AreTold, HaveTold}
-use Rattle.rip_convert.specs.Written.{elements_data, elements_left, fields_data, fields_left, left_after, value_data}
+use Rattle.rip_convert.specs.Written.{elements_left, fields_left, left_after}
 use Rattle.rip_convert.proofs.judge.+judge.Given as goal
 
 abbrev pub decreases-left_after : goal.decreases-left_after
@@ -25,15 +22,12 @@ abbrev pub invariant-elements_left-loop-place : goal.invariant-elements_left-loo
 invariant-elements_left-loop-place l =
     (elements_left (left_after l.levels l.heap) (drop l.place (elements_at l.heap l.array)) l.left ≡ elements_left (left_after l.levels l.heap) (elements_at l.heap l.array) l.fn.pieces)
     × (l.left ≤ l.fn.pieces)
-    × AreTold (elements_data (value_data l.levels l.heap) (take l.place (elements_at l.heap l.array)))
 
 abbrev pub invariant-fields_left-loop-name : goal.invariant-fields_left-loop-name
 invariant-fields_left-loop-name l =
     (fields_left (left_after l.levels l.heap) l.heap.pool (drop l.place (properties_of (object_at l.heap l.object))) l.left
     ≡ fields_left (left_after l.levels l.heap) l.heap.pool (properties_of (object_at l.heap l.object)) l.fn.pieces)
     × (l.place + l.left ≤ l.fn.pieces)
-    × HaveTold (fields_data (value_data l.levels l.heap) l.heap.pool no_members (take l.place (properties_of (object_at l.heap l.object))))
-    × AreInOrder (fields_data (value_data l.levels l.heap) l.heap.pool no_members (take l.place (properties_of (object_at l.heap l.object))))
 
 abbrev pub decreases-fields_left-loop-name : goal.decreases-fields_left-loop-name
 decreases-fields_left-loop-name l = l.left
