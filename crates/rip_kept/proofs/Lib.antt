@@ -1,3 +1,4 @@
 pub mod KeepsAnswers
+pub mod KeepsCalls
 pub mod KeepsRuns
 pub mod TreeLimits
