@@ -1,2 +1,3 @@
 mod CloseLemmas
+mod MadeLemmas
 pub mod PartLemmas

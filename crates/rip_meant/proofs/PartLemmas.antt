@@ -1,5 +1,5 @@
 -- The parts of a session are in range.
-use Rattle.std.proofs.Common.{◌≡◌, ℕ, suc, ◌+◌, ◌-◌, ◌≤◌, ◌^◌, min, true, List, [], ◌∷◌, length, map, Option, Some, None, refl, sym, ap, ◌∙◌, subst, arith}
+use Rattle.std.proofs.Common.{◌≡◌, ℕ, suc, ◌+◌, ◌-◌, ◌≤◌, ◌^◌, true, List, [], ◌∷◌, length, map, Option, Some, refl, sym, ap, ◌∙◌, subst, arith}
 use Rattle.std.specs.Prelude.{⊤, slice_get}
 use Rattle.std.specs.List.{AllByRecursion}
 use Rattle.std.proofs.Math.Nat.{min-le_left}
@@ -26,8 +26,11 @@ use Rattle.rip_work.specs.Tasks.{Task, opens, reports, fact_of, tasks_of}
 use Rattle.rip_ranged.specs.Ranged.{IsFact, IsPart}
 use Rattle.rip_session.specs.Application.{runs_of}
 use Rattle.rip_session.specs.Opening.{opened_of}
-use Rattle.rip_meant.specs.Meant.{AreMadeParts, ApplicationsMeanInRange}
+use Rattle.rip_kept.proofs.KeepsRuns.{HasReached}
+use Rattle.rip_served.proofs.KeepsPlans.{HasPlayed}
+use Rattle.rip_meant.specs.Meant.{ApplicationsMeanInRange}
 use Rattle.rip_meant.proofs.CloseLemmas.{is_call, IsOf, PlayedSo, works_close}
+use Rattle.rip_meant.proofs.MadeLemmas.{HasMade, front_in, runs_keep, session_begins, works_keep}
 
 abbrev AreParts : ℕ → List Part → Type 0
 AreParts most ps = AllByRecursion (IsPart most) ps
@@ -74,7 +77,8 @@ mismatch-in batch n all a item s at same calls is short named =
 from-first : (k : ℕ) → 1 - 1 + k ≡ k
 from-first k = omega arith
 
-module _ (run : Started → World → Browser → ℕ → ℕ → Reached Browser) (full : ℕ) (world : World) (page : Browser) (start : Start) where
+module _ (run : Started → World → Browser → ℕ → ℕ → Reached Browser) (keeps : (start : Started) (w : World) (s : Browser) (fuel u : ℕ) → HasMade s → HasReached HasMade (run start w s fuel u))
+    (full : ℕ) (world : World) (page : Browser) (start : Start) where
   abbrev d : Doing Task Browser
   d = record {
     run = run;
@@ -93,28 +97,26 @@ module _ (run : Started → World → Browser → ℕ → ℕ → Reached Browse
 
   module _ (most batch : ℕ) (all : List Task) (le : batch ≤ most) where
     item-in : (n cost : ℕ) (a : Task) (p : Played Browser) (go : ℕ → World → Browser → List Part) → IsShort n → slice_get all (n - 1) ≡ Some a → IsTask batch a
-        → PlayedSo (IsOf n (is_call a)) p → ((spent : ℕ) (x : World) (r : Browser) → AreMadeParts (go spent x r) → AreParts most (go spent x r))
-        → AreMadeParts (after_item d batch all n cost a p go) → AreParts most (after_item d batch all n cost a p go)
-    item-in n cost a (Closes Fine gs fuel u w s) go short at is so goes made =
-        (record { batch = le; item = short; fact = fact-in batch a is }, goes (cost + 1 + (full - u)) w s made.1)
-    item-in n cost a (Closes (Refused item kind) gs fuel u w s) go short at is so goes made =
+        → PlayedSo (IsOf n (is_call a)) p → HasPlayed HasMade p → ((spent : ℕ) (x : World) (r : Browser) → HasMade r → AreParts most (go spent x r))
+        → AreParts most (after_item d batch all n cost a p go)
+    item-in n cost a (Closes Fine gs fuel u w s) go short at is so made goes =
+        (record { batch = le; item = short; fact = fact-in batch a is }, goes (cost + 1 + (full - u)) w s made)
+    item-in n cost a (Closes (Refused item kind) gs fuel u w s) go short at is so made goes =
         (record { batch = le; item = short; fact = subst IsShort (sym so) short }, tt)
-    item-in n cost a (Closes (Mismatch item) gs fuel u w s) go short at is so goes made =
-        (record { batch = le; item = short; fact = mismatch-in batch n all a item s at so.0 so.1 is short made.0 }, tt)
-    item-in n cost a (Closes (Stopped item (AtFault fault)) gs fuel u w s) go short at is so goes made =
+    item-in n cost a (Closes (Mismatch item) gs fuel u w s) go short at is so made goes =
+        (record { batch = le; item = short; fact = mismatch-in batch n all a item s at so.0 so.1 is short (front_in s.calls made) }, tt)
+    item-in n cost a (Closes (Stopped item (AtFault fault)) gs fuel u w s) go short at is so made goes =
         (record { batch = le; item = short; fact = subst IsShort (sym so) short }, tt)
-    item-in n cost a (Closes (Stopped item (AtLimit limit)) gs fuel u w s) go short at is so goes made =
+    item-in n cost a (Closes (Stopped item (AtLimit limit)) gs fuel u w s) go short at is so made goes =
         (record { batch = le; item = short; fact = subst IsShort (sym so) short }, tt)
-    item-in n cost a (Holds depth w s) go short at is so goes made = tt
+    item-in n cost a (Holds depth w s) go short at is so made goes = tt
 
     -- ---- a batch, from an item on
 
     items-in : (n cost : ℕ) (items : List Task) (gs : List Given) (w : World) (s : Browser) (next : List Given → World → Browser → List Part)
         → 1 ≤ n → n + length items ≤ 65 → ((k : ℕ) → slice_get all (n - 1 + k) ≡ slice_get items k) → AllByRecursion (IsTask batch) items
-        → ((hs : List Given) (x : World) (r : Browser) → AreMadeParts (next hs x r) → AreParts most (next hs x r))
-        → AreMadeParts (items_parts d batch all n cost items gs w s next) → AreParts most (items_parts d batch all n cost items gs w s next)
-    items-in n cost [] gs w s next one few at are goes made =
-        (record { batch = le; item = omega (arith, few); fact = tt }, goes gs w s made.1)
+        → ((hs : List Given) (x : World) (r : Browser) → HasMade r → AreParts most (next hs x r)) → HasMade s → AreParts most (items_parts d batch all n cost items gs w s next)
+    items-in n cost [] gs w s next one few at are goes made = (record { batch = le; item = omega (arith, few); fact = tt }, goes gs w s made)
     items-in n cost (a ∷ items) gs w s next one few at are goes made =
         let first : n - 1 ≡ n - 1 + 0 = omega arith in
         let here : slice_get all (n - 1) ≡ Some a = ap (slice_get all) first ∙ at 0 in
@@ -122,27 +124,29 @@ module _ (run : Started → World → Browser → ℕ → ℕ → Reached Browse
         item-in n cost a (whole_item d batch a n w s (first_given gs))
         (λ spent x r. items_parts d batch all (n + 1) spent items (given_behind (fact_of a) gs) x r next)
         (omega (arith, few)) here are.0 (works_close run full batch n a w s (served batch (first_given gs) ∷ []))
-        (λ spent x r. items-in (n + 1) spent items (given_behind (fact_of a) gs) x r next (omega arith) (omega (arith, few))
-        (λ k. ap (slice_get all) (next_at k) ∙ at (suc k)) are.1 goes) made
+        (works_keep run keeps full batch n a (first_given gs) w s made)
+        (λ spent x r h. items-in (n + 1) spent items (given_behind (fact_of a) gs) x r next (omega arith) (omega (arith, few))
+        (λ k. ap (slice_get all) (next_at k) ∙ at (suc k)) are.1 goes h)
 
   -- ---- batches
 
   later-in : (most batch : ℕ) (bs : List Contents) (gs : List Given) (w : World) (s : Browser) → 1 ≤ batch → batch + length bs ≤ most + 1 → AllByRecursion IsBatch bs
-      → AreMadeParts (later_parts d batch bs gs w s) → AreParts most (later_parts d batch bs gs w s)
+      → HasMade s → AreParts most (later_parts d batch bs gs w s)
   later-in most batch [] gs w s one few are made = tt
   later-in most batch (b ∷ bs) gs w s one few are made =
       let is : IsBatch b = are.0 in
       let long : 1 + length (map reports b.items) ≤ 65 = omega (arith, length-tasks b.items, is.few) in
       items-in most batch (tasks_of b) (omega (arith, few)) 1 1 (tasks_of b) gs w s (λ hs x r. later_parts d (batch + 1) bs hs x r) (omega arith) long
       (λ k. ap (slice_get (tasks_of b)) (from-first k)) (tasks-are batch b.items one is.items)
-      (λ hs x r. later-in most (batch + 1) bs hs x r (omega arith) (omega (arith, few)) are.1) made
+      (λ hs x r h. later-in most (batch + 1) bs hs x r (omega arith) (omega (arith, few)) are.1 h) made
 
-  pub session_in : (bs : List Contents) (gs : List Given) → AllByRecursion IsBatch bs → AreMadeParts (session_parts d bs gs) → AreParts (length bs) (session_parts d bs gs)
+  pub session_in : (bs : List Contents) (gs : List Given) → AllByRecursion IsBatch bs → HasMade page → AreParts (length bs) (session_parts d bs gs)
   session_in bs gs are made =
       items-in (length bs) 0 (opens start ∷ []) (omega arith) 1 1 (opens start ∷ []) gs world page (λ hs x r. later_parts d 1 bs hs x r) (omega arith) (omega arith)
-      (λ k. ap (slice_get (opens start ∷ [])) (from-first k)) (tt, tt) (λ hs x r. later-in (length bs) 1 bs hs x r (omega arith) (omega arith) are) made
+      (λ k. ap (slice_get (opens start ∷ [])) (from-first k)) (tt, tt) (λ hs x r h. later-in (length bs) 1 bs hs x r (omega arith) (omega arith) are h) made
 
 pub applications_in_range : ApplicationsMeanInRange
-applications_in_range app makes seed time batches given are =
+applications_in_range app seed time batches given are =
     let o = opened_of app seed (moment_of time) in
-    session_in ((runs_of app).run o.machine) app.manifest.limits.fuel o.heap o.browser o.start batches given are (makes seed time batches given are)
+    session_in ((runs_of app).run o.machine) (runs_keep app.program o.machine) app.manifest.limits.fuel o.heap o.browser o.start batches given are
+    (session_begins app seed (moment_of time))

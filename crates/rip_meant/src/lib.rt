@@ -1,11 +1,12 @@
-//! What the sessions of each application do is in range, where the calls that its scripts make are.
+//! What the sessions of each application do is in range.
 //!
 //! | law | its definition in `specs/` |
 //! |---|---|
 //! | [`applications_mean_in_range`] | `Meant.ApplicationsMeanInRange`, by `Ranged.MeansInRange` (`rip_ranged`) |
 //!
-//! A call that is served is one of its batch, and an ending names the item that ended the session. What is not known here is
-//! of the calls that scripts make: that the text of the one that a mismatch names is that of a call in range.
+//! A call that is served is one of its batch, and an ending names the item that ended the session. The call that a mismatch
+//! names as made is one that the script made, and each of those has the text of a call in range: as it is made its name is
+//! judged, and so are its arguments (`rip_convert::calls_are_told`, `rip_kept::calls_stay_in_range`).
 #![tactic(auto)]
 
 mod laws;
