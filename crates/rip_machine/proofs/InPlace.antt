@@ -1,5 +1,5 @@
 -- What is done in place: each row, from what its parts come to.
-use Rattle.std.proofs.Common.{◌≡◌, ℕ, ◌+◌, ◌<◌, ◌&&◌, ◌||◌, Bool, true, false, if◌then◌else◌, [], ◌∷◌, Option, None, Some, Result, Ok, IfSome, MatchOption, unwrap_or, refl, ap, sym, subst, ◌∙◌, arith}
+use Rattle.std.proofs.Common.{◌≡◌, ℕ, ◌+◌, ◌<◌, ◌&&◌, ◌||◌, Bool, true, false, if◌then◌else◌, [], ◌∷◌, Option, None, Some, Result, Ok, Err, IfSome, MatchOption, unwrap_or, refl, ap, sym, subst, ◌∙◌, arith}
 use Rattle.rip_values.specs.declared.operator.BinaryOperator.{BinaryOperator}
 use Rattle.rip_values.specs.declared.value.Fault.{Fault}
 use Rattle.rip_values.specs.declared.value.Numeral.{Numeral}
@@ -11,7 +11,11 @@ use Rattle.rip_heap.specs.declared.keys.Key.{Key}
 use Rattle.rip_heap.specs.declared.keys.Key.TheVariants.{Name, Index}
 use Rattle.rip_members.specs.declared.outcome.Read.TheVariants.{Value as IsRead}
 use Rattle.rip_members.specs.Keys.{Keys, key_of}
+use Rattle.rip_heap.specs.declared.keys.Reference.{Reference}
+use Rattle.rip_heap.specs.declared.outcome.Abrupt.{Abrupt}
+use Rattle.rip_heap.specs.declared.outcome.Abrupt.TheVariants.{TypeError, Fault as AtFault, Limit as AtLimit, Memory}
 use Rattle.rip_members.specs.Reading.{read}
+use Rattle.rip_members.specs.Writing.{IsWriting, Writing}
 use Rattle.rip_runs.specs.declared.part.Role.TheVariants as role
 use Rattle.rip_runs.specs.Frame.{inside}
 use Rattle.rip_machine.specs.Rows.Members.{index_row, member_for, member_row, subscript_end, with_base, with_key, with_read}
@@ -52,6 +56,10 @@ leaf_had p row w v had is same = subst (λ h. RowIsHad p row w h) (sym is) (ende
 pub ended_done : (p : Loaded) (row : Row) (w : World) (c : Completion) (found : Option Completed) → found ≡ Some (record { completion = c; units = 0 }) → row ≡ Ends c w
     → RowIsDone p row w found w
 ended_done p row w c found is same = subst (λ d. RowIsDone p row w d w) (sym is) (ended_at (table p) row c w same)
+
+-- a part that gives a value at once, for which there is some depth
+pub part_had : (p : Loaded) (inner : Part) (w : World) (v : Value) → 0 < inner.room → row p inner w ≡ gives v w → Done (table p) inner 1 w (Normal v) w
+part_had p inner w v some is = (0, omega arith, some, ended_at (table p) (row p inner w) (Normal v) w is)
 
 -- OPERATORS
 
@@ -169,6 +177,22 @@ index_had p at w base subscript v key n m units first second valued keys is sum 
     (asked t (part_at p at 1) w (subscript_end at base) m 0 m (Normal subscript) (Normal v) w w second
     (ended_at t (subscript_end at base (Normal subscript) w) (Normal v) w end) (omega arith)) sum
 
+-- the same of a member that is a target or a callee
+pub member_done : (p : Loaded) (at : Part) (w : World) (base : Value) (c : Completion) (n : ℕ) → Done (table p) (part_at p at 0) n w (Normal base) w
+    → with_base base w (member_for at.role base (Name (literal p at.node)) w) ≡ Ends c w → Comes (table p) (member_row p at w) n c w
+member_done p at w base c n first is =
+    let t = table p in
+    asked t (part_at p at 0) w _ n 0 n (Normal base) c w w first (ended_at t _ c w is) (omega arith)
+
+pub index_done : (p : Loaded) (at : Part) (w : World) (base subscript : Value) (c : Completion) (n m units : ℕ)
+    → Done (table p) (part_at p at 0) n w (Normal base) w → Done (table p) (part_at p at 1) m w (Normal subscript) w
+    → subscript_end at base (Normal subscript) w ≡ Ends c w → units ≡ n + m → Comes (table p) (index_row p at w) units c w
+index_done p at w base subscript c n m units first second is sum =
+    let t = table p in
+    asked t (part_at p at 0) w _ n m units (Normal base) c w w first
+    (asked t (part_at p at 1) w (subscript_end at base) m 0 m (Normal subscript) c w w second
+    (ended_at t (subscript_end at base (Normal subscript) w) c w is) (omega arith)) sum
+
 -- STATEMENTS
 
 -- 12.4
@@ -281,6 +305,23 @@ assign_done p at w x v n (Some d) name right write =
     let t = table p in
     asked t (target_at p at 0) w _ 1 n d.units (Normal Undefined) d.completion w x (target_done p (target_at p at 0) w right.2 (name w))
     (asked t (part_at p at 1) w (assign_value p at None) n 0 n (Normal v) d.completion w x right (ended_at t _ d.completion x write.0) (omega arith)) (omega (arith, write.1))
+
+-- the same where the target is a member
+pub member_assigned : (p : Loaded) (at : Part) (w x : World) (r : Reference) (v : Value) (n m : ℕ) (done : Option Completed)
+    → Done (table p) (target_at p at 0) n w (Referred r) w → Done (table p) (part_at p at 1) m w (Normal v) w
+    → MatchOption done (x ≡ w) (λ d. (writes p at (Some r) v v w ≡ Ends d.completion x) × (d.units ≡ n + m)) → RowIsDone p (assign_row p at w) w done x
+member_assigned p at w x r v n m None target right write = write
+member_assigned p at w x r v n m (Some d) target right write =
+    let t = table p in
+    asked t (target_at p at 0) w _ n m d.units (Referred r) d.completion w x target
+    (asked t (part_at p at 1) w (assign_value p at (Some r)) m 0 m (Normal v) d.completion w x right (ended_at t _ d.completion x write.0) (omega arith)) write.1
+
+-- a member that is not written leaves the world
+pub not_written : (meant : Writing) (w x : World) (cause : Abrupt) → IsWriting meant w (Err cause) x → x ≡ w
+not_written meant w x TypeError is = is.1
+not_written meant w x (AtFault fault) is = is.1
+not_written meant w x (AtLimit limit) is = is.1
+not_written meant w x Memory is = is
 
 -- 11.13.2
 compound_end : (p : Loaded) (at : Part) (w x : World) (old right v : Value) (c : Completion) → binary w (operator p at.node) old right ≡ Gives v w

@@ -44,6 +44,7 @@ mod source;
 mod starting;
 mod whole;
 mod worked;
+mod worth;
 
 pub use law::{begun_is_whole, loops_are_their_rows, started_runs_on};
 pub use machine::Machine;

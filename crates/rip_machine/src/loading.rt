@@ -172,6 +172,7 @@ pub(crate) fn values_needed(
         alloc,
         program,
         literals: &[],
+        worths: &[],
     };
     let longest = longest_call(&p)?;
     match depth.checked_mul(longest) {

@@ -10,6 +10,7 @@ use crate::loading::{fits, load_texts, values_needed};
 use crate::outcome::Start;
 use crate::source::Source;
 use crate::starting::start_run;
+use crate::worth::{Worth, worths};
 use rip_heap::{Heap, Host};
 use rip_runs::{Completion, Control, Run, Turned};
 use rip_tree::Program;
@@ -22,6 +23,7 @@ use std::marker::Model;
 pub struct Machine {
     run: Run,
     literals: Vec<Span>,
+    worths: Vec<Worth>,
 }
 
 impl Model for Machine {
@@ -51,6 +53,7 @@ impl Machine {
         Ok(Machine {
             run: Run::make(alloc, depth)?,
             literals: Vec::new(alloc),
+            worths: Vec::new(alloc),
         })
     }
 
@@ -68,7 +71,9 @@ impl Machine {
         }
         let values = values_needed(alloc, program, self.run.greatest_depth(), heap)?;
         self.run.reserve(values)?;
+        let worths = worths(alloc, program)?;
         self.literals = load_texts(alloc, program, heap)?;
+        self.worths = worths;
         Ok(())
     }
 
@@ -119,6 +124,7 @@ impl Machine {
             alloc,
             program,
             literals: self.literals.as_slice(),
+            worths: self.worths.as_slice(),
         };
         start_run(&mut self.run, &p, heap, s, fuel)
     }
@@ -147,6 +153,7 @@ impl Machine {
             alloc,
             program,
             literals: self.literals.as_slice(),
+            worths: self.worths.as_slice(),
         };
         self.run.resume(&p, heap, host, n)
     }

@@ -16,10 +16,10 @@ pub(crate) mod literals;
 pub(crate) mod members;
 pub(crate) mod names;
 pub(crate) mod operators;
+pub(crate) mod referred;
 pub(crate) mod scripts;
 pub(crate) mod statements;
 pub(crate) mod switch;
-pub(crate) mod tried;
 pub(crate) mod unary;
 
 use crate::rows::answers::{Answer, end, give};
@@ -54,13 +54,11 @@ use crate::rows::switch::{
 };
 use crate::rows::unary::{after_operand, begin_unary};
 use crate::source::Source;
+use crate::worth::HEIGHT;
 use rip_heap::{Heap, Host};
-use rip_runs::{Completed, Completion, Frame, HostedWait, Next, OwnWait, Part, Rows, Wait};
+use rip_runs::{Completed, Completion, HostedWait, Next, OwnWait, Part, Rows, Wait};
 use rip_tree::Form;
 use rip_values::{NoMemory, Value};
-
-/// How many levels of nodes below a part are done in place.
-const HEIGHT: u32 = 8;
 
 impl Rows for Source<'_> {
     ghost use Rattle.rip_machine.specs.Table.{table as table_of};
@@ -75,20 +73,21 @@ impl Rows for Source<'_> {
         if at.room == 0 || most == 0 {
             return None;
         }
-        done(self, heap, at, HEIGHT, most)
+        done(self, heap, at, u32::from(HEIGHT), most)
     }
 
     fn finish<H: Host>(
         &self,
         heap: &mut Heap,
         host: &mut H,
-        frame: &Frame,
+        at: &Part,
+        wait: &Wait,
         values: &[Value],
         c: &Completion,
     ) -> Answer {
-        match &frame.wait {
-            Wait::Own(wait) => finish_own(self, heap, &frame.at, wait, values, c),
-            Wait::Hosted(wait) => { finish_hosted(self, heap, host, &frame.at, wait, values, c) },
+        match wait {
+            Wait::Own(wait) => finish_own(self, heap, at, wait, values, c),
+            Wait::Hosted(wait) => { finish_hosted(self, heap, host, at, wait, values, c) },
         }
     }
 }

@@ -2,6 +2,7 @@ ghost use Rattle.std.specs.Prelude.{◌≡◌, length};
 ghost use Rattle.rip_tree.specs.Program.{root_of};
 ghost use Rattle.rip_machine.specs.Reading.{child, child_at, form_of, is_postfix, inner_at, inner_target, literal, logical_operator, operator, scoping, step_operator, unary_operator, logical_in, operator_in, step_in, unary_in, is_postfix_form};
 
+use crate::worth::Worth;
 use rip_runs::{Inner, Part, Role};
 use rip_tree::{Form, Program, Scoping};
 use rip_values::{BinaryOperator, LogicalOperator, Span, StepOperator, UnaryOperator};
@@ -15,6 +16,7 @@ pub(crate) struct Source<'a> {
     pub alloc: Global,
     pub program: &'a Program,
     pub literals: &'a [Span],
+    pub worths: &'a [Worth],
 }
 
 impl<'a> Model for Source<'a> {
@@ -106,6 +108,14 @@ impl Source<'_> {
             return Span { start: 0, count: 0 };
         }
         self.literals[id as usize]
+    }
+
+    /// What is worth trying in place of a node.
+    pub fn worth(&self, id: u32) -> Worth {
+        if id as usize >= self.worths.len() {
+            return Worth::Nothing;
+        }
+        self.worths[id as usize]
     }
 
     pub fn operator(&self, id: u32) -> BinaryOperator

@@ -1,18 +1,25 @@
 -- Parts that are done at once: their runs, whatever the host and whatever is left.
-use Rattle.std.proofs.Common.{◌≡◌, ℕ, suc, ◌+◌, ◌-◌, ◌<◌, if◌then◌else◌, List, ap, sym, subst, ◌∙◌, arith}
+use Rattle.std.proofs.Common.{◌≡◌, ℕ, suc, ◌+◌, ◌-◌, ◌<◌, if◌then◌else◌, List, [], ap, sym, subst, ◌∙◌, arith}
 use Rattle.std.proofs.lemmas.Bool.{ne_eqb}
 use Rattle.rip_heap.specs.World.{World}
 use Rattle.rip_values.specs.declared.value.Limit.TheVariants.{Depth}
 use Rattle.rip_runs.specs.declared.completion.Completion.{Completion}
 use Rattle.rip_runs.specs.declared.completion.Stop.TheVariants.{Limit as AtLimit}
 use Rattle.rip_runs.specs.declared.next.Control.TheVariants.{Enter, Give}
+use Rattle.rip_runs.specs.declared.frame.Wait.{Wait}
+use Rattle.rip_runs.specs.declared.next.Next.{Next}
+use Rattle.rip_runs.specs.declared.next.Next.TheVariants.{Ask, Turn}
+use Rattle.rip_runs.specs.declared.part.Inner.{Inner}
 use Rattle.rip_runs.specs.declared.part.Part.{Part}
+use Rattle.rip_runs.specs.Frame.{inside, waiting}
 use Rattle.rip_runs.specs.Done.{Comes, Ended, Went, Turned, Done}
-use Rattle.rip_runs.specs.Rest.{rest, unwind}
+use Rattle.rip_runs.specs.Rest.{as_row, next_run, rest, unwind}
 use Rattle.rip_runs.specs.Row.{Row, Ends, Halts, Asks, Again, Table}
 use Rattle.rip_runs.specs.Run.{Completes, Calling, follow, run_to, run, ev}
-use Rattle.rip_runs.specs.Stack.{Open}
+use Rattle.rip_runs.specs.Settle.{settle}
+use Rattle.rip_runs.specs.Stack.{Open, framed}
 use Rattle.rip_runs.proofs.Runs.{run-asks, run-again}
+use Rattle.rip_runs.proofs.Settles.{run-settles}
 
 -- a part for which some depth is left goes on as its row does
 ev-enters : {S : Type 0} (h : Calling S) (t : Table) (part : Part) (u : ℕ) (w : World) (s : S) → 0 < part.room
@@ -56,6 +63,34 @@ unfolding rest
 rest-done h t part os n l m k c w x s done units =
     let sum : l + k ≡ n + (m + k) = omega (arith, units) in
     sym (ap (λ v. unwind h t os (ev h t part v w s)) sum ∙ ap (unwind h t os) (ev-done h t part n (m + k) c w x s done))
+
+-- a part that an open one waits for, with no values beside its frame, is done at once, and what the open one does then is next
+goes-on : {S : Type 0} (h : Calling S) (t : Table) (at : Part) (inner : Inner) (wait : Wait) (next : Next) (n l m k : ℕ) (c : Completion) (w y z : World) (s r : S)
+    → Done t (inside at inner) n w c y → l ≡ n + m → (as_row t at next [] z, r) ≡ settle h (t.rest (framed (waiting at wait) []) c y) s
+    → next_run h t at next (m + k) z r
+    ≡ follow (ev h t (inside at inner) (l + k) w s) (λ e v x q. run h t (at.room - 1) (t.rest (framed (waiting at wait) []) e x) v q)
+goes-on {S = S} h t at inner wait next n l m k c w y z s r done units row =
+    let part : Part = inside at inner in
+    let o : Open = framed (waiting at wait) [] in
+    let sum : l + k ≡ n + (m + k) = omega (arith, units) in
+    ap (λ (after : Row × S). run h t (at.room - 1) after.0 (m + k) after.1) row
+    ∙ run-settles h t (at.room - 1) (t.rest o c y) (m + k) s
+    ∙ sym (ap (λ v. follow (ev h t part v w s) (λ e v x q. run h t (at.room - 1) (t.rest o e x) v q)) sum
+    ∙ ap (λ a. follow a (λ e v x q. run h t (at.room - 1) (t.rest o e x) v q)) (ev-done h t part n (m + k) c w y s done))
+
+pub part-asked : {S : Type 0} (h : Calling S) (t : Table) (at : Part) (inner : Inner) (wait : Wait) (next : Next) (n l m k : ℕ) (c : Completion) (w y z : World) (s r : S)
+    → Done t (inside at inner) n w c y → l ≡ n + m → (as_row t at next [] z, r) ≡ settle h (t.rest (framed (waiting at wait) []) c y) s
+    → next_run h t at next (m + k) z r ≡ next_run h t at (Ask inner wait) (l + k) w s
+part-asked h t at inner wait next n l m k c w y z s r done units row =
+    goes-on h t at inner wait next n l m k c w y z s r done units row
+    ∙ sym (run-asks h t (at.room - 1) (inside at inner) w (t.rest (framed (waiting at wait) [])) (l + k) s)
+
+pub part-turned : {S : Type 0} (h : Calling S) (t : Table) (at : Part) (inner : Inner) (wait : Wait) (next : Next) (n l m k : ℕ) (c : Completion) (w y z : World) (s r : S)
+    → Done t (inside at inner) n w c y → l ≡ n + m → (as_row t at next [] z, r) ≡ settle h (t.rest (framed (waiting at wait) []) c y) s
+    → next_run h t at next (m + k) z r ≡ next_run h t at (Turn inner wait) (l + k) w s
+part-turned h t at inner wait next n l m k c w y z s r done units row =
+    goes-on h t at inner wait next n l m k c w y z s r done units row
+    ∙ sym (run-again h t (at.room - 1) (inside at inner) w (framed (waiting at wait) []) (l + k) s)
 
 -- a row that asks for a part which is done at once
 pub asked : (t : Table) (part : Part) (w : World) (go : Completion → World → Row) (n m units : ℕ) (d c : Completion) (y x : World)

@@ -1,5 +1,5 @@
 -- What one step leaves of a run.
-use Rattle.std.proofs.Common.{◌≡◌, ℕ, ◌+◌, ◌-◌, List, [], ◌∷◌, ◌++◌, Result, Ok, Err, IfOk, OnOk, OnErr, ap, sym, ◌∙◌, add-one}
+use Rattle.std.proofs.Common.{◌≡◌, ℕ, ◌+◌, ◌-◌, ◌==◌, Bool, true, List, [], ◌∷◌, ◌++◌, length, Result, Ok, Err, IfOk, OnOk, OnErr, refl, ap, sym, ◌∙◌, add-one, arith}
 use Rattle.rip_values.specs.declared.value.Value.{Value}
 use Rattle.rip_heap.specs.World.{World}
 use Rattle.rip_runs.specs.declared.completion.Completion.{Completion}
@@ -7,7 +7,7 @@ use Rattle.rip_runs.specs.declared.next.Control.{Control}
 use Rattle.rip_runs.specs.declared.next.Control.TheVariants.{Enter, Give}
 use Rattle.rip_runs.specs.declared.next.Next.{Next}
 use Rattle.rip_runs.specs.declared.part.Part.{Part}
-use Rattle.rip_runs.specs.Rest.{as_row, control_of, frame_of, rest, unwind}
+use Rattle.rip_runs.specs.Rest.{as_row, control_of, frame_of, next_run, rest, room_in, unwind}
 use Rattle.rip_runs.specs.Row.{Row, Table, entered}
 use Rattle.rip_runs.specs.Run.{Calling, run}
 use Rattle.rip_runs.specs.Stack.{Open}
@@ -19,6 +19,16 @@ use Rattle.rip_runs.proofs.Settles.{run-settles}
 pub ok_both : {T E : Type 0} (r : Result T E) (P Q F : Type 0) → OnOk r P → OnOk r Q → (P → Q → F) → OnOk r F
 ok_both (Ok x) P Q F p q go = go p q
 ok_both (Err e) P Q F p q go = tt
+
+-- values whose test says that there are none
+pub no_values : (b : Bool) (vs : List Value) → b ≡ (length vs == 0) → b ≡ true → vs ≡ []
+no_values b [] e t = refl
+no_values b (v ∷ vs) e t = absurd (grind (arith, e, t))
+
+-- a fact of an answer gives another
+pub ok_map : {T E : Type 0} (r : Result T E) (P Q : Type 0) → OnOk r P → (P → Q) → OnOk r Q
+ok_map (Ok x) P Q p go = go p
+ok_map (Err e) P Q p go = tt
 
 -- what two facts of an answer give, or what it leaves where it is none
 pub ok_or_kept : {T E : Type 0} (r : Result T E) (P Q K F : Type 0) → OnOk r P → OnOk r Q → OnErr r K → (P → Q → F) → (K → F) → F
@@ -44,13 +54,27 @@ enter_rest h t part next os frames control w x s u row c f =
     ∙ sym (rest-next h t part next [] os u x s) ∙ ap (λ r. unwind h t os (run h t (part.room - 1) r u s)) row
     ∙ sym (rest-enters h t part os u w s) ∙ ap (λ n. rest h t (Enter part) os n w s) (sym (add-one u))
 
--- after a completion was given to the innermost frame, and the host was asked
-pub give_rest : {S : Type 0} (h : Calling S) (t : Table) (c : Completion) (next : Next) (below os frames : List Open) (o : Open) (control : Control) (w x : World) (s r : S) (u : ℕ)
-    → (as_row t o.frame.at next o.values x, r) ≡ settle h (t.rest o c w) s → os ≡ below ++ o ∷ [] → control ≡ control_of o.frame.at next → frames ≡ below ++ frame_of o.frame.at next o.values
-    → rest h t control frames u x r ≡ rest h t (Give c) os u w s
-give_rest {S = S} h t c next below os frames o control w x s r u row is d f =
+-- after a part was entered, and other parts that its row asks for were done
+pub begun_rest : {S : Type 0} (h : Calling S) (t : Table) (part : Part) (next : Next) (os frames : List Open) (control : Control) (w x : World) (s r : S) (u v : ℕ)
+    → next_run h t part next u x r ≡ run h t (part.room - 1) (entered t part w) v s → control ≡ control_of part next → frames ≡ os ++ frame_of part next []
+    → rest h t control frames u x r ≡ rest h t (Enter part) os (v + 1) w s
+begun_rest h t part next os frames control w x s r u v same c f =
+    ap (λ d. rest h t d frames u x r) c ∙ ap (λ fs. rest h t (control_of part next) fs u x r) f
+    ∙ sym (rest-next h t part next [] os u x r) ∙ ap (unwind h t os) same
+    ∙ sym (rest-enters h t part os v w s) ∙ ap (λ n. rest h t (Enter part) os n w s) (sym (add-one v))
+
+-- the run of what an open part does next is that of its row, where the host was asked
+pub settled_run : {S : Type 0} (h : Calling S) (t : Table) (at : Part) (next : Next) (values : List Value) (row : Row) (room u : ℕ) (x : World) (s r : S)
+    → (as_row t at next values x, r) ≡ settle h row s → run h t room (as_row t at next values x) u r ≡ run h t room row u s
+settled_run {S = S} h t at next values row room u x s r is = ap (λ (after : Row × S). run h t room after.0 u after.1) is ∙ run-settles h t room row u s
+
+-- after a completion was given to the innermost frame, and other parts that its row asks for were done
+pub given_rest : {S : Type 0} (h : Calling S) (t : Table) (c : Completion) (next : Next) (below os frames : List Open) (o : Open) (control : Control) (w x : World) (s r : S) (u v : ℕ)
+    → run h t (room_in o.frame) (as_row t o.frame.at next o.values x) u r ≡ run h t (room_in o.frame) (t.rest o c w) v s
+    → os ≡ below ++ o ∷ [] → control ≡ control_of o.frame.at next → frames ≡ below ++ frame_of o.frame.at next o.values
+    → rest h t control frames u x r ≡ rest h t (Give c) os v w s
+given_rest h t c next below os frames o control w x s r u v same is d f =
     let at : Part = o.frame.at in
     ap (λ e. rest h t e frames u x r) d ∙ ap (λ fs. rest h t (control_of at next) fs u x r) f
-    ∙ sym (rest-next h t at next o.values below u x r) ∙ ap (λ (after : Row × S). unwind h t below (run h t (at.room - 1) after.0 u after.1)) row
-    ∙ ap (unwind h t below) (run-settles h t (at.room - 1) (t.rest o c w) u s)
-    ∙ sym (rest-gives h t c below o u w s) ∙ ap (λ fs. rest h t (Give c) fs u w s) (sym is)
+    ∙ sym (rest-next h t at next o.values below u x r) ∙ ap (unwind h t below) same
+    ∙ sym (rest-gives h t c below o v w s) ∙ ap (λ fs. rest h t (Give c) fs v w s) (sym is)

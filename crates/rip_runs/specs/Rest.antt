@@ -53,6 +53,10 @@ as_row t at (Keep part wait v) values w = Asks (inside at part) w (t.rest (frame
 as_row t at (Turn part wait) values w = Again (inside at part) w (framed (waiting at wait) [])
 as_row t at (Call part node wait) values w = called_row t (inside at part) node wait w
 
+-- the run of what an open part does next, where no values are beside its frame
+abbrev pub next_run : {S : Type 0} → Calling S → Table → Part → Next → ℕ → World → S → Answer S
+next_run h t at next u w s = run h t (at.room - 1) (as_row t at next [] w) u s
+
 -- what the run goes on with where a part was called inside the open one
 abbrev pub called_control : Part → ℕ → Control
 called_control at node = if at.room == 0 then Halted (AtLimit Depth) at.room else Enter (inside at (inner at node))

@@ -15,7 +15,7 @@
 //! | a row, and the table of a program | `Row.Row`, `Row.Table`; the depth is tested by `Row.entered` |
 //! | the run of a row with so much depth and so many units | `Run.run`, by `Run.run_by`; of a part `Run.ev` |
 //! | a part inside an open one, and the depth left inside it | `Frame.inside`, `Rest.room_in` |
-//! | what an open part does next ([`Next`]) as a row | `Rest.as_row` |
+//! | what an open part does next ([`Next`]) as a row | `Rest.as_row`; the run of that `Rest.next_run` |
 //! | a row once the host has answered all that it asks before any part | `Settle.settle` |
 //! | a part that is done at once, without a cut and without the host | `Done.Done`, by `Done.Comes` of its row |
 //! | what is left of a run that stands | `Rest.rest`, by `Rest.finish` and `Rest.unwind` |
@@ -35,6 +35,7 @@
 //! | the innermost frame is finished first; a stop and a cut leave through all | `proofs/Laws.antt`: `unwind-push`, `unwind-stops`, `unwind-cuts` |
 //! | what is left after a step is what was left | `rest-next`, `rest-enters`, `rest-gives` |
 //! | a part that is done at once completes with these units, whatever is left | `proofs/Doing.antt`: `ev-done`, `rest-done` |
+//! | where a row waits for such a part, what it does with its completion runs on as the row did | `part-asked`, `part-turned` |
 //! | more units change no run that has come to its end | `proofs/Later.antt`: `of-later` |
 //! | a row whose calls of the host were made runs on as the row did | `proofs/Settles.antt`: `run-settles`, `settled` |
 //! | open parts are nested within the depth | `proofs/Nested.antt`: `next_inside` |

@@ -1,5 +1,5 @@
 use crate::completion::{Completed, Completion};
-use crate::frame::Frame;
+use crate::frame::Wait;
 use crate::next::Next;
 use crate::part::Part;
 use rip_heap::{Heap, Host};
@@ -12,6 +12,7 @@ pub trait Rows {
     ghost use Rattle.rip_values.specs.declared.value.Value.{Value as ScriptValue};
     ghost use Rattle.rip_heap.specs.Growth.{Grows};
     ghost use Rattle.rip_runs.specs.Done.{Done};
+    ghost use Rattle.rip_runs.specs.Frame.{waiting};
     ghost use Rattle.rip_runs.specs.Rest.{as_row};
     ghost use Rattle.rip_runs.specs.Row.{Table};
     ghost use Rattle.rip_runs.specs.Settle.{settle};
@@ -35,23 +36,24 @@ pub trait Rows {
             × (done.units ≤ most)) }
         ensures grows { Grows heap.old heap.new };
 
-    /// What an open part does with the completion of the part that it waits for, where these values are beside its frame.
+    /// What an open part does with the completion of the part that it waits for so, where these values are beside its frame.
     /// The calls of the host with which its row goes on are made.
     fn finish<H: Host>(
         &self,
         heap: &mut Heap,
         host: &mut H,
-        frame: &Frame,
+        at: &Part,
+        wait: &Wait,
         values: &[Value],
         c: &Completion,
     ) -> Result<Next, NoMemory>
         requires { H.fits host.old heap.old }
         ensures row { IfOk result (λ next. (
-          as_row (table self.now) frame.now.at next values.now
+          as_row (table self.now) at.now next values.now
               heap.new,
           host.new,
         ) ≡ settle H.answers ((table self.now).rest
-            (framed frame.now values.now) c.now heap.old) host.old) }
+            (framed (waiting at.now wait.now) values.now) c.now heap.old) host.old) }
         ensures fits { H.fits host.new heap.new }
         ensures grows { Grows heap.old heap.new };
 }

@@ -4,7 +4,8 @@ ghost use Rattle.rip_heap.specs.Growth.{Grows};
 ghost use Rattle.rip_runs.specs.Frame.{waiting};
 ghost use Rattle.rip_runs.specs.Law.{Stands, weight};
 ghost use Rattle.rip_runs.specs.Nesting.{IsInside};
-ghost use Rattle.rip_runs.specs.Rest.{called_control, called_frame, control_of, frame_of, rest};
+ghost use Rattle.rip_runs.specs.Rest.{as_row, called_control, called_frame, control_of, frame_of, next_run, rest, room_in};
+ghost use Rattle.rip_runs.specs.Run.{run};
 ghost use Rattle.rip_runs.specs.Stack.{framed, last_values, without_last};
 
 use crate::completion::{Completion, Stop};
@@ -174,27 +175,96 @@ pub(crate) fn keep_values(
     Ok(())
 }
 
-/// A part is entered, for which at least one unit is left.
+/// The part that an open part waits for, with no values beside its frame, is done at once, and next is what the open part does
+/// with its completion; and whether there was such a part.
+fn take_part<R: Rows, H: Host>(
+    rows: &R,
+    heap: &mut Heap,
+    host: &mut H,
+    at: &Part,
+    next: &mut Next,
+    left: &mut u64,
+) -> Result<bool, NoMemory>
+    requires fits { H.fits host.old heap.old }
+    ensures run { OnOk result ((k : ℕ) → next_run H.answers (R.table rows.now) at.now next.new
+        (left.new + k) heap.new host.new ≡ next_run H.answers (R.table rows.now) at.now next.old
+        (left.old + k) heap.old host.old) }
+    ensures less { IfOk result (λ taken. MatchBool taken (left.new < left.old) ⊤) }
+    ensures within { left.new ≤ left.old }
+    ensures fits { H.fits host.new heap.new }
+    ensures grows { Grows heap.old heap.new }
+{
+    match &*next {
+        Next::Ask(inner, wait) | Next::Turn(inner, wait) => {
+            match rows.at_once(heap, &at.inside(inner), *left) {
+                Some(done) => {
+                    *left -= done.units;
+                    match rows.finish(heap, host, at, wait, &[], &done.completion) {
+                        Ok(then) => {
+                            *next = then;
+                            Ok(true)
+                        },
+                        Err(NoMemory) => Err(NoMemory),
+                    }
+                },
+                None => Ok(false),
+            }
+        },
+        _ => Ok(false),
+    }
+}
+
+/// The parts for which an open part waits, with no values beside its frame, are done as long as they can be done at once.
+fn take_parts<R: Rows, H: Host>(
+    rows: &R,
+    heap: &mut Heap,
+    host: &mut H,
+    at: &Part,
+    next: &mut Next,
+    left: &mut u64,
+) -> Result<(), NoMemory>
+    requires fits { H.fits host.old heap.old }
+    ensures run { OnOk result ((k : ℕ) → next_run H.answers (R.table rows.now) at.now next.new
+        (left.new + k) heap.new host.new ≡ next_run H.answers (R.table rows.now) at.now next.old
+        (left.old + k) heap.old host.old) }
+    ensures within { left.new ≤ left.old }
+    ensures fits { H.fits host.new heap.new }
+    ensures grows { Grows heap.old heap.new }
+{
+    while take_part(rows, heap, host, at, next, left)? {}
+    Ok(())
+}
+
+/// Whether nobody has tried to do the part at once that is entered next.
+fn is_untried(next: &Next) -> bool {
+    !matches!(next, Next::Ask(_, _) | Next::Turn(_, _))
+}
+
+/// A part is entered, for which at least one unit is left; at once where that can be, if nobody has tried it.
 fn enter<R: Rows, H: Host>(
     rows: &R,
     heap: &mut Heap,
-    host: &H,
+    host: &mut H,
     stack: &mut Stack,
     part: &Part,
     control: &mut Control,
     left: &mut u64,
+    untried: &mut bool,
+    next: &mut Next,
 ) -> Result<(), NoMemory>
+    requires fits { H.fits host.old heap.old }
     requires inside { IsInside stack.old.most (Control.Enter part.now) stack.old.frames }
     requires some { 0 < left.old }
     ensures rest { OnOk result ((k : ℕ) → rest H.answers (R.table rows.now) control.new
-        stack.new.frames (left.new + k) heap.new host.now ≡ rest H.answers (R.table rows.now)
-        (Control.Enter part.now) stack.old.frames (left.old + k) heap.old host.now) }
+        stack.new.frames (left.new + k) heap.new host.new ≡ rest H.answers (R.table rows.now)
+        (Control.Enter part.now) stack.old.frames (left.old + k) heap.old host.old) }
     ensures weight { OnOk result (weight control.new stack.new.frames ≤ 2 * length stack.old.frames
         + 2) }
     ensures inside { OnOk result (IsInside stack.new.most control.new stack.new.frames) }
     ensures kept { OnErr result ((stack.new ≡ stack.old) × (control.new ≡ control.old)) }
     ensures less { left.new < left.old }
     ensures most { stack.new.most ≡ stack.old.most }
+    ensures fits { H.fits host.new heap.new }
     ensures grows { Grows heap.old heap.new }
 {
     if part.room == 0 {
@@ -203,44 +273,102 @@ fn enter<R: Rows, H: Host>(
         *control = Control::Halted { stop, room: 0 };
         return Ok(());
     }
-    match rows.at_once(heap, part, *left) {
-        Some(done) => {
+    if *untried {
+        if let Some(done) = rows.at_once(heap, part, *left) {
             *left -= done.units;
             *control = Control::Give(done.completion);
-            Ok(())
-        },
-        None => {
-            *left -= 1;
-            enter_row(rows, heap, host, stack, part, control)
-        },
+            return Ok(());
+        }
     }
+    *left -= 1;
+    enter_row(rows, heap, host, stack, part, control, left, untried, next)
+}
+
+/// What a part does first whose unit was taken, and after it the parts that are done at once.
+fn begin<R: Rows, H: Host>(
+    rows: &R,
+    heap: &mut Heap,
+    host: &mut H,
+    part: &Part,
+    next: &mut Next,
+    left: &mut u64,
+) -> Result<(), NoMemory>
+    requires fits { H.fits host.old heap.old }
+    ensures run { OnOk result ((k : ℕ) → next_run H.answers (R.table rows.now) part.now next.new
+        (left.new + k) heap.new host.new ≡ run H.answers (R.table rows.now) (part.now.room - 1)
+        ((R.table rows.now).row part.now heap.old) (left.old + k) host.old) }
+    ensures within { left.new ≤ left.old }
+    ensures fits { H.fits host.new heap.new }
+    ensures grows { Grows heap.old heap.new }
+{
+    match rows.begin(heap, part) {
+        Ok(first) => *next = first,
+        Err(NoMemory) => return Err(NoMemory),
+    }
+    take_parts(rows, heap, host, part, next, left)
 }
 
 /// A part is entered by its row, whose unit was taken.
 fn enter_row<R: Rows, H: Host>(
     rows: &R,
     heap: &mut Heap,
-    host: &H,
+    host: &mut H,
     stack: &mut Stack,
     part: &Part,
     control: &mut Control,
+    left: &mut u64,
+    untried: &mut bool,
+    next: &mut Next,
 ) -> Result<(), NoMemory>
+    requires fits { H.fits host.old heap.old }
     requires inside { IsInside stack.old.most (Control.Enter part.now) stack.old.frames }
     requires some { 0 < part.now.room }
-    ensures rest { OnOk result ((u : ℕ) → rest H.answers (R.table rows.now) control.new
-        stack.new.frames u heap.new host.now ≡ rest H.answers (R.table rows.now)
-        (Control.Enter part.now) stack.old.frames (u + 1) heap.old host.now) }
+    ensures rest { OnOk result ((k : ℕ) → rest H.answers (R.table rows.now) control.new
+        stack.new.frames (left.new + k) heap.new host.new ≡ rest H.answers (R.table rows.now)
+        (Control.Enter part.now) stack.old.frames (left.old + k + 1) heap.old host.old) }
     ensures weight { OnOk result (weight control.new stack.new.frames ≤ 2 * length stack.old.frames
         + 2) }
     ensures inside { OnOk result (IsInside stack.new.most control.new stack.new.frames) }
     ensures kept { OnErr result ((stack.new ≡ stack.old) × (control.new ≡ control.old)) }
+    ensures within { left.new ≤ left.old }
     ensures most { stack.new.most ≡ stack.old.most }
+    ensures fits { H.fits host.new heap.new }
     ensures grows { Grows heap.old heap.new }
 {
-    match &rows.begin(heap, part) {
-        Ok(next) => open(stack, part, next, control),
-        Err(NoMemory) => Err(NoMemory),
+    begin(rows, heap, host, part, next, left)?;
+    *untried = is_untried(next);
+    open(stack, part, next, control)
+}
+
+/// What an open part does with the completion of the part that it waits for so, and after it the parts that are done at once.
+fn finish<R: Rows, H: Host>(
+    rows: &R,
+    heap: &mut Heap,
+    host: &mut H,
+    frame: &Frame,
+    values: &[Value],
+    c: &Completion,
+    next: &mut Next,
+    left: &mut u64,
+) -> Result<(), NoMemory>
+    requires fits { H.fits host.old heap.old }
+    ensures run { OnOk result ((k : ℕ) → run H.answers (R.table rows.now)
+        (room_in frame.now) (as_row (R.table rows.now) frame.now.at next.new values.now heap.new)
+        (left.new + k) host.new ≡ run H.answers (R.table rows.now) (room_in frame.now)
+        ((R.table rows.now).rest (framed frame.now values.now) c.now heap.old) (left.old + k)
+        host.old) }
+    ensures within { left.new ≤ left.old }
+    ensures fits { H.fits host.new heap.new }
+    ensures grows { Grows heap.old heap.new }
+{
+    match rows.finish(heap, host, &frame.at, &frame.wait, values, c) {
+        Ok(then) => *next = then,
+        Err(NoMemory) => return Err(NoMemory),
     }
+    if values.is_empty() {
+        return take_parts(rows, heap, host, &frame.at, next, left);
+    }
+    Ok(())
 }
 
 /// A completion is given to the innermost frame; where there is none, nothing is done.
@@ -251,19 +379,24 @@ fn give<R: Rows, H: Host>(
     stack: &mut Stack,
     c: Completion,
     control: &mut Control,
+    left: &mut u64,
+    untried: &mut bool,
+    next: &mut Next,
 ) -> Result<bool, NoMemory>
     requires fits { H.fits host.old heap.old }
     requires inside { IsInside stack.old.most (Control.Give c) stack.old.frames }
     ensures rest { IfOk result (λ given. MatchBool given
-        ((u : ℕ) → rest H.answers (R.table rows.now) control.new stack.new.frames u heap.new
-        host.new ≡ rest H.answers (R.table rows.now) (Control.Give c) stack.old.frames u heap.old
-        host.old) ((stack.old.frames ≡ []) × (control.new ≡ control.old) × (stack.new ≡ stack.old)
-        × (heap.new ≡ heap.old) × (host.new ≡ host.old))) }
+        ((k : ℕ) → rest H.answers (R.table rows.now) control.new stack.new.frames (left.new + k)
+        heap.new host.new ≡ rest H.answers (R.table rows.now) (Control.Give c) stack.old.frames
+        (left.old + k) heap.old host.old) ((stack.old.frames ≡ []) × (control.new ≡ control.old)
+        × (stack.new ≡ stack.old) × (left.new ≡ left.old) × (heap.new ≡ heap.old)
+        × (host.new ≡ host.old))) }
     ensures weight { IfOk result (λ given. MatchBool given
         (weight control.new stack.new.frames < weight (Control.Give c) stack.old.frames) ⊤) }
     ensures inside { IfOk result (λ given. MatchBool given
         (IsInside stack.new.most control.new stack.new.frames) ⊤) }
     ensures kept { OnErr result ((stack.new ≡ stack.old) × (control.new ≡ control.old)) }
+    ensures within { left.new ≤ left.old }
     ensures most { stack.new.most ≡ stack.old.most }
     ensures fits { H.fits host.new heap.new }
     ensures grows { Grows heap.old heap.new }
@@ -273,13 +406,10 @@ fn give<R: Rows, H: Host>(
         None => return Ok(false),
     };
     let at = frame.at;
-    match &rows.finish(heap, host, frame, stack.values(), &c) {
-        Ok(next) => {
-            reopen(stack, &at, next, control)?;
-            Ok(true)
-        },
-        Err(NoMemory) => Err(NoMemory),
-    }
+    finish(rows, heap, host, frame, stack.values(), &c, next, left)?;
+    *untried = is_untried(next);
+    reopen(stack, &at, next, control)?;
+    Ok(true)
 }
 
 /// One step of a run, and whether there was one: none where no unit is left for a part, or the run is at its end.
@@ -290,6 +420,8 @@ fn step<R: Rows, H: Host>(
     stack: &mut Stack,
     control: &mut Control,
     left: &mut u64,
+    untried: &mut bool,
+    next: &mut Next,
 ) -> Result<bool, NoMemory>
     requires fits { H.fits host.old heap.old }
     requires inside { IsInside stack.old.most control.old stack.old.frames }
@@ -314,12 +446,12 @@ fn step<R: Rows, H: Host>(
                 return Ok(false);
             }
             let part = *part;
-            enter(rows, heap, host, stack, &part, control, left)?;
+            enter(rows, heap, host, stack, &part, control, left, untried, next)?;
             Ok(true)
         },
         Control::Give(c) => {
             let c = *c;
-            give(rows, heap, host, stack, c, control)
+            give(rows, heap, host, stack, c, control, left, untried, next)
         },
         Control::Halted { .. } => Ok(false),
     }
@@ -348,6 +480,17 @@ pub(crate) fn steps<R: Rows, H: Host>(
     ensures grows { Grows heap.old heap.new }
 {
     let mut left = budget;
-    while step(rows, heap, host, stack, control, &mut left)? {}
+    let mut untried = true;
+    let mut next = Next::End(Completion::Normal(Value::Undefined));
+    while step(
+        rows,
+        heap,
+        host,
+        stack,
+        control,
+        &mut left,
+        &mut untried,
+        &mut next,
+    )? {}
     Ok(left)
 }

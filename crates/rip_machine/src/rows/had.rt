@@ -15,7 +15,6 @@ ghost use Rattle.rip_machine.specs.Table.{row_by};
 use crate::rows::answers::truth_of;
 use crate::rows::names::found;
 use crate::rows::operators::is_decided;
-use crate::rows::tried::{may_be_had, may_be_taken};
 use crate::rows::unary::{is_delete, is_type_of};
 use crate::source::Source;
 use rip_heap::{Heap, Key, is_index, strictly_equal, to_boolean, to_number};
@@ -98,7 +97,17 @@ pub(crate) fn had_inside(
     if height == 0 || left == 0 || at.room < 2 {
         return None;
     }
-    had_part(p, heap, &at.inside(&at.inner(node)), height - 1, left)
+    match p.form(node) {
+        Form::Name(_) => match name_inside(p, heap, at, node) {
+            Some(value) => Some(Had { value, units: 1 }),
+            None => None,
+        },
+        Form::Number(number) => Some(Had {
+            value: Value::Num(number),
+            units: 1,
+        }),
+        _ => had_part(p, heap, &at.inside(&at.inner(node)), height - 1, left),
+    }
 }
 
 // LEAVES
@@ -121,6 +130,14 @@ fn value_of_name(p: &Source, heap: &Heap, at: &Part) -> Option<Value>
     }
 }
 
+/// The value of a name inside the open part, where it is bound.
+fn name_inside(p: &Source, heap: &Heap, at: &Part, node: u32) -> Option<Value>
+    ensures { IfSome result (λ v. name_row p.now (part at.now node) Role.Value heap.now
+        ≡ Ends (Completion.Normal v) heap.now) }
+{
+    found(heap, at.scope, p.scoping(node).resolved)
+}
+
 // OPERATORS
 
 #[cycle(had)]
@@ -130,9 +147,6 @@ fn had_binary(p: &Source, heap: &Heap, at: &Part, height: u32, left: u64) -> Opt
 {
     let op = p.operator(at.node);
     let right = p.child(at.node, 1);
-    if !may_be_taken(p, op, right) {
-        return None;
-    }
     let a = had_inside(p, heap, at, p.child(at.node, 0), height, left)?;
     if makes_text(op, &a.value) {
         return None;
@@ -151,9 +165,6 @@ fn had_logical(p: &Source, heap: &Heap, at: &Part, height: u32, left: u64) -> Op
     ensures within { IsWithin left result }
 {
     let second = p.child(at.node, 1);
-    if !may_be_had(p, second) {
-        return None;
-    }
     let a = had_inside(p, heap, at, p.child(at.node, 0), height, left)?;
     if is_decided(p.logical_operator(at.node), truth_of(heap, &a.value)) {
         return Some(a);
@@ -170,11 +181,6 @@ fn had_conditional(p: &Source, heap: &Heap, at: &Part, height: u32, left: u64) -
     ensures had { RowIsHad p.now (conditional_row p.now at.now heap.now) heap.now result }
     ensures within { IsWithin left result }
 {
-    let first = p.child(at.node, 1);
-    let second = p.child(at.node, 2);
-    if !may_be_had(p, first) || !may_be_had(p, second) {
-        return None;
-    }
     let test = had_inside(p, heap, at, p.child(at.node, 0), height, left)?;
     let place = if truth_of(heap, &test.value) { 1 } else { 2 };
     let last = had_inside(
@@ -259,7 +265,7 @@ fn is_read(at: &Part) -> bool
 }
 
 /// The member of a base, where it is a value, and the host has not to be asked.
-fn read_had(heap: &Heap, base: Value, key: Key) -> Option<Value>
+pub(crate) fn read_had(heap: &Heap, base: Value, key: Key) -> Option<Value>
     ensures { IfSome result (λ v. read heap.now base key ≡ Read.Value v) }
 {
     match read(heap, base, key) {
@@ -269,7 +275,7 @@ fn read_had(heap: &Heap, base: Value, key: Key) -> Option<Value>
 }
 
 /// The key of a member, where it makes no text.
-fn key_had(heap: &Heap, base: Value, key: Value) -> Option<Key>
+pub(crate) fn key_had(heap: &Heap, base: Value, key: Value) -> Option<Key>
     ensures { IfSome result (λ k. key_of heap.now base key ≡ Keys k heap.now) }
 {
     match base_of(heap, base) {

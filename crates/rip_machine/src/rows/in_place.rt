@@ -7,7 +7,7 @@ ghost use Rattle.rip_heap.specs.Outcome.{Gives};
 ghost use Rattle.rip_ops.specs.Operators.{binary};
 ghost use Rattle.rip_runs.specs.Done.{Comes};
 ghost use Rattle.rip_runs.specs.Row.{Row, Ends, with_value};
-ghost use Rattle.rip_machine.specs.InPlace.{IsDone, IsDoneWithin, IsWithin, RowIsDone, RowIsHad};
+ghost use Rattle.rip_machine.specs.InPlace.{IsDone, IsDoneWithin, RowIsDone};
 ghost use Rattle.rip_machine.specs.Reading.{Loaded, child, child_at, children_from, form_of, operator, part, target_at};
 ghost use Rattle.rip_machine.specs.Rows.Expressions.{assign_row, compound_row, gives, step_row, target_found, writes};
 ghost use Rattle.rip_machine.specs.Rows.Statements.{block_row, branch_of, expression_row, if_row, is_declaration, is_for, return_end, return_row, var_row};
@@ -15,13 +15,15 @@ ghost use Rattle.rip_machine.specs.Table.{row, row_by};
 
 use crate::rows::answers::{truth_of, value_of};
 use crate::rows::assignment::{numbers_of_step, target_found};
-use crate::rows::had::{Had, calculated, had_by_form, had_inside};
+use crate::rows::had::{calculated, had_inside, had_part};
 use crate::rows::names::write;
+use crate::rows::referred::{done_reference, done_target, valued};
 use crate::rows::statements::{is_declaration, is_for};
-use crate::rows::tried::may_be_done;
 use crate::source::Source;
-use rip_heap::Heap;
-use rip_runs::{Completed, Completion, Part};
+use crate::worth::Worth;
+use rip_heap::{Heap, Reference};
+use rip_members::{Written, write as put};
+use rip_runs::{Completed, Completion, Part, Role};
 use rip_tree::Form;
 use rip_values::Value;
 
@@ -42,12 +44,19 @@ pub(crate) fn done(
     ensures within { IsDoneWithin left result }
     ensures grows { Grows heap.old heap.new }
 {
-    match done_by_form(p, heap, at, &p.form(at.node), height, left - 1) {
-        Some(done) => Some(Completed {
-            completion: done.completion,
-            units: done.units + 1,
-        }),
-        None => None,
+    match p.worth(at.node) {
+        Worth::Nothing => None,
+        Worth::Value(_) => match at.role {
+            Role::Value => valued(had_part(p, heap, at, height, left)),
+            _ => done_reference(p, heap, at, height, left),
+        },
+        Worth::Deed(_) => match done_by_form(p, heap, at, &p.form(at.node), height, left - 1) {
+            Some(done) => Some(Completed {
+                completion: done.completion,
+                units: done.units + 1,
+            }),
+            None => None,
+        },
     }
 }
 
@@ -76,7 +85,7 @@ fn done_by_form(
         Form::Prefix(_) | Form::Postfix(_) => done_step(p, heap, at, left),
         Form::Break => ended(Completion::Broken),
         Form::Continue => ended(Completion::Continued),
-        _ => valued(had_by_form(p, heap, at, form, height, left)),
+        _ => None,
     }
 }
 
@@ -108,21 +117,6 @@ fn ended(completion: Completion) -> Option<Completed>
         completion,
         units: 0,
     })
-}
-
-/// A value that was had, as a completion.
-fn valued(had: Option<Had>) -> Option<Completed>
-    ensures done { (p : Loaded) (row : Row) (w : World) → RowIsHad p row w had → RowIsDone p row w
-        result w }
-    ensures within { (left : ℕ) → IsWithin left had → IsDoneWithin left result }
-{
-    match had {
-        Some(had) => Some(Completed {
-            completion: Completion::Normal(had.value),
-            units: had.units,
-        }),
-        None => None,
-    }
 }
 
 // STATEMENTS
@@ -239,10 +233,6 @@ fn done_if(p: &Source, heap: &mut Heap, at: &Part, height: u32, left: u64) -> Op
     ensures within { IsDoneWithin left result }
     ensures grows { Grows heap.old heap.new }
 {
-    let then = p.child(at.node, 1);
-    if !may_be_done(p, then) {
-        return None;
-    }
     let test = match had_inside(p, heap, at, p.child(at.node, 0), height, left) {
         Some(test) => test,
         None => return None,
@@ -338,12 +328,67 @@ fn done_assign(p: &Source, heap: &mut Heap, at: &Part, height: u32, left: u64) -
     ensures within { IsDoneWithin left result }
     ensures grows { Grows heap.old heap.new }
 {
-    if left == 0 || !is_name(p, at) {
+    if left == 0 {
         return None;
+    }
+    if !is_name(p, at) {
+        return done_to_member(p, heap, at, height, left);
     }
     match had_inside(p, heap, at, p.child(at.node, 1), height, left - 1) {
         Some(had) => done_write(p, heap, at, &had.value, &had.value, had.units + 1),
         None => None,
+    }
+}
+
+/// An assignment whose target is a member.
+fn done_to_member(
+    p: &Source,
+    heap: &mut Heap,
+    at: &Part,
+    height: u32,
+    left: u64,
+) -> Option<Completed>
+    ensures done { RowIsDone p.now (assign_row p.now at.now heap.old) heap.old result heap.new }
+    ensures within { IsDoneWithin left result }
+    ensures grows { Grows heap.old heap.new }
+{
+    let target = match done_target(p, heap, at, height, left) {
+        Some(target) => target,
+        None => return None,
+    };
+    let taken = target.units;
+    match target.completion {
+        Completion::Referred(member) => {
+            match had_inside(p, heap, at, p.child(at.node, 1), height, left - taken) {
+                Some(had) => done_put(p, heap, at, &member, &had.value, taken + had.units),
+                None => None,
+            }
+        },
+        _ => None,
+    }
+}
+
+/// A value is written to the member that is the target of a node.
+fn done_put(
+    p: &Source,
+    heap: &mut Heap,
+    at: &Part,
+    member: &Reference,
+    v: &Value,
+    units: u64,
+) -> Option<Completed>
+    ensures done { MatchOption result (heap.new ≡ heap.old)
+        (λ d. (writes p.now at.now (Some member.now) v.now v.now heap.old
+        ≡ Ends d.completion heap.new) × (d.units ≡ units)) }
+    ensures grows { Grows heap.old heap.new }
+{
+    match put(p.alloc(), heap, member.base, member.key, *v) {
+        Ok(Written::Done) => Some(Completed {
+            completion: Completion::Normal(*v),
+            units,
+        }),
+        Ok(Written::Host { .. }) => None,
+        Err(_) => None,
     }
 }
 

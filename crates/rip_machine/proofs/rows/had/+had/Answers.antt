@@ -1,4 +1,4 @@
-use Rattle.std.proofs.Common.{◌≡◌, ℕ, ◌+◌, Bool, if◌then◌else◌, ap, refl, sym, ◌∙◌, subst}
+use Rattle.std.proofs.Common.{◌≡◌, ℕ, ◌+◌, ◌<◌, Bool, if◌then◌else◌, ap, refl, sym, ◌∙◌, subst, arith}
 use Rattle.rip_values.specs.declared.value.Value.TheVariants.{Null, Num, Bool as Boolean, Text}
 use Rattle.rip_heap.specs.declared.keys.Key.TheVariants.{Name}
 use Rattle.rip_heap.specs.Conversions.{boolean_of}
@@ -7,9 +7,11 @@ use Rattle.rip_members.specs.declared.outcome.Read.TheVariants.{Value as IsRead}
 use Rattle.rip_members.specs.Reading.{read}
 use Rattle.rip_ops.specs.Operators.{binary}
 use Rattle.rip_runs.specs.declared.completion.Completion.TheVariants.{Normal}
+use Rattle.rip_runs.specs.declared.part.Part.{Part}
+use Rattle.rip_machine.specs.Reading.{part}
 use Rattle.rip_machine.specs.Rows.Expressions.{gives, operated}
 use Rattle.rip_machine.specs.Table.{row_by}
-use Rattle.rip_machine.proofs.InPlace.{binary_had, conditional_had, index_had, leaf_had, logical_decided, logical_had, member_had, of_child, unary_had}
+use Rattle.rip_machine.proofs.InPlace.{binary_had, conditional_had, index_had, leaf_had, logical_decided, logical_had, member_had, of_child, part_had, unary_had}
 use Rattle.rip_machine.proofs.rows.had.+had.Goals as goal
 use Rattle.rip_machine.proofs.rows.had.+had.Goals.{had_conditional-then-truth_of, had_conditional-else-truth_of}
 
@@ -58,6 +60,22 @@ had_by_form-returns-in-Null-clause-had t c =
     let at = c.args.at.now in
     let w = c.args.heap.now in
     leaf_had p (row_by p at c.args.form.now w) w Null c.leaf-in-Null.result c.leaf-in-Null.ensures (ap (λ form. row_by p at form w) c.in-Null.is)
+
+pub had_inside-returns-in-Some-clause-had : goal.had_inside-returns-in-Some-clause-had
+had_inside-returns-in-Some-clause-had t c =
+    let p = c.args.p.now in
+    let w = c.args.heap.now in
+    let inner : Part = part c.args.at.now c.args.node in
+    let some : 0 < inner.room = omega arith in
+    part_had p inner w c.in-Some.value some (ap (λ form. row_by p inner form w) (sym c.form.ensures ∙ c.in-Name.is) ∙ c.in-Some.ensures)
+
+pub had_inside-returns-in-Number-clause-had : goal.had_inside-returns-in-Number-clause-had
+had_inside-returns-in-Number-clause-had t c =
+    let p = c.args.p.now in
+    let w = c.args.heap.now in
+    let inner : Part = part c.args.at.now c.args.node in
+    let some : 0 < inner.room = omega arith in
+    part_had p inner w (Num c.in-Number.number) some (ap (λ form. row_by p inner form w) (sym c.form.ensures ∙ c.in-Number.is))
 
 -- OPERATORS
 

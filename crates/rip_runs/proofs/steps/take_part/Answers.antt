@@ -1,0 +1,30 @@
+use Rattle.std.proofs.Common.{◌+◌, ◌-◌, ap, sym, subst, ◌∙◌, inl, inr, arith}
+use Rattle.rip_runs.specs.Done.{Done}
+use Rattle.rip_runs.specs.Frame.{inside}
+use Rattle.rip_runs.specs.Rest.{next_run}
+use Rattle.rip_runs.proofs.Doing.{part-asked, part-turned}
+use Rattle.rip_runs.proofs.steps.take_part.Goals as goal
+
+pub returns-in-Ok-clause-run : goal.returns-in-Ok-clause-run
+returns-in-Ok-clause-run g c k =
+    let h = g.H.Host.answers in
+    let t = g.R.Rows.table c.args.rows.now in
+    let at = c.args.at.now in
+    let inner = c.in-Ask.inner in
+    let wait = c.in-Ask.wait in
+    let next = c.in-Ok.then in
+    let done = c.in-Some.done in
+    let l = c.args.left.now in
+    let w = c.args.heap.now in
+    let y = c.at_once.new.heap in
+    let z = c.finish.new.heap in
+    let s = c.args.host.now in
+    let r = c.finish.new.host in
+    let first : Done t (inside at inner) done.units w done.completion y =
+    subst (λ part. Done t part done.units w done.completion y) c.inside.ensures c.in-Some.ensures.done.0 in
+    elim c.in-Ask.is [
+      | inl e ↦ part-asked h t at inner wait next done.units l (l - done.units) k done.completion w y z s r first (omega (arith, c.in-Some.ensures.done.1)) c.in-Ok.ensures.row
+          ∙ ap (λ n. next_run h t at n (l + k) w s) (sym e)
+      | inr e ↦ part-turned h t at inner wait next done.units l (l - done.units) k done.completion w y z s r first (omega (arith, c.in-Some.ensures.done.1)) c.in-Ok.ensures.row
+          ∙ ap (λ n. next_run h t at n (l + k) w s) (sym e)
+    ]
