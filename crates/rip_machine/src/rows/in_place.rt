@@ -357,10 +357,10 @@ fn done_to_member(
         None => return None,
     };
     let taken = target.units;
-    match target.completion {
+    match &target.completion {
         Completion::Referred(member) => {
             match had_inside(p, heap, at, p.child(at.node, 1), height, left - taken) {
-                Some(had) => done_put(p, heap, at, &member, &had.value, taken + had.units),
+                Some(had) => done_put(p, heap, at, member, &had.value, taken + had.units),
                 None => None,
             }
         },
