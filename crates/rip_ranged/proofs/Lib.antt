@@ -2,4 +2,4 @@ mod DecidedLemmas
 mod IdentifierLemmas
 mod MadeLemmas
 pub mod RunLemmas
-mod ServiceLemmas
+pub mod ServiceLemmas

@@ -23,8 +23,9 @@ use Rattle.rip_ranged.specs.Ranged.{AreTimed}
 use Rattle.rip_ranged.proofs.RunLemmas.{logs_are_in_range, broken_runs_are_in_range}
 use Rattle.rip_server.specs.Acts.{Seen, InPart, Stopped}
 use Rattle.rip_turn.specs.Turning.{Source, Outer, Gives, StopsIn, at_knock, behind}
-use Rattle.rip_serve.specs.Legal.{AreLegal, IsDoneWith, AreGiven, ArePutInRange, IsLegalRun, IsLegalFront, IsCutRun, ServedIsLegal}
+use Rattle.rip_serve.specs.Legal.{IsLegal, history_begun, history_put, AreLegal, IsDoneWith, AreGiven, ArePutInRange, IsLegalRun, IsLegalFront, IsCutRun, ServedIsLegal}
 use Rattle.rip_serve.specs.Serving.{moments_of, words_of, AreTimely, AreKnocks, Tells, Ran, BreaksInTurn, OnlyPuts, BreaksAtEnd, Breaks, unmade, in_turn, at_end}
+use Rattle.rip_serve.specs.declared.serving.Stop.{Stop}
 use Rattle.rip_serve.specs.declared.serving.Stop.TheVariants.{Idle, TurnsSpent, Outside, Memory}
 use Rattle.rip_serve.proofs.TellLemmas.{log-append, gives_none}
 
@@ -217,3 +218,14 @@ served_is_legal site most Idle old new lawful s = legal_run site most 0 old new 
 served_is_legal site most TurnsSpent old new lawful s = legal_run site most 3 old new lawful s.0
 served_is_legal site most Outside old new lawful s = broken site most old new lawful s.0
 served_is_legal site most Memory old new lawful s = broken site most old new lawful s.0
+
+-- the history that serving put is in range, where what sessions and service do is
+put_in_range : (site : Site) (most : ℕ) (old new : Outer) (begun : IsLegalFront site most old new ⊎ IsCutRun site most old new) → ArePutInRange site most (history_begun site most old new begun)
+put_in_range site most old new (inl front) = front.in_range
+put_in_range site most old new (inr cut) = cut.in_range
+
+pub puts_in_range : (site : Site) (most : ℕ) (stop : Stop) (old new : Outer) (legal : IsLegal site most stop old new) → ArePutInRange site most (history_put site most stop old new legal)
+puts_in_range site most Idle old new run = run.in_range
+puts_in_range site most TurnsSpent old new run = run.in_range
+puts_in_range site most Outside old new begun = put_in_range site most old new begun
+puts_in_range site most Memory old new begun = put_in_range site most old new begun

@@ -1,5 +1,6 @@
 -- What is put by serving is a legal course.
 use Rattle.std.specs.Prelude.{◌≡◌, ◌⊎◌, ℕ, ◌<◌, ◌≤◌, ◌^◌, List, [], ◌∷◌, ◌++◌, length, Some}
+use Rattle.std.proofs.Common.{inl, inr}
 use Rattle.rip_outer.specs.Outside.{Front, also}
 use Rattle.rip_log.specs.Entries.{Recorded, ended}
 use Rattle.rip_log.specs.Histories.{history_text, IsHistory}
@@ -92,3 +93,16 @@ abbrev pub ServedIsLegal : Type 0
 ServedIsLegal =
     (site : Site) (most : ℕ) (stop : Stop) (old new : Outer) → IsLawful site.meaning → Serves site most stop old new
     → IsLegal site most stop old new
+
+-- the history of which a run that breaks off put a front
+abbrev pub history_begun : (site : Site) (most : ℕ) (old new : Outer) → IsLegalFront site most old new ⊎ IsCutRun site most old new
+    → List Recorded
+history_begun site most old new (inl front) = front.history
+history_begun site most old new (inr cut) = history_of site cut.turns ++ ended (length cut.turns) cut.status ∷ []
+
+-- the history of which serving put the text, or a front of it
+abbrev pub history_put : (site : Site) (most : ℕ) (stop : Stop) (old new : Outer) → IsLegal site most stop old new → List Recorded
+history_put site most Idle old new run = history_of site run.turns ++ ended (length run.turns) 0 ∷ []
+history_put site most TurnsSpent old new run = history_of site run.turns ++ ended (length run.turns) 3 ∷ []
+history_put site most Outside old new begun = history_begun site most old new begun
+history_put site most Memory old new begun = history_begun site most old new begun
