@@ -1,5 +1,5 @@
 -- What serving says of what was done for the input.
-use Rattle.std.proofs.Common.{◌≡◌, ℕ, List, Option, Some, None, inl, inr, refl, sym, ap, ◌∙◌, subst, arith}
+use Rattle.std.proofs.Common.{◌≡◌, ◌<◌, ◌^◌, ℕ, List, Option, Some, None, inl, inr, refl, sym, ap, ◌∙◌, subst, arith}
 use Rattle.std.specs.Prelude.{Result, Ok, Err, IfOk}
 use Rattle.rip_outer.specs.Moments.{ClockState, WordsState, new_clock, moment_at, new_words, word_at}
 use Rattle.rip_outer.specs.Outside.{Rose}
@@ -11,6 +11,9 @@ use Rattle.rip_course.specs.Services.{Service, service_of}
 use Rattle.rip_turn.specs.Turning.{Outer, outer, source, site_of}
 use Rattle.rip_serve.specs.Serving.{Serves, NoFaults, OneFault}
 use Rattle.rip_serve.specs.Legal.{IsLegal}
+use Rattle.rip_serve.proofs.LegalLemmas.{puts_in_range}
+use Rattle.rip_meant.proofs.PartLemmas.{applications_in_range}
+use Rattle.rip_ranged.proofs.ServiceLemmas.{functions_reply_in_range}
 use Rattle.rip_serve.specs.declared.serving.Stop.{Stop}
 use Rattle.rip_session.specs.Application.{meaning_of_app}
 use Rattle.rip_cli.specs.Input.{IsApp, HasTrace}
@@ -96,10 +99,15 @@ site_same app m meant limit page one two three four =
 
 pub serves_app : (app : Loaded) (m : Meaning) (meant : Service) (limit : ℕ) (page : List ℕ) (most : ℕ) (how : Stop) (old new : Outer) → m ≡ meaning_of_app app
     → meant ≡ service_of app.manifest.functions → limit ≡ app.manifest.limits.sessions → page ≡ app.bytes
-    → Serves (site_of m meant limit page) most how old new → IsLegal (site_of m meant limit page) most how old new → ServesApp app most how old new
-serves_app app m meant limit page most how old new one two three four serves legal =
+    → most < 2 ^ 64 → Serves (site_of m meant limit page) most how old new → IsLegal (site_of m meant limit page) most how old new → ServesApp app most how old new
+serves_app app m meant limit page most how old new one two three four few serves legal =
     let same = site_same app m meant limit page one two three four in
-    record { serves = subst (λ s. Serves s most how old new) same serves; legal = subst (λ s. IsLegal s most how old new) same legal }
+    let course : IsLegal (site_of_app app) most how old new = subst (λ s. IsLegal s most how old new) same legal in
+    record {
+      serves = subst (λ s. Serves s most how old new) same serves;
+      legal = course;
+      in_range = puts_in_range (site_of_app app) most how old new course few (applications_in_range app) (functions_reply_in_range app.manifest.functions);
+    }
 
 -- ---- what a trace brings
 
