@@ -15,7 +15,6 @@ use rip_trace::{Gestures, Trace, TraceRefusal, read_gestures, read_trace};
 use rip_values::Bytes;
 use rip_words::Command;
 use std::alloc::Global;
-use std::fmt;
 
 /// What reading a file gave.
 #[derive(Debug, Drop)]
@@ -65,19 +64,17 @@ pub enum ReadStop {
     Memory,
 }
 
-impl fmt::Display for InputFile {
-    ghost use Rattle.std.specs.Prelude.{Some};
-    ghost use Rattle.rip_cli.specs.Steps.{file_word};
-
-    ghost output = { λ file. Some (file_word file) };
-
-    fn fmt<W: fmt::Write>(&self, f: &mut fmt::Formatter<W>) -> fmt::Result {
-        f.write_str(match self {
-            InputFile::Page => "page",
-            InputFile::App => "app",
-            InputFile::Trace => "trace",
-            InputFile::Gestures => "gestures",
-        })
+impl InputFile {
+    /// The word by which a line names the file.
+    pub fn word(self) -> &'static [u8]
+        ensures { result.now ≡ file_word self }
+    {
+        match self {
+            InputFile::Page => b"page",
+            InputFile::App => b"app",
+            InputFile::Trace => b"trace",
+            InputFile::Gestures => b"gestures",
+        }
     }
 }
 

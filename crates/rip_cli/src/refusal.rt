@@ -1,10 +1,14 @@
-ghost use Rattle.std.specs.Prelude.{◌≡◌, IfOk, Some, string_bytes};
+ghost use Rattle.std.specs.Prelude.{◌≡◌, IfOk, Some};
 ghost use Rattle.rip_cli.specs.Lines.{app_line};
 ghost use Rattle.rip_cli.specs.Steps.{refusal_line};
 
 use crate::input::InputFile;
+use crate::lines::{
+    gestures_line, manifest_line, page_line, script_line, too_long_line, trace_line,
+};
 use rip_app::AppRefusal;
-use std::alloc::{AllocError, Global};
+use rip_values::{Bytes, NoMemory};
+use std::alloc::Global;
 
 /// Why input is refused.
 #[derive(Clone, Copy, Debug, PartialEq, Eq)]
@@ -22,43 +26,58 @@ pub enum Refusal {
 }
 
 /// The line for a page and a manifest that are no application; want of memory has none.
-fn app_line(alloc: Global, cause: AppRefusal) -> Result<String, AllocError>
-    ensures { IfOk result (λ line. app_line cause ≡ Some (string_bytes line)) }
+fn app_line(alloc: Global, cause: AppRefusal) -> Result<Bytes, NoMemory>
+    ensures { IfOk result (λ line. app_line cause ≡ Some line) }
 {
     match cause {
-        AppRefusal::Page { place, kind } => format!(in alloc; "refused page {kind} {place}\n"),
+        AppRefusal::Page { place, kind } => {
+            let word = format!(in alloc; "{kind}")?;
+            page_line(alloc, word.as_bytes(), place)
+        }
         AppRefusal::Lex {
             script,
             place,
             kind,
-        } => format!(in alloc; "refused script {script} {kind} {place}\n"),
+        } => {
+            let word = format!(in alloc; "{kind}")?;
+            script_line(alloc, script, word.as_bytes(), place)
+        }
         AppRefusal::Parse {
             script,
             place,
             kind,
-        } => format!(in alloc; "refused script {script} {kind} {place}\n"),
+        } => {
+            let word = format!(in alloc; "{kind}")?;
+            script_line(alloc, script, word.as_bytes(), place)
+        }
         AppRefusal::Early {
             script,
             place,
             kind,
-        } => format!(in alloc; "refused script {script} {kind} {place}\n"),
-        AppRefusal::Manifest(kind) => format!(in alloc; "refused app {kind}\n"),
-        AppRefusal::LimitsTooLarge => String::from_str(alloc, "refused app LimitsTooLarge\n"),
-        AppRefusal::Memory => Err(AllocError),
+        } => {
+            let word = format!(in alloc; "{kind}")?;
+            script_line(alloc, script, word.as_bytes(), place)
+        }
+        AppRefusal::Manifest(kind) => {
+            let word = format!(in alloc; "{kind}")?;
+            manifest_line(alloc, word.as_bytes())
+        }
+        AppRefusal::LimitsTooLarge => manifest_line(alloc, b"LimitsTooLarge"),
+        AppRefusal::Memory => Err(NoMemory),
     }
 }
 
 impl Refusal {
     /// The line that says so; want of memory has none.
-    pub fn line(self, alloc: Global) -> Result<String, AllocError>
-        ensures { IfOk result (λ line. refusal_line self ≡ Some (string_bytes line)) }
+    pub fn line(self, alloc: Global) -> Result<Bytes, NoMemory>
+        ensures { IfOk result (λ line. refusal_line self ≡ Some line) }
     {
         match self {
-            Refusal::TooLong(file) => format!(in alloc; "refused {file} TooLong\n"),
+            Refusal::TooLong(file) => too_long_line(alloc, file.word()),
             Refusal::Application(cause) => app_line(alloc, cause),
-            Refusal::Trace(line) => format!(in alloc; "refused trace {line}\n"),
-            Refusal::Gestures(line) => format!(in alloc; "refused gestures {line}\n"),
-            Refusal::Memory => Err(AllocError),
+            Refusal::Trace(line) => trace_line(alloc, line),
+            Refusal::Gestures(line) => gestures_line(alloc, line),
+            Refusal::Memory => Err(NoMemory),
         }
     }
 }

@@ -44,7 +44,7 @@ fn refuse<S: Sink>(alloc: Global, refusal: Refusal, out: &mut S) -> Status
     ensures counted { CountsStatus result (S.count out.old) (S.count out.new) }
 {
     match refusal.line(alloc) {
-        Ok(line) => put_line(line.as_bytes(), Status::BadInput, out),
+        Ok(line) => put_line(line.as_slice(), Status::BadInput, out),
         Err(_) => Status::NoMemory,
     }
 }
@@ -57,7 +57,7 @@ fn put_count<S: Sink>(alloc: Global, app: &App, out: &mut S) -> Status
     ensures counted { CountsStatus result (S.count out.old) (S.count out.new) }
 {
     match count_line(alloc, app.node_count(), app.program().scripts()) {
-        Ok(line) => put_line(line.as_bytes(), Status::Read, out),
+        Ok(line) => put_line(line.as_slice(), Status::Read, out),
         Err(_) => Status::NoMemory,
     }
 }
