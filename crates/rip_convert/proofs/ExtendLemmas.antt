@@ -181,8 +181,9 @@ pub can-be-cut : (w x : World) (m : Mark) → m ≡ mark_of w → length fixed_u
 can-be-cut w x m is fixed sound e =
     let P : Mark → Type 0 = λ k. CanBeCut k x in
     let S : World → Type 0 = λ y. IsSound y.limit w.cells y.objects y.scopes in
-    let same : record x { objects = take (length w.objects) x.objects; cells = w.cells; pool = w.pool } ≡ w = rw (e.limit, e.scopes, e.objects) refl in
-    let cut : IsSound x.limit w.cells (take (length w.objects) x.objects) x.scopes = subst S (sym same) sound in
+    let scopes : take (length w.scopes) x.scopes ≡ w.scopes = ap (take (length w.scopes)) e.scopes ∙ take-length w.scopes in
+    let same : record x { objects = take (length w.objects) x.objects; cells = w.cells; pool = w.pool; scopes = take (length w.scopes) x.scopes } ≡ w = rw (e.limit, scopes, e.objects) refl in
+    let cut : IsSound x.limit w.cells (take (length w.objects) x.objects) (take (length w.scopes) x.scopes) = subst S (sym same) sound in
     let long : length fixed_units ≤ length w.pool.units = subst (λ (k : Mark). length fixed_units ≤ k.end) is fixed in
     let h : P (mark_of w) = record {
       fixed = long;
@@ -190,9 +191,12 @@ can-be-cut w x m is fixed sound e =
       used = e.used;
       charged = omega (arith, e.charged);
       objects = e.made;
+      scopes = omega (arith, ap (λ ss. length ss) e.scopes);
       sound = cut;
     } in
     subst P (sym is) h
 
 pub cut-is-same : (w x : World) (m : Mark) → m ≡ mark_of w → Extends w x → cut_world m x ≡ w
-cut-is-same w x m is e = ap (λ k. cut_world k x) is ∙ rw (e.limit, e.scopes, e.objects, e.unit_limit, e.text_limit, e.units) refl
+cut-is-same w x m is e =
+    let scopes : take (length w.scopes) x.scopes ≡ w.scopes = ap (take (length w.scopes)) e.scopes ∙ take-length w.scopes in
+    ap (λ k. cut_world k x) is ∙ rw (e.limit, scopes, e.objects, e.unit_limit, e.text_limit, e.units) refl

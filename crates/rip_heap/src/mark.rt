@@ -5,13 +5,14 @@ ghost use Rattle.rip_heap.specs.Sound.{IsSound};
 
 use crate::heap::Heap;
 
-/// Where a heap stands: the cells and units that were charged, and how many units and objects it has.
+/// Where a heap stands: the cells and units that were charged, and how many units, objects and scopes it has.
 #[derive(Clone, Copy, Debug, PartialEq, Eq)]
 pub struct Mark {
     pub cells: u32,
     pub end: u32,
     pub used: u32,
     pub objects: u32,
+    pub scopes: u32,
 }
 
 impl Heap {
@@ -26,6 +27,7 @@ impl Heap {
             end: self.pool.end(),
             used: self.pool.used(),
             objects: self.objects.len() as u32,
+            scopes: self.scopes.len() as u32,
         }
     }
 
@@ -37,6 +39,7 @@ impl Heap {
     {
         self.pool.cut_back(mark.end, mark.used);
         self.objects.truncate(mark.objects as usize);
+        self.scopes.truncate(mark.scopes as usize);
         self.used = mark.cells;
     }
 }

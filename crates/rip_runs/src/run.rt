@@ -1,9 +1,9 @@
-ghost use Rattle.std.specs.Prelude.{◌≡◌, ◌+◌, ◌<◌, ◌≤◌, ◌^◌, [], max, IfOk, OnErr, OnOk};
+ghost use Rattle.std.specs.Prelude.{◌≡◌, ◌+◌, ◌<◌, ◌≤◌, ◌^◌, [], true, length, max, IfOk, OnErr, OnOk};
 ghost use Rattle.rip_heap.specs.Growth.{Grows};
 ghost use Rattle.rip_heap.specs.World.{World};
 ghost use Rattle.rip_runs.specs.Law.{Begins, Resumes, open_depth, outcome_of, stop_outcome, turned_of};
 ghost use Rattle.rip_runs.specs.Nesting.{IsInside};
-ghost use Rattle.rip_runs.specs.Rest.{as_row};
+ghost use Rattle.rip_runs.specs.Rest.{as_row, has_room};
 ghost use Rattle.rip_runs.specs.Row.{Table};
 ghost use Rattle.rip_runs.specs.Stack.{framed};
 
@@ -82,6 +82,23 @@ impl Run {
         self.stack.reserve(values)
     }
 
+    /// Whether a run can begin with this: a value that is kept beside its first frame has room.
+    pub fn has_room(&self, next: &Next) -> bool
+        ensures { result ≡ has_room self.now.value_room next.now }
+    {
+        match next {
+            Next::Keep(..) => self.stack.room() > 0,
+            _ => true,
+        }
+    }
+
+    /// How many values beside frames have room.
+    pub fn value_room(&self) -> u32
+        ensures { result ≡ self.now.value_room }
+    {
+        self.stack.room()
+    }
+
     /// The greatest depth. The open frames are inside it, as each run keeps.
     pub fn greatest_depth(&self) -> u32
         ensures depth { result ≡ self.now.depth }
@@ -122,45 +139,40 @@ impl Run {
     }
 
     /// Stands at the beginning of a run with so much fuel: at what a part does next that has all the depth.
-    pub fn begin(&mut self, at: &Part, next: &Next, fuel: u64) -> Result<(), NoMemory>
-        requires { at.now.room ≡ self.old.depth + 1 }
-        ensures begins { OnOk result ((t : Table) (w : World)
-            → Begins t (as_row t at.now next.now [] w) fuel w self.new) }
+    pub fn begin(&mut self, at: &Part, next: &Next, fuel: u64)
+        requires depth { at.now.room ≡ self.old.depth + 1 }
+        requires room { has_room self.old.value_room next.now ≡ true }
+        ensures begins { (t : Table) (w : World)
+            → Begins t (as_row t at.now next.now [] w) fuel w self.new }
         ensures nested { IsInside (self.new.depth + 1) self.new.control self.new.frames }
         ensures depth { self.new.depth ≡ self.old.depth }
     {
         self.stack.clear();
-        open(&mut self.stack, at, next, &mut self.control)?;
+        match open(&mut self.stack, at, next, &mut self.control) {
+            Ok(()) => {},
+            Err(NoMemory) => unreachable!(),
+        }
         self.fuel = fuel;
         self.spent = 0;
-        Ok(())
     }
 
     /// Stands where undefined is given to this frame, which is the only one and has all the depth, with these values beside
-    /// it. Where they have no room it is want of memory.
-    pub fn begin_beside(
-        &mut self,
-        frame: &Frame,
-        values: &[Value],
-        fuel: u64,
-    ) -> Result<(), NoMemory>
-        requires { frame.now.at.room ≡ self.old.depth + 1 }
-        ensures begins { OnOk result ((t : Table) (w : World)
+    /// it, which have room.
+    pub fn begin_beside(&mut self, frame: &Frame, values: &[Value], fuel: u64)
+        requires depth { frame.now.at.room ≡ self.old.depth + 1 }
+        requires room { length values.now ≤ self.old.value_room }
+        ensures begins { (t : Table) (w : World)
             → Begins t (t.rest (framed frame.now values.now) (Completion.Normal Value.Undefined) w)
-            fuel w self.new) }
+            fuel w self.new }
         ensures nested { IsInside (self.new.depth + 1) self.new.control self.new.frames }
         ensures depth { self.new.depth ≡ self.old.depth }
     {
         self.control = Control::Give(Completion::Normal(Value::Undefined));
         self.stack.clear();
         pushed(&mut self.stack, frame);
-        if let Err(NoMemory) = keep_values(&mut self.stack, frame, values) {
-            self.stack.clear();
-            return Err(NoMemory);
-        }
+        keep_values(&mut self.stack, frame, values);
         self.fuel = fuel;
         self.spent = 0;
-        Ok(())
     }
 
     /// Goes on for at most `n` units.

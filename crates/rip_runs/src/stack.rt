@@ -61,6 +61,13 @@ impl Stack {
         Ok(())
     }
 
+    /// How many values have room in all.
+    pub fn room(&self) -> u32
+        ensures { result ≡ self.now.room }
+    {
+        self.room
+    }
+
     /// How many frames are open, at most as many as have room.
     pub fn depth(&self) -> u32
         ensures count { result ≡ length self.now.frames }

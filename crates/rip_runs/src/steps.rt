@@ -1,10 +1,10 @@
-ghost use Rattle.std.specs.Prelude.{◌≡◌, ℕ, ◌+◌, ◌-◌, ◌*◌, ◌<◌, ◌≤◌, ◌∷◌, ◌++◌, [], ⊤, length, IfOk, OnErr, OnOk};
+ghost use Rattle.std.specs.Prelude.{◌≡◌, ℕ, ◌+◌, ◌-◌, ◌*◌, ◌<◌, ◌≤◌, ◌∷◌, ◌++◌, [], ⊤, false, length, IfOk, OnErr, OnOk};
 ghost use Rattle.std.specs.Bool.{MatchBool};
 ghost use Rattle.rip_heap.specs.Growth.{Grows};
 ghost use Rattle.rip_runs.specs.Frame.{waiting};
 ghost use Rattle.rip_runs.specs.Law.{Stands, weight};
 ghost use Rattle.rip_runs.specs.Nesting.{IsInside};
-ghost use Rattle.rip_runs.specs.Rest.{as_row, called_control, called_frame, control_of, frame_of, next_run, rest, room_in};
+ghost use Rattle.rip_runs.specs.Rest.{as_row, called_control, called_frame, control_of, frame_of, has_room, next_run, rest, room_in};
 ghost use Rattle.rip_runs.specs.Run.{run};
 ghost use Rattle.rip_runs.specs.Stack.{framed, last_values, without_last};
 
@@ -65,7 +65,8 @@ fn open_called(stack: &mut Stack, at: &Part, wait: &Wait)
     }
 }
 
-/// Opens the frame of what an open part does next, and goes on with that. The frame has room.
+/// Opens the frame of what an open part does next, and goes on with that. The frame has room; a value that has none is want
+/// of memory.
 pub(crate) fn open(
     stack: &mut Stack,
     at: &Part,
@@ -77,6 +78,8 @@ pub(crate) fn open(
     ensures frames { OnOk result (stack.new ≡ record stack.old
         { frames = stack.old.frames ++ frame_of at.now next.now [] }) }
     ensures kept { OnErr result ((stack.new ≡ stack.old) × (control.new ≡ control.old)) }
+    ensures full { OnErr result (stack.old.frames ≡ []
+        → has_room stack.old.room next.now ≡ false) }
 {
     match next {
         Next::End(c) => *control = Control::Give(*c),
@@ -159,20 +162,18 @@ fn reopen_called(stack: &mut Stack, at: &Part, wait: &Wait)
     }
 }
 
-/// Puts values beside the only frame, which has none yet. Where they have no room it is want of memory.
-pub(crate) fn keep_values(
-    stack: &mut Stack,
-    frame: &Frame,
-    values: &[Value],
-) -> Result<(), NoMemory>
-    ensures kept { OnOk result (stack.old.frames ≡ framed frame.now [] ∷ [] → stack.new.frames
-        ≡ framed frame.now values.now ∷ []) }
-    ensures most { stack.new.most ≡ stack.old.most }
+/// Puts values beside the only frame, which has none yet. They have room.
+pub(crate) fn keep_values(stack: &mut Stack, frame: &Frame, values: &[Value])
+    requires only { stack.old.frames ≡ framed frame.now [] ∷ [] }
+    requires room { length values.now ≤ stack.old.room }
+    ensures { stack.new ≡ record stack.old { frames = framed frame.now values.now ∷ [] } }
 {
     for v in values {
-        stack.keep(frame, v)?;
+        match stack.keep(frame, v) {
+            Ok(()) => {},
+            Err(NoMemory) => unreachable!(),
+        }
     }
-    Ok(())
 }
 
 /// The part that an open part waits for, with no values beside its frame, is done at once, and next is what the open part does

@@ -4,6 +4,5 @@ use Rattle.rip_runs.proofs.steps.keep_values.Given as goal
 
 abbrev pub invariant-loop-v : goal.invariant-loop-v
 invariant-loop-v l = record {
-  kept : l.fn.stack.frames ≡ framed l.frame [] ∷ [] → l.stack.frames ≡ framed l.frame (take l.v-index l.values) ∷ [];
-  most : l.stack.most ≡ l.fn.stack.most;
+  kept : l.stack ≡ record l.fn.stack { frames = framed l.frame (take l.v-index l.values) ∷ [] };
 }
