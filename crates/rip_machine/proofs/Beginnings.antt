@@ -50,13 +50,6 @@ world_of_next t at (Call part node wait) values w =
     let a : Part = inside at part in
     called_world t (inside a (inner a node)) (framed (waiting a wait) []) w (a.room == 0)
 
--- what a start leaves, once it is known what it comes to
-pub starts : (t : Table) (beginning : Beginning) (row : Row) (fuel : ℕ) (w x : World) (m n : Run) (r : Result (Unit {0}) Refused) (F : Type 0)
-    → OnOk r F → IfErr r (λ refused. refused ≡ NoRoom) → (F → (beginning ≡ Runs row x) × Begins t row fuel x n) → StartsRun t beginning fuel w x m n r
-starts t beginning row fuel w x m n (Ok done) F f h go = let g = go f in (row, g.0, g.1)
-starts t beginning row fuel w x m n (Err (At limit)) F f h go = absurd (cc)
-starts t beginning row fuel w x m n (Err NoRoom) F f h go = tt
-
 -- a run that stands where this is done next stands at the beginning of its row
 abbrev pub Stood : Result Next NoMemory → Part → ℕ → Run → Type 0
 Stood r at fuel n = MatchResult r (λ next. (t : Table) (w : World) → Begins t (as_row t at next [] w) fuel w n) (λ _. ⊥)
@@ -79,4 +72,4 @@ pub starts_machine : (t : Table) (beginning : Beginning) (fuel : ℕ) (w x : Wor
     → StartsRun t beginning fuel w x m n r → Starts t beginning fuel w x (standing m literals) (standing n literals) r
 starts_machine t beginning fuel w x m n literals (Ok done) s = s
 starts_machine t beginning fuel w x m n literals (Err (At limit)) s = (s.0, s.1, ap (λ k. standing k literals) s.2)
-starts_machine t beginning fuel w x m n literals (Err NoRoom) s = tt
+starts_machine t beginning fuel w x m n literals (Err NoRoom) s = (s.0, ap (λ k. standing k literals) s.1)

@@ -59,15 +59,15 @@ abbrev pub Begins : Table → Row → ℕ → World → Standing → Type 0
 Begins t row fuel w m = law.Begins t row fuel w (run m)
 
 -- what a start leaves of a run, where it comes to this: the run at the beginning of the row, in the world after what the
--- start charged and bound; or all as it was, exactly where a limit would be passed. Of want of memory nothing is said
+-- start charged and bound; or all as it was, exactly where a limit would be passed, or where memory is wanting
 abbrev pub StartsRun : Table → Beginning → ℕ → World → World → Run → Run → Result (Unit {0}) Refused → Type 0
 StartsRun t beginning fuel w x m n (Ok done) = (row : Row) × (beginning ≡ Runs row x) × law.Begins t row fuel x n
 StartsRun t beginning fuel w x m n (Err (At limit)) = (beginning ≡ Exceeds limit) × (x ≡ w) × (n ≡ m)
-StartsRun t beginning fuel w x m n (Err NoRoom) = Unit {0}
+StartsRun t beginning fuel w x m n (Err NoRoom) = (x ≡ w) × (n ≡ m)
 
 -- what `start` leaves, where it comes to this: the machine at the beginning of the row, in the world after what the start
--- charged and bound; or all as it was, exactly where a limit would be passed. Of want of memory nothing is said
+-- charged and bound; or all as it was, exactly where a limit would be passed, or where memory is wanting
 abbrev pub Starts : Table → Beginning → ℕ → World → World → Standing → Standing → Result (Unit {0}) Refused → Type 0
 Starts t beginning fuel w x m n (Ok done) = (row : Row) × (beginning ≡ Runs row x) × Begins t row fuel x n
 Starts t beginning fuel w x m n (Err (At limit)) = (beginning ≡ Exceeds limit) × (x ≡ w) × (n ≡ m)
-Starts t beginning fuel w x m n (Err NoRoom) = Unit {0}
+Starts t beginning fuel w x m n (Err NoRoom) = (x ≡ w) × (n ≡ m)

@@ -1,3 +1,4 @@
+pub mod Back
 pub mod Does
 pub mod InPlace
 pub mod Law

@@ -1,5 +1,5 @@
 -- How a program is loaded: the text that a node is or names is put into the heap, for each node in the order of the nodes.
-use Rattle.std.specs.Prelude.{◌≡◌, ℕ, ◌+◌, ◌*◌, ◌<◌, ◌≤◌, max, Bool, true, false, if◌then◌else◌, List, [], ◌∷◌, length, Option, None, Some, Result, Ok, Err}
+use Rattle.std.specs.Prelude.{◌≡◌, ℕ, ◌+◌, ◌*◌, ◌<◌, ◌≤◌, max, min, Bool, true, false, if◌then◌else◌, List, [], ◌∷◌, length, Option, None, Some, Result, Ok, Err}
 use Rattle.std.specs.Fmt.{signed_decimal}
 use Rattle.std.specs.List.{flat_map, sum_by}
 use Rattle.rip_values.specs.declared.value.Limit.TheVariants.{Units}
@@ -97,21 +97,22 @@ abbrev pub longest_call : List Branch → ℕ
 longest_call [] = 0
 longest_call (b ∷ bs) = max (call_length b) (longest_call bs)
 
--- how many values may stand beside open frames: as many as the longest call for each level of depth, or as many as the
--- cells that may be charged, where these are more
-abbrev pub values_needed : Code → ℕ → World → ℕ
-values_needed code depth w = max (depth * longest_call code.grove.branches) w.limit
+-- how many values may stand beside open frames of a run with so much fuel: as many as the longest call for each level of
+-- depth, but no more than the fuel, of which each took a unit; or as many as the cells that may be charged, where these
+-- are more
+abbrev pub values_needed : Code → ℕ → ℕ → World → ℕ
+values_needed code depth fuel w = max (min (depth * longest_call code.grove.branches) fuel) w.limit
 
 -- LOADING
 
--- what `load` leaves: the world and the spans of the loaded program; or all as it was, exactly where its literals would
--- pass the limit of units. Where memory is wanting the machine has at most more room for values
-abbrev pub Loads : Code → World → Standing → Result (Unit {0}) Refused → World → Standing → Type 0
-Loads code w m (Ok done) x n =
+-- what `load` leaves, for runs with so much fuel: the world and the spans of the loaded program; or all as it was, exactly
+-- where its literals would pass the limit of units, or where memory is wanting
+abbrev pub Loads : Code → ℕ → World → Standing → Result (Unit {0}) Refused → World → Standing → Type 0
+Loads code fuel w m (Ok done) x n =
     (w.pool.used + cost_of_literals code ≤ w.pool.limit) × (x ≡ world_loaded code w)
-    × (n ≡ record m { literals = spans_loaded code w; value_room = max m.value_room (values_needed code m.depth w) })
-Loads code w m (Err (At limit)) x n = (limit ≡ Units) × (w.pool.limit < w.pool.used + cost_of_literals code) × (x ≡ w) × (n ≡ m)
-Loads code w m (Err NoRoom) x n = n ≡ record m { value_room = n.value_room }
+    × (n ≡ record m { literals = spans_loaded code w; value_room = max m.value_room (values_needed code m.depth fuel w) })
+Loads code fuel w m (Err (At limit)) x n = (limit ≡ Units) × (w.pool.limit < w.pool.used + cost_of_literals code) × (x ≡ w) × (n ≡ m)
+Loads code fuel w m (Err NoRoom) x n = (x ≡ w) × (n ≡ m)
 
 -- the span of each node that is or names a text stands for that text
 abbrev pub TextsStand : Loaded → World → Type 0

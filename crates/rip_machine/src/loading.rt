@@ -1,5 +1,7 @@
-ghost use Rattle.std.specs.Prelude.{◌≡◌, ◌↔◌, ◌+◌, ◌≤◌, ◌*◌, if◌then◌else◌, max, length, IsTrue, IfOk, OnOk};
+ghost use Rattle.std.specs.Prelude.{◌≡◌, ◌↔◌, ◌+◌, ◌≤◌, ◌*◌, if◌then◌else◌, max, length, IsTrue, IfOk, OnErr, OnOk};
 ghost use Rattle.rip_heap.specs.Growth.{Grows};
+ghost use Rattle.rip_heap.specs.World.{World};
+ghost use Rattle.rip_machine.specs.Back.{CutsTo};
 ghost use Rattle.rip_machine.specs.Loading.{cost_of_literals, form_cost, form_text, is_call, key_text, longest_call, span_from, spans_loaded, values_needed, with_form, world_loaded};
 ghost use Rattle.rip_heap.specs.Texts.{name_added};
 ghost use Rattle.rip_machine.specs.Reading.{children_from, form_of};
@@ -55,6 +57,7 @@ pub(crate) fn fits(program: &Program, heap: &Heap) -> bool
 fn add_key(alloc: Global, program: &Program, heap: &mut Heap, key: &Key) -> Result<Span, NoMemory>
     ensures added { IfOk result (λ span. (span, heap.new)
         ≡ name_added heap.old (key_text program.now.grove.units key.now)) }
+    ensures kept { OnErr result (heap.new ≡ heap.old) }
     ensures cells { heap.new.cells ≡ heap.old.cells }
     ensures grows { Grows heap.old heap.new }
 {
@@ -79,6 +82,7 @@ fn add_form(
     ensures span { IfOk result (λ span. span ≡ span_from (length heap.old.pool.units)
         (form_text program.now.grove.units form.now)) }
     ensures added { OnOk result (heap.new ≡ with_form program.now.grove.units form.now heap.old) }
+    ensures kept { OnErr result (heap.new ≡ heap.old) }
     ensures cells { heap.new.cells ≡ heap.old.cells }
     ensures grows { Grows heap.old heap.new }
 {
@@ -93,7 +97,7 @@ fn add_form(
     }
 }
 
-/// Adds the texts of a program, and gives the span of each node.
+/// Adds the texts of a program, and gives the span of each node. For want of memory some are added, and can be cut back.
 #[tactic(auto, using(crate::proofs::Loads::texts_none, crate::proofs::Loads::texts_more, crate::proofs::Loads::spans_none, crate::proofs::Loads::spans_more))]
 pub(crate) fn load_texts(
     alloc: Global,
@@ -102,6 +106,7 @@ pub(crate) fn load_texts(
 ) -> Result<Vec<Span>, NoMemory>
     ensures spans { IfOk result (λ spans. spans.items ≡ spans_loaded program.now heap.old) }
     ensures loaded { OnOk result (heap.new ≡ world_loaded program.now heap.old) }
+    ensures back { (w : World) → CutsTo w heap.old → CutsTo w heap.new }
     ensures cells { heap.new.cells ≡ heap.old.cells }
     ensures grows { Grows heap.old heap.new }
 {
@@ -159,14 +164,15 @@ fn longest_call(p: &Source) -> Result<u32, NoMemory>
     Ok(longest)
 }
 
-/// How many values may stand beside open frames. What 32 bits cannot count is want of memory.
+/// How many values may stand beside open frames of a run with so much fuel. What 32 bits cannot count is want of memory.
 pub(crate) fn values_needed(
     alloc: Global,
     program: &Program,
     depth: u32,
+    fuel: u64,
     heap: &Heap,
 ) -> Result<u32, NoMemory>
-    ensures { IfOk result (λ values. values ≡ values_needed program.now depth heap.now) }
+    ensures { IfOk result (λ values. values ≡ values_needed program.now depth fuel heap.now) }
 {
     let p = Source {
         alloc,
@@ -175,11 +181,12 @@ pub(crate) fn values_needed(
         worths: &[],
     };
     let longest = longest_call(&p)?;
-    match depth.checked_mul(longest) {
-        Some(values) => match heap.used_cells().checked_add(heap.free_cells()) {
-            Some(cells) => Ok(values.max(cells)),
-            None => Err(NoMemory),
-        },
+    let values = (u64::from(depth) * u64::from(longest)).min(fuel);
+    if values > u64::from(u32::MAX) {
+        return Err(NoMemory);
+    }
+    match heap.used_cells().checked_add(heap.free_cells()) {
+        Some(cells) => Ok(cells.max(values as u32)),
         None => Err(NoMemory),
     }
 }

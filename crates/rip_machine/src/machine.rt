@@ -1,8 +1,10 @@
-ghost use Rattle.std.specs.Prelude.{◌≡◌, ◌+◌, ◌≤◌, [], IfOk, OnOk};
+ghost use Rattle.std.specs.Prelude.{◌≡◌, ◌+◌, ◌≤◌, [], max, IfOk, OnErr, OnOk};
 ghost use Rattle.rip_heap.specs.Growth.{Grows};
+ghost use Rattle.rip_heap.specs.World.{World};
+ghost use Rattle.rip_machine.specs.Back.{CutsTo};
 ghost use Rattle.rip_runs.specs.Nesting.{IsInside};
 ghost use Rattle.rip_machine.specs.Law.{Resumes, Starts, loaded, open_depth};
-ghost use Rattle.rip_machine.specs.Loading.{Loads, TextsStand};
+ghost use Rattle.rip_machine.specs.Loading.{Loads, TextsStand, spans_loaded, world_loaded};
 ghost use Rattle.rip_machine.specs.Starting.{begun};
 ghost use Rattle.rip_machine.specs.Table.{table};
 
@@ -36,6 +38,55 @@ impl Model for Machine {
     ghost view = { λ m. standing m.run m.literals.items };
 }
 
+/// Adds the texts of a program, and takes the room of so many values. For want of memory some texts are added, and can be cut
+/// back.
+fn load_in_room(
+    run: &mut Run,
+    alloc: Global,
+    program: &Program,
+    heap: &mut Heap,
+    values: u32,
+) -> Result<Vec<Span>, NoMemory>
+    ensures spans { IfOk result (λ spans. spans.items ≡ spans_loaded program.now heap.old) }
+    ensures loaded { OnOk result (heap.new ≡ world_loaded program.now heap.old) }
+    ensures room { OnOk result (run.new ≡ record run.old
+        { value_room = max run.old.value_room values }) }
+    ensures kept { OnErr result (run.new ≡ run.old) }
+    ensures back { (w : World) → CutsTo w heap.old → CutsTo w heap.new }
+    ensures cells { heap.new.cells ≡ heap.old.cells }
+    ensures grows { Grows heap.old heap.new }
+{
+    let literals = load_texts(alloc, program, heap)?;
+    run.reserve(values)?;
+    Ok(literals)
+}
+
+/// The same, where for want of memory all is as before.
+fn load_whole(
+    run: &mut Run,
+    alloc: Global,
+    program: &Program,
+    heap: &mut Heap,
+    values: u32,
+) -> Result<Vec<Span>, NoMemory>
+    ensures spans { IfOk result (λ spans. spans.items ≡ spans_loaded program.now heap.old) }
+    ensures loaded { OnOk result (heap.new ≡ world_loaded program.now heap.old) }
+    ensures room { OnOk result (run.new ≡ record run.old
+        { value_room = max run.old.value_room values }) }
+    ensures kept { OnErr result ((run.new ≡ run.old) × (heap.new ≡ heap.old)) }
+    ensures cells { heap.new.cells ≡ heap.old.cells }
+    ensures grows { Grows heap.old heap.new }
+{
+    let mark = heap.mark();
+    match load_in_room(run, alloc, program, heap, values) {
+        Ok(literals) => Ok(literals),
+        Err(NoMemory) => {
+            heap.cut_back(mark);
+            Err(NoMemory)
+        },
+    }
+}
+
 impl Machine {
     /// A machine with no run and no program loaded, for runs that nest so deep. A depth that 32 bits cannot count with one
     /// more is want of memory.
@@ -59,9 +110,15 @@ impl Machine {
 
     /// Adds the program's texts to the heap: once, before the first start. Each text literal costs its length, and names cost
     /// nothing. Literals that would pass the limit of units are refused, and then nothing is done. It takes the room of all
-    /// values beside open frames too.
-    pub fn load(&mut self, alloc: Global, program: &Program, heap: &mut Heap) -> Result<(), Refused>
-        ensures loads { Loads program.now heap.old self.old result heap.new self.new }
+    /// values beside open frames too, for runs with so much fuel. Where memory is wanting all is as before.
+    pub fn load(
+        &mut self,
+        alloc: Global,
+        program: &Program,
+        heap: &mut Heap,
+        fuel: u64,
+    ) -> Result<(), Refused>
+        ensures loads { Loads program.now fuel heap.old self.old result heap.new self.new }
         ensures stand { OnOk result (TextsStand (loaded program.now self.new) heap.new) }
         ensures cells { heap.new.cells ≡ heap.old.cells }
         ensures grows { Grows heap.old heap.new }
@@ -69,10 +126,10 @@ impl Machine {
         if !fits(program, heap) {
             return Err(Refused::Limit(Limit::Units));
         }
-        let values = values_needed(alloc, program, self.run.greatest_depth(), heap)?;
-        self.run.reserve(values)?;
+        let values = values_needed(alloc, program, self.run.greatest_depth(), fuel, heap)?;
         let worths = worths(alloc, program)?;
-        self.literals = load_texts(alloc, program, heap)?;
+        let literals = load_whole(&mut self.run, alloc, program, heap, values)?;
+        self.literals = literals;
         self.worths = worths;
         Ok(())
     }

@@ -1,4 +1,4 @@
-ghost use Rattle.std.specs.Prelude.{◌≡◌, ◌+◌, ◌<◌, ◌^◌, [], ⊤, length, IfErr, IfOk, MatchOption, MatchResult, OnOk, None, Some};
+ghost use Rattle.std.specs.Prelude.{◌≡◌, ◌+◌, ◌<◌, ◌^◌, [], ⊤, true, length, IfOk, MatchOption, MatchResult, OnErr, None, Some};
 ghost use Rattle.rip_heap.specs.Growth.{Grows};
 ghost use Rattle.rip_heap.specs.World.{World, charging};
 ghost use Rattle.rip_tree.specs.Program.{root_of};
@@ -11,7 +11,7 @@ ghost use Rattle.rip_machine.specs.Reading.{Loaded};
 ghost use Rattle.rip_machine.specs.Rows.Calls.{callable};
 ghost use Rattle.rip_machine.specs.Rows.Functions.{function_entered};
 ghost use Rattle.rip_machine.specs.Rows.Scripts.{script_entered};
-ghost use Rattle.rip_machine.specs.Starting.{begun, builtin_begun, call_begun, outside, script_begun};
+ghost use Rattle.rip_machine.specs.Starting.{begun, builtin_begun, call_begun, can_begin, outside, script_begun};
 ghost use Rattle.rip_machine.specs.Table.{table};
 
 use crate::outcome::Start;
@@ -27,28 +27,29 @@ use rip_runs::{Ending, Frame, HostedWait, Next, Part, Role, Run, Wait};
 use rip_values::{Builtin, Limit, NoMemory, Refused, Value};
 use std::alloc::Global;
 
+/// Whether a run can begin with what is answered: it is no want of memory, and what it keeps has room.
+fn can_begin(run: &Run, next: &Result<Next, NoMemory>) -> bool
+    ensures { result ≡ can_begin run.now.value_room next.now }
+{
+    match next {
+        Ok(next) => run.has_room(next),
+        Err(NoMemory) => false,
+    }
+}
+
 /// Stands at the beginning of a run: at what a part does next, which has all the depth.
-fn stand_at(
-    run: &mut Run,
-    at: &Part,
-    next: &Result<Next, NoMemory>,
-    fuel: u64,
-) -> Result<(), Refused>
-    requires { at.now.room ≡ run.old.depth + 1 }
-    ensures begins { OnOk result (MatchResult next.now
+fn stand_at(run: &mut Run, at: &Part, next: &Result<Next, NoMemory>, fuel: u64)
+    requires room { at.now.room ≡ run.old.depth + 1 }
+    requires begins { can_begin run.old.value_room next.now ≡ true }
+    ensures begins { MatchResult next.now
         (λ next. (t : Table) (w : World) → Begins t (as_row t at.now next [] w) fuel w run.new)
-        (λ _. ⊥)) }
-    ensures memory { IfErr result (λ refused. refused ≡ Refused.Memory) }
+        (λ _. ⊥) }
     ensures depth { run.new.depth ≡ run.old.depth }
     ensures nested { IsInside (run.new.depth + 1) run.new.control run.new.frames }
 {
-    let _ = run.greatest_depth();
     match next {
-        Ok(next) => match run.begin(at, next, fuel) {
-            Ok(()) => Ok(()),
-            Err(NoMemory) => Err(Refused::Memory),
-        },
-        Err(NoMemory) => Err(Refused::Memory),
+        Ok(next) => run.begin(at, next, fuel),
+        Err(NoMemory) => unreachable!(),
     }
 }
 
@@ -92,11 +93,15 @@ fn start_script(
     ensures grows { Grows heap.old heap.new }
 {
     let depth = run.greatest_depth();
+    let at = script_part(p.root(script), depth);
+    let first = statements(p, &at, Ending::Script, 0);
+    if !can_begin(run, &first) {
+        return Err(Refused::Memory);
+    }
     match enter_script(p, heap, script) {
         Ok(true) => {
-            let at = script_part(p.root(script), depth);
-            let first = statements(p, &at, Ending::Script, 0);
-            stand_at(run, &at, &first, fuel)
+            stand_at(run, &at, &first, fuel);
+            Ok(())
         },
         Ok(false) => Err(Refused::Limit(Limit::Cells)),
         Err(NoMemory) => Err(Refused::Memory),
@@ -163,18 +168,23 @@ fn start_call(
         return Err(Refused::Limit(Limit::Depth));
     }
     let (f, scope) = function;
+    let at = outside(depth, this);
+    let first = call_statements(p, &at, &running(f, heap.scopes(), this), Ending::Call);
+    if !can_begin(run, &first) {
+        return Err(Refused::Memory);
+    }
     match enter_with(p, heap, f, scope, args) {
-        Ok(Some(made)) => {
-            let at = outside(depth, this);
-            let first = call_statements(p, &at, &running(f, made, this), Ending::Call);
-            stand_at(run, &at, &first, fuel)
+        Ok(Some(_)) => {
+            stand_at(run, &at, &first, fuel);
+            Ok(())
         },
         Ok(None) => Err(Refused::Limit(Limit::Cells)),
         Err(NoMemory) => Err(Refused::Memory),
     }
 }
 
-/// The scope of a function that is entered with these arguments; none where the charge would pass the limit.
+/// The scope of a function that is entered with these arguments, which is a new one; none where the charge would pass the
+/// limit.
 fn enter_with(
     p: &Source,
     heap: &mut Heap,
@@ -186,6 +196,7 @@ fn enter_with(
         (function_entered p.now f scope args.now heap.old ≡ None)
         (λ s. function_entered p.now f scope args.now heap.old ≡ Some (s, heap.new))) }
     ensures kept { IfOk result (λ made. MatchOption made (heap.new ≡ heap.old) (λ _. ⊤)) }
+    ensures back { OnErr result (heap.new ≡ heap.old) }
     ensures grows { Grows heap.old heap.new }
 {
     let args = Arguments {
@@ -213,12 +224,13 @@ fn start_builtin(
     ensures grows { Grows heap.old heap.new }
 {
     let depth = run.greatest_depth();
-    if args.len() > u32::MAX as usize {
+    if args.len() > heap.free_cells() as usize {
+        return Err(Refused::Limit(Limit::Cells));
+    }
+    if args.len() > run.value_room() as usize {
         return Err(Refused::Memory);
     }
-    if let Err(limit) = heap.charge(args.len() as u32) {
-        return Err(Refused::Limit(limit));
-    }
+    heap.charge(args.len() as u32)?;
     let frame = Frame {
         at: outside(depth, this),
         wait: Wait::Hosted(HostedWait::Called {
@@ -226,7 +238,7 @@ fn start_builtin(
             this: *this,
         }),
     };
-    run.begin_beside(&frame, args, fuel)?;
+    run.begin_beside(&frame, args, fuel);
     Ok(())
 }
 
@@ -249,5 +261,9 @@ fn start_throw(
     let _ = args;
     let depth = run.greatest_depth();
     let thrown = throw(alloc, heap, Class::ThrownTypeError);
-    stand_at(run, &outside(depth, this), &thrown, fuel)
+    if !can_begin(run, &thrown) {
+        return Err(Refused::Memory);
+    }
+    stand_at(run, &outside(depth, this), &thrown, fuel);
+    Ok(())
 }

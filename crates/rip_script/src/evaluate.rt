@@ -70,8 +70,8 @@ fn begin(
     ensures { BeginsRun limits program.now result heap.new machine.new }
 {
     heap.new_scope(alloc, None, program.top_names())?;
-    machine.load(alloc, program, heap)?;
     let fuel = u64::from(limits.fuel);
+    machine.load(alloc, program, heap, fuel)?;
     machine.start(alloc, program, heap, script, fuel)
 }
 

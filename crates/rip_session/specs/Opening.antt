@@ -68,7 +68,7 @@ idle_machine depth = record { control = Give (Normal Undefined); frames = []; fu
 abbrev pub loaded_machine : Loaded → World → Standing
 loaded_machine app w = record (idle_machine app.manifest.limits.depth) {
   literals = spans_loaded app.program w;
-  value_room = values_needed app.program app.manifest.limits.depth w;
+  value_room = values_needed app.program app.manifest.limits.depth app.manifest.limits.fuel w;
 }
 
 -- a charge before the literals would pass this limit: the session has a page without nodes

@@ -126,7 +126,7 @@ fn load_program(
 {
     let program = app.program();
     let mut machine = Machine::make(alloc, app.limits().depth)?;
-    let start = match machine.load(alloc, program, &mut heap) {
+    let start = match machine.load(alloc, program, &mut heap, app.limits().fuel) {
         Ok(()) => Start::Loads {
             scripts: program.scripts(),
         },

@@ -1,10 +1,10 @@
-ghost use Rattle.std.specs.Prelude.{◌≡◌, ◌+◌, true, ⊤, Some, None, IfOk, OnOk, MatchOption, nat_le, option_and_then};
-ghost use Rattle.rip_heap.specs.World.{charging};
-ghost use Rattle.rip_heap.specs.Scopes.{new_scope};
+ghost use Rattle.std.specs.Prelude.{◌≡◌, ◌+◌, ◌*◌, ◌<◌, ◌^◌, true, ⊤, length, Some, None, IfOk, OnErr, OnOk, MatchOption, nat_le, option_and_then};
 ghost use Rattle.rip_heap.specs.Growth.{Grows};
+ghost use Rattle.rip_heap.specs.World.{World, cost_of_function, cost_of_scope};
+ghost use Rattle.rip_machine.specs.Back.{CutsTo};
 ghost use Rattle.rip_machine.specs.Does.{Does};
 ghost use Rattle.rip_machine.specs.Reading.{children_from, scoping};
-ghost use Rattle.rip_machine.specs.Rows.Functions.{body, cost_of_entering, declared_functions, function_entered, function_named, function_row, has_name, parameters, parameters_of, with_arguments, with_function, with_functions, with_undefined};
+ghost use Rattle.rip_machine.specs.Rows.Functions.{declared_functions, declared_in, function_entered, function_named, function_row, functions_bound, functions_made, has_name, parameters, parameters_of, scope_charged, scope_with, with_arguments, with_undefined};
 
 use crate::rows::answers::{Answer, give, halt};
 use crate::rows::arguments::Arguments;
@@ -14,7 +14,7 @@ use crate::source::Source;
 use rip_heap::{Class, Heap};
 use rip_runs::{Next, Part, Stop};
 use rip_tree::Form;
-use rip_values::{Limit, NoMemory, Refused, Value};
+use rip_values::{FIRST_HEAP_OBJECT, Limit, NoMemory, Refused, Value};
 use std::alloc::Global;
 
 // FUNCTION EXPRESSIONS
@@ -80,23 +80,26 @@ pub(crate) fn parameters(p: &Source, f: u32) -> u32
     parameters_of(p.form(f))
 }
 
-/// How many functions are declared among the children of a node, from this place on.
+/// The functions that are declared among the children of a node, from this place on.
 #[tactic(auto, using(crate::proofs::Children::children_some, crate::proofs::Children::children_none))]
-pub(crate) fn declared_functions(p: &Source, id: u32, from: u32) -> Result<u32, NoMemory>
-    ensures { IfOk result (λ n. n ≡ declared_functions p.now (children_from p.now id from)) }
+pub(crate) fn declared_in(p: &Source, id: u32, from: u32) -> Result<Vec<u32>, NoMemory>
+    ensures declared { IfOk result (λ fs. fs.items ≡ declared_in p.now (children_from p.now id from)) }
+    ensures count { IfOk result (λ fs. length fs.items
+        ≡ declared_functions p.now (children_from p.now id from)) }
+    ensures few { IfOk result (λ fs. length fs.items < 2 ^ 32) }
 {
-    let mut count = 0;
+    let mut functions = Vec::new(p.alloc());
     let mut place = from;
     while let Some(f) = p.child_at(id, place) {
         if place == u32::MAX {
             return Err(NoMemory);
         }
         if is_declaration(p.form(f)) {
-            count += 1;
+            functions.push(f)?;
         }
         place += 1;
     }
-    Ok(count)
+    Ok(functions)
 }
 
 /// Gives the first so many bindings of a scope the value undefined.
@@ -122,60 +125,58 @@ fn bind_arguments(p: &Source, heap: &mut Heap, f: u32, scope: u32, args: &Argume
     }
 }
 
-/// Makes and binds a function that is declared. What would pass the limit is want of memory: the charge was tried before.
-fn bind_function(p: &Source, heap: &mut Heap, scope: u32, f: u32) -> Result<(), NoMemory>
-    ensures bound { OnOk result (with_function p.now scope f heap.old ≡ Some heap.new) }
-    ensures grows { Grows heap.old heap.new }
-{
-    match heap.new_function(p.alloc(), f, scope) {
-        Ok(function) => {
-            bind(heap, scope, p.scoping(f).resolved, Value::Object(function));
-            Ok(())
-        },
-        Err(_) => Err(NoMemory),
-    }
-}
-
-/// Makes and binds the functions that are declared among the children of a node, from this place on.
-#[tactic(auto, using(crate::proofs::Children::children_some, crate::proofs::Children::children_none))]
-pub(crate) fn bind_functions(
-    p: &Source,
+/// Makes these functions, none of which is bound yet. What would pass the limit is want of memory: the charge was tried
+/// before. Where memory is wanting some are made, and can be cut back.
+pub(crate) fn make_functions(
+    alloc: Global,
     heap: &mut Heap,
     scope: u32,
-    id: u32,
-    from: u32,
+    functions: &[u32],
 ) -> Result<(), NoMemory>
-    ensures bound { OnOk result (with_functions p.now scope (children_from p.now id from) heap.old
-        ≡ Some heap.new) }
+    ensures made { OnOk result (functions_made scope functions.now heap.old ≡ Some heap.new) }
+    ensures back { (w : World) → CutsTo w heap.old → CutsTo w heap.new }
     ensures grows { Grows heap.old heap.new }
 {
-    let mut place = from;
-    while let Some(f) = p.child_at(id, place) {
-        if is_declaration(p.form(f)) {
-            bind_function(p, heap, scope, f)?;
-        }
-        if place == u32::MAX {
+    for f in functions {
+        if heap.new_function(alloc, *f, scope).is_err() {
             return Err(NoMemory);
         }
-        place += 1;
     }
     Ok(())
 }
 
-/// Whether what entering a function costs can be charged.
-fn fits(p: &Source, heap: &Heap, f: u32, args: u32) -> Result<bool, NoMemory>
-    ensures { IfOk result (λ fits. fits ≡ nat_le (heap.now.cells + cost_of_entering p.now f args)
-        heap.now.limit) }
+/// Binds these functions, the first of which has this number.
+pub(crate) fn bind_functions(
+    p: &Source,
+    heap: &mut Heap,
+    scope: u32,
+    functions: &[u32],
+    first: u32,
+)
+    requires numbered { first + 2 * length functions.now < 2 ^ 32 }
+    ensures bound { heap.new ≡ functions_bound p.now scope functions.now first heap.old }
+    ensures grows { Grows heap.old heap.new }
 {
-    let declared = u64::from(declared_functions(p, f, parameters(p, f))?);
-    let cost = u64::from(args) + (1 + u64::from(p.scoping(f).names)) + 4 * declared;
-    Ok(
-        u64::from(heap.used_cells()) + cost
-            <= u64::from(heap.used_cells()) + u64::from(heap.free_cells()),
-    )
+    let mut function = first;
+    for f in functions {
+        bind(heap, scope, p.scoping(*f).resolved, Value::Object(function));
+        function += 2;
+    }
 }
 
-/// The scope of a function that is entered; none where the charge would pass the limit.
+/// Whether what entering a function costs that declares so many can be charged.
+fn fits(p: &Source, heap: &Heap, f: u32, args: u32, declared: usize) -> bool
+    requires { declared < 2 ^ 32 }
+    ensures { result ≡ nat_le (heap.now.cells + (args + cost_of_scope (scoping p.now f).names
+        + cost_of_function * declared)) heap.now.limit }
+{
+    let cost = u64::from(args) + (1 + u64::from(p.scoping(f).names)) + 4 * declared as u64;
+    u64::from(heap.used_cells()) + cost
+        <= u64::from(heap.used_cells()) + u64::from(heap.free_cells())
+}
+
+/// The scope of a function that is entered; none where the charge would pass the limit. Where it does, and where memory is
+/// wanting, all is as before.
 pub(crate) fn enter_function(
     p: &Source,
     heap: &mut Heap,
@@ -187,23 +188,53 @@ pub(crate) fn enter_function(
         (function_entered p.now f scope args.now heap.old ≡ None)
         (λ s. function_entered p.now f scope args.now heap.old ≡ Some (s, heap.new))) }
     ensures kept { IfOk result (λ made. MatchOption made (heap.new ≡ heap.old) (λ _. ⊤)) }
+    ensures back { OnErr result (heap.new ≡ heap.old) }
     ensures grows { Grows heap.old heap.new }
 {
     let count = args.count();
     if count > u32::MAX as usize {
         return Err(NoMemory);
     }
-    if !fits(p, heap, f, count as u32)? {
+    let functions = declared_in(p, f, parameters(p, f))?;
+    if !fits(p, heap, f, count as u32, functions.len()) {
         return Ok(None);
     }
+    let mark = heap.mark();
     let names = p.scoping(f).names;
-    let made = new_scope(p.alloc(), heap, scope, names, count as u32)?;
-    fill_scope(p, heap, f, made, args)?;
-    Ok(Some(made))
+    match make_scope(p.alloc(), heap, scope, names, count as u32, &functions) {
+        Ok(made) => {
+            let first = FIRST_HEAP_OBJECT + mark.objects + 1;
+            fill_scope(p, heap, f, made, args, &functions, first);
+            Ok(Some(made))
+        },
+        Err(NoMemory) => {
+            heap.cut_back(mark);
+            Err(NoMemory)
+        },
+    }
 }
 
-/// A new scope in which nothing is bound, where so many arguments are charged. What would pass the limit is want of
-/// memory: the charge was tried before.
+/// A new scope in which nothing is bound, where so many arguments are charged, and these functions. What would pass the limit
+/// is want of memory: the charge was tried before. Where memory is wanting what was made can be cut back.
+fn make_scope(
+    alloc: Global,
+    heap: &mut Heap,
+    outer: u32,
+    names: u32,
+    args: u32,
+    functions: &[u32],
+) -> Result<u32, NoMemory>
+    ensures made { IfOk result (λ made. option_and_then (scope_with functions.now)
+        (scope_charged outer names args heap.old) ≡ Some (made, heap.new)) }
+    ensures back { (w : World) → CutsTo w heap.old → CutsTo w heap.new }
+    ensures grows { Grows heap.old heap.new }
+{
+    let made = new_scope(alloc, heap, outer, names, args)?;
+    make_functions(alloc, heap, made, functions)?;
+    Ok(made)
+}
+
+/// The scope alone.
 fn new_scope(
     alloc: Global,
     heap: &mut Heap,
@@ -211,9 +242,9 @@ fn new_scope(
     names: u32,
     args: u32,
 ) -> Result<u32, NoMemory>
-    ensures made { IfOk result (λ made. option_and_then
-        (λ x. new_scope x (Some outer) names) (charging args heap.old (λ x. x))
+    ensures made { IfOk result (λ made. scope_charged outer names args heap.old
         ≡ Some (made, heap.new)) }
+    ensures back { (w : World) → CutsTo w heap.old → CutsTo w heap.new }
     ensures grows { Grows heap.old heap.new }
 {
     match heap.charge(args) {
@@ -225,21 +256,23 @@ fn new_scope(
     }
 }
 
-/// Binds all names of a new scope of a function.
+/// Binds all names of a new scope of a function, and its functions, the first of which has this number.
 fn fill_scope(
     p: &Source,
     heap: &mut Heap,
     f: u32,
     scope: u32,
     args: &Arguments,
-) -> Result<(), NoMemory>
-    ensures filled { OnOk result (with_functions p.now scope (body p.now f)
+    functions: &[u32],
+    first: u32,
+)
+    requires numbered { first + 2 * length functions.now < 2 ^ 32 }
+    ensures filled { heap.new ≡ functions_bound p.now scope functions.now first
         (with_arguments p.now f scope args.now (parameters p.now f)
-        (with_undefined scope (scoping p.now f).names heap.old)) ≡ Some heap.new) }
+        (with_undefined scope (scoping p.now f).names heap.old)) }
     ensures grows { Grows heap.old heap.new }
 {
-    let count = parameters(p, f);
     set_undefined(heap, scope, p.scoping(f).names);
-    bind_arguments(p, heap, f, scope, args, count);
-    bind_functions(p, heap, scope, f, count)
+    bind_arguments(p, heap, f, scope, args, parameters(p, f));
+    bind_functions(p, heap, scope, functions, first);
 }

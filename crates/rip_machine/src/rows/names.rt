@@ -1,6 +1,7 @@
 ghost use Rattle.rip_machine.specs.Rows.Expressions.{abruptly, name_row};
-ghost use Rattle.std.specs.Prelude.{◌≡◌, Ok, Err, IsErr, OnErr, MatchResult};
+ghost use Rattle.std.specs.Prelude.{◌≡◌, ℕ, Ok, Err, true, IfOk, IsErr, OnErr, MatchResult};
 ghost use Rattle.rip_heap.specs.Growth.{Grows};
+ghost use Rattle.rip_runs.specs.Rest.{has_room};
 ghost use Rattle.rip_machine.specs.Does.{DoesAnywhere, Does};
 ghost use Rattle.rip_machine.specs.Rows.Names.{bound, found, scope_up, throws, written};
 
@@ -12,9 +13,11 @@ use rip_tree::{Resolved, Scoping};
 use rip_values::{Limit, NoMemory, Refused, Value};
 use std::alloc::Global;
 
-/// Throws a new error of this class.
+/// Throws a new error of this class. Where memory is wanting the heap is as before.
 pub(crate) fn throw(alloc: Global, heap: &mut Heap, class: Class) -> Answer
     ensures row { DoesAnywhere result heap.new (throws class heap.old) }
+    ensures ends { IfOk result (λ next. (room : ℕ) → has_room room next ≡ true) }
+    ensures kept { OnErr result (heap.new ≡ heap.old) }
     ensures grows { Grows heap.old heap.new }
 {
     match heap.new_of(alloc, class) {

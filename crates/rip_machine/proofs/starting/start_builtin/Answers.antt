@@ -17,5 +17,5 @@ returns-clause-starts c = λ p.
     let row : Part → Row = λ at. answered_by p at (answerer_of c.args.b) c.args.b c.args.this.now c.args.args.now x in
     let B : Part → Type 0 = λ at. Begins (table p) (row at) c.args.fuel x c.begin_beside.new.self in
     let D : ℕ → Type 0 = λ depth. B (outside depth c.args.this.now) in
-    let begun = subst D c.greatest_depth-depth.ensures.depth (subst B c.outside.ensures (c.in_ok-begin_beside.ensures.begins (table p) x)) in
+    let begun = subst D c.greatest_depth-depth.ensures.depth (subst B c.outside.ensures (c.begin_beside.ensures.begins (table p) x)) in
     (row (outside m.depth c.args.this.now), ap (builtin_begun p m.depth c.args.b c.args.this.now c.args.args.now) charged, begun)

@@ -9,9 +9,10 @@ use Rattle.rip_machine.specs.declared.rows.calls.Invocable.TheVariants.{OfScript
 use Rattle.rip_machine.specs.Rows.Calls.{running}
 use Rattle.rip_machine.specs.Rows.Functions.{body, function_entered}
 use Rattle.rip_machine.specs.Rows.Statements.{statements}
-use Rattle.rip_machine.specs.Starting.{call_begun, function_part, outside}
+use Rattle.rip_machine.specs.Starting.{function_part, outside}
 use Rattle.rip_machine.specs.Table.{table}
-use Rattle.rip_machine.proofs.Beginnings.{Stood, runs_function, starts, stood}
+use Rattle.rip_machine.proofs.Beginnings.{runs_function, stood}
+use Rattle.rip_machine.proofs.Declared.{entered_scope}
 use Rattle.rip_machine.proofs.starting.start_call.Goals as goal
 
 pub returns-in-Ok-Some-clause-starts : goal.returns-in-Ok-Some-clause-starts
@@ -19,23 +20,23 @@ returns-in-Ok-Some-clause-starts c =
     let p = c.args.p.now in
     let m = c.args.run.now in
     let n = c.stand_at.new.run in
+    let w = c.args.heap.now in
     let x = c.enter_with.new.heap in
     let f : ℕ = c.args.function.0 in
     let scope : ℕ = c.args.function.1 in
-    let made : ℕ = c.in-Ok-Some.made in
+    let made : ℕ = c.in-Ok-Some.field-0-0 in
     let this = c.args.this.now in
     let args = c.args.args.now in
-    let entered : function_entered p f scope args c.args.heap.now ≡ Some (made, x) = rw c.in-Ok-Some.field-0-is at c.in-Ok-Some.ensures.entered in
+    let entered : function_entered p f scope args w ≡ Some (made, x) = rw c.in-Ok-Some.field-0-is at c.in-Ok-Some.ensures.entered in
     let some : m.depth ≡ 0 → ⊥ = λ e. c.if-depth-eq0.false (c.greatest_depth-depth.ensures.depth ∙ e) in
     let at : Part = c.outside-at.result in
     let function : Inner = c.running.result in
-    let F : Type 0 = Stood c.call_statements-first.result at c.args.fuel n in
+    let number : c.scopes.result ≡ made = c.scopes.ensures ∙ sym (entered_scope p f scope args w (made, x) entered) in
     let A : Part → Type 0 = λ at. Begins (table p) (statements p (inside at function) Call (body p function.node) x) c.args.fuel x n in
     let G : Inner → Type 0 = λ function. Begins (table p) (statements p (inside (outside m.depth this) function) Call (body p function.node) x) c.args.fuel x n in
     let D : ℕ → Type 0 = λ depth. A (outside depth this) in
-    let whole : F → Begins (table p) (statements p (function_part f made this m.depth) Call (body p f) x) c.args.fuel x n =
-    λ b. subst G c.running.ensures (subst D c.greatest_depth-depth.ensures.depth (subst A c.outside-at.ensures
-    (stood c.call_statements-first.result (table p) at (statements p (inside at function) Call (body p function.node)) c.args.fuel n c.call_statements-first.ensures.row b x))) in
-    starts (table p) (call_begun p m.depth this args (OfScript f scope) c.args.heap.now) (statements p (function_part f made this m.depth) Call (body p f) x) c.args.fuel c.args.heap.now x m n c.stand_at.result
-    F c.stand_at.ensures.begins c.stand_at.ensures.memory
-    (λ b. (runs_function p m.depth this args (OfScript f scope) c.args.heap.now x f scope made some refl entered, whole b))
+    let N : ℕ → Type 0 = λ made. G (running f made this) in
+    let begun : Begins (table p) (statements p (function_part f made this m.depth) Call (body p f) x) c.args.fuel x n =
+    subst N number (subst G c.running.ensures (subst D c.greatest_depth-depth.ensures.depth (subst A c.outside-at.ensures
+    (stood c.call_statements-first.result (table p) at (statements p (inside at function) Call (body p function.node)) c.args.fuel n c.call_statements-first.ensures.row c.stand_at.ensures.begins x)))) in
+    (statements p (function_part f made this m.depth) Call (body p f) x, runs_function p m.depth this args (OfScript f scope) w x f scope made some refl entered, begun)

@@ -1,5 +1,4 @@
-use Rattle.std.proofs.Common.{◌≡◌, ℕ, Some, ap, subst}
-use Rattle.rip_heap.specs.World.{World}
+use Rattle.std.proofs.Common.{◌≡◌, ℕ, Some, Ok, ap, subst}
 use Rattle.rip_runs.specs.declared.frame.Ending.TheVariants.{Script}
 use Rattle.rip_runs.specs.declared.part.Part.{Part}
 use Rattle.rip_runs.specs.Law.{Begins}
@@ -9,7 +8,7 @@ use Rattle.rip_machine.specs.Rows.Scripts.{script_entered, script_part, script_r
 use Rattle.rip_machine.specs.Rows.Statements.{statements}
 use Rattle.rip_machine.specs.Starting.{script_begun}
 use Rattle.rip_machine.specs.Table.{table}
-use Rattle.rip_machine.proofs.Beginnings.{Stood, starts, stood}
+use Rattle.rip_machine.proofs.Beginnings.{stood}
 use Rattle.rip_machine.proofs.starting.start_script.Goals as goal
 
 pub returns-in-Ok-true-clause-starts : goal.returns-in-Ok-true-clause-starts
@@ -21,12 +20,10 @@ returns-in-Ok-true-clause-starts c =
     let root : ℕ = c.root.result in
     let at : Part = c.script_part-at.result in
     let entered : script_entered p c.args.script c.args.heap.now ≡ Some x = rw c.in-Ok-true.field-0-test at c.in-Ok-true.ensures.entered in
-    let F : Type 0 = Stood c.statements-first.result at c.args.fuel n in
     let B : Part → Type 0 = λ at. Begins (table p) (statements p at Script (children_from p at.node 0) x) c.args.fuel x n in
     let D : ℕ → Type 0 = λ depth. B (script_part root depth) in
-    let S : ℕ → Type 0 = λ r. StartsRun (table p) (script_begun p m.depth r (script_entered p c.args.script c.args.heap.now)) c.args.fuel c.args.heap.now x m n c.stand_at.result in
-    let whole : F → D m.depth =
-    λ f. subst D c.greatest_depth-depth.ensures.depth (subst B c.script_part-at.ensures (stood c.statements-first.result (table p) at (statements p at Script (children_from p at.node 0)) c.args.fuel n c.statements-first.ensures.row f x)) in
-    subst S c.root.ensures
-    (starts (table p) (script_begun p m.depth root (script_entered p c.args.script c.args.heap.now)) (script_row p root m.depth x) c.args.fuel c.args.heap.now x m n c.stand_at.result
-    F c.stand_at.ensures.begins c.stand_at.ensures.memory (λ f. (ap (script_begun p m.depth root) entered, whole f)))
+    let S : ℕ → Type 0 = λ r. StartsRun (table p) (script_begun p m.depth r (script_entered p c.args.script c.args.heap.now)) c.args.fuel c.args.heap.now x m n (Ok tt) in
+    let begun : D m.depth =
+    subst D c.greatest_depth-depth.ensures.depth (subst B c.script_part-at.ensures
+    (stood c.statements-first.result (table p) at (statements p at Script (children_from p at.node 0)) c.args.fuel n c.statements-first.ensures.row c.stand_at.ensures.begins x)) in
+    subst S c.root.ensures (script_row p root m.depth x, ap (script_begun p m.depth root) entered, begun)
