@@ -1,41 +1,39 @@
--- One step of a look-up along prototypes, of which as many are left to look at as the number of the object tells.
-use Rattle.std.proofs.Common.{◌≡◌, ℕ, zero, suc, ◌+◌, ◌<◌, ◌≤◌, Bool, true, false, cond, Option, None, Some, refl, sym, ap, ◌∙◌, subst, arith, IfSome}
-use Rattle.std.specs.Option.{option_map_or}
+-- One step of a look-up along prototypes, with what it hands back.
+use Rattle.std.proofs.Common.{◌≡◌, ℕ, Bool, true, false, cond, Option, None, Some, refl, ap, ◌∙◌}
 use Rattle.std.specs.Prelude.{is_some}
 use Rattle.rip_values.specs.declared.value.Span.{Span}
-use Rattle.rip_heap.specs.Objects.{own}
-use Rattle.rip_heap.specs.World.{World, object_at, class_of, proto_of, first_object}
-use Rattle.rip_heap.specs.declared.keys.Found.{Found}
+use Rattle.rip_values.specs.declared.value.Value.{Value}
+use Rattle.rip_heap.specs.Objects.{own, or_up, find}
+use Rattle.rip_heap.specs.Sound.{HaveOlderProtos}
+use Rattle.rip_heap.specs.World.{World, object_at, class_of, proto_of}
 use Rattle.rip_heap.specs.declared.keys.Found.TheVariants.{Here, Barred}
-use Rattle.rip_heap.specs.Keys.{is_barred, further, look_up_within, look_up}
+use Rattle.rip_heap.specs.declared.keys.LookedUp.{LookedUp}
+use Rattle.rip_heap.specs.declared.keys.LookedUp.TheVariants.{Value as Gives, Barred as GivesBarred, Nowhere as GivesNowhere}
+use Rattle.rip_heap.specs.Keys.{is_barred, further, look_up, looked_up, handed_back}
+use Rattle.rip_heap.proofs.AlongLemmas.{looks}
+use Rattle.rip_heap.proofs.FindLemmas.{find_up}
 
-abbrev pub GoesOn : World → ℕ → Span → Option ℕ → Type 0
-GoesOn w object name at = (k : ℕ) × (option_map_or (λ n. n + 1) at 0 ≤ k) × (look_up w object name ≡ further at (λ n. look_up_within k w n name))
+-- what is handed back from the prototype on
+abbrev pub beyond : Option ℕ → (ℕ → LookedUp) → LookedUp
+beyond None up = GivesNowhere
+beyond (Some n) up = up n
 
-passed : (b c : Bool) (further : Found) → b ≡ false → c ≡ false → cond b Barred (cond c Here further) ≡ further
-passed true c further e f = cc
-passed false true further e f = cc
-passed false false further e f = refl
+-- the own value, or else what is handed back further up
+abbrev pub own_or : Option Value → LookedUp → LookedUp
+own_or (Some v) other = Gives v
+own_or None other = other
 
-lower : (up : Option ℕ) (number k : ℕ) → number + 1 ≤ suc k → IfSome up (λ p. (first_object ≤ p) × (p < number)) → option_map_or (λ n. n + 1) up 0 ≤ k
-lower None number k h older = omega arith
-lower (Some p) number k h older = omega (arith, older.1)
-
-none : (n : ℕ) → n + 1 ≤ 0 → ⊥
-none n h = omega (arith, h)
-
-step : (w : World) (object : ℕ) (name : Span) (up : Option ℕ) (number : ℕ) → GoesOn w object name (Some number)
-    → is_barred w.pool name (class_of (object_at w number)) ≡ false → is_some (own w number name) ≡ false
-    → up ≡ proto_of (object_at w number) → IfSome up (λ p. (first_object ≤ p) × (p < number)) → GoesOn w object name up
-step w object name up number (zero, bound, e) barred here proto older = absurd (none number bound)
-step w object name up number (suc k, bound, e) barred here proto older = (
-  k,
-  lower up number k bound older,
-  e ∙ passed (is_barred w.pool name (class_of (object_at w number))) (is_some (own w number name)) (further (proto_of (object_at w number)) (λ n. look_up_within k w n name)) barred here
-      ∙ ap (λ o. further o (λ n. look_up_within k w n name)) (sym proto),
-)
-
-pub look_up-step : (w : World) (object : ℕ) (name : Span) (at up : Option ℕ) (number : ℕ) → at ≡ Some number → GoesOn w object name at
-    → is_barred w.pool name (class_of (object_at w number)) ≡ false → is_some (own w number name) ≡ false
-    → up ≡ proto_of (object_at w number) → IfSome up (λ p. (first_object ≤ p) × (p < number)) → GoesOn w object name up
-look_up-step w object name at up number is on = step w object name up number (subst (GoesOn w object name) is on)
+pub looked_up_step : (w : World) (n : ℕ) (name : Span) → HaveOlderProtos w.objects
+    → looked_up w n name ≡ cond (is_barred w.pool name (class_of (object_at w n))) GivesBarred (own_or (own w n name) (beyond (proto_of (object_at w n)) (λ up. looked_up w up name)))
+looked_up_step w n name older =
+    ap (handed_back (find w n name)) (looks w older n name)
+    ∙ ap (λ v. handed_back v (cond (is_barred w.pool name (class_of (object_at w n))) Barred (cond (is_some (own w n name)) Here (further (proto_of (object_at w n)) (λ up. look_up w up name))))) (find_up w n name older)
+    ∙ by (is_barred w.pool name (class_of (object_at w n))) (own w n name) (proto_of (object_at w n))
+  where
+    by : (b : Bool) (v : Option Value) (proto : Option ℕ)
+        → handed_back (or_up v proto (λ up. find w up name)) (cond b Barred (cond (is_some v) Here (further proto (λ up. look_up w up name))))
+        ≡ cond b GivesBarred (own_or v (beyond proto (λ up. looked_up w up name)))
+    by true v proto = refl
+    by false (Some v) proto = refl
+    by false None None = refl
+    by false None (Some up) = refl

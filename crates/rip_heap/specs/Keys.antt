@@ -1,9 +1,10 @@
 -- The names of properties: what they are compared with, and where they are looked for.
-use Rattle.std.specs.Prelude.{ℕ, ℤ, pos, negsuc, zero, suc, Bool, false, ◌||◌, ◌&&◌, ◌==◌, List, [], ◌∷◌, Option, None, Some, Result, Ok, Err, nat_eq, nat_le, is_some, unsigned_abs, if◌then◌else◌}
+use Rattle.std.specs.Prelude.{ℕ, ℤ, pos, negsuc, zero, suc, Bool, false, ◌||◌, ◌&&◌, ◌==◌, List, [], ◌∷◌, Option, None, Some, Result, Ok, Err, nat_eq, nat_le, is_some, unwrap_or, unsigned_abs, if◌then◌else◌}
 use Rattle.std.specs.Cmp.Lexicographic.{pointwise}
 use Rattle.std.specs.Fmt.{signed_decimal}
 use Rattle.rip_values.specs.declared.value.Span.{Span}
-use Rattle.rip_values.specs.declared.value.Value.TheVariants.{Text}
+use Rattle.rip_values.specs.declared.value.Value.{Value}
+use Rattle.rip_values.specs.declared.value.Value.TheVariants.{Text, Undefined}
 use Rattle.rip_values.specs.declared.value.Numeral.{Numeral}
 use Rattle.rip_values.specs.declared.value.Numeral.TheVariants.{Num as Number, NaN as NotANumber}
 use Rattle.rip_values.specs.declared.value.Fault.{Fault}
@@ -14,9 +15,11 @@ use Rattle.rip_heap.specs.declared.class.Class.{Class}
 use Rattle.rip_heap.specs.declared.class.Class.TheVariants.{Plain, Prototype, Array, Function, Error, TypeError, RangeError, ThrownTypeError, ThrownReferenceError, Code, Event}
 use Rattle.rip_heap.specs.declared.keys.Found.{Found}
 use Rattle.rip_heap.specs.declared.keys.Found.TheVariants.{Here, Barred, Nowhere}
+use Rattle.rip_heap.specs.declared.keys.LookedUp.{LookedUp}
+use Rattle.rip_heap.specs.declared.keys.LookedUp.TheVariants.{Value as Gives, Barred as GivesBarred, Nowhere as GivesNowhere}
 use Rattle.rip_heap.specs.Conversions.{number_of, span_of}
 use Rattle.rip_heap.specs.Names.{same_text}
-use Rattle.rip_heap.specs.Objects.{own}
+use Rattle.rip_heap.specs.Objects.{own, find}
 use Rattle.rip_heap.specs.World.{World, object_at, class_of, proto_of}
 
 -- the name is this fixed text
@@ -38,6 +41,11 @@ index_if text (Err fault) = None
 -- the index whose decimal numeral the name is, if it is one
 abbrev pub index_of : Texts → Span → Option ℕ
 index_of pool name = index_if (text_at pool name) (number_of pool (Text name))
+
+-- the text begins with a digit, as the decimal numeral of each index does
+abbrev pub begins_with_digit : List ℕ → Bool
+begins_with_digit [] = false
+begins_with_digit (unit ∷ rest) = nat_le 48 unit && nat_le unit 57
 
 -- PLAIN OBJECTS
 
@@ -71,6 +79,16 @@ look_up_within (suc k) w n name =
 -- where the look-up of a name ends (ECMA-262 8.12.2); prototypes have lesser numbers
 unfoldable pub look_up : World → ℕ → Span → Found
 look_up w n name = look_up_within (suc n) w n name
+
+-- what a look-up that ends so hands back: the value of the property, where one is found
+abbrev pub handed_back : Option Value → Found → LookedUp
+handed_back value Here = Gives (unwrap_or value Undefined)
+handed_back value Barred = GivesBarred
+handed_back value Nowhere = GivesNowhere
+
+-- what the look-up of a name hands back (ECMA-262 8.12.2 and 8.12.3)
+abbrev pub looked_up : World → ℕ → Span → LookedUp
+looked_up w n name = handed_back (find w n name) (look_up w n name)
 
 -- the names of the standard's Object.prototype that the profile does not have
 abbrev pub is_of_object_prototype : Texts → Span → Bool

@@ -1,7 +1,7 @@
 ghost use Rattle.std.specs.Prelude.{◌≡◌, nat_eq, Ok};
 ghost use Rattle.std.specs.Cmp.Lexicographic.{pointwise};
 ghost use Rattle.std.specs.Fmt.{signed_decimal};
-ghost use Rattle.rip_heap.specs.Keys.{look_up, is_barred, is_underscored, is_of_object_prototype, is_named, is_index, index_of, index_if};
+ghost use Rattle.rip_heap.specs.Keys.{look_up, looked_up, is_barred, is_underscored, is_of_object_prototype, is_named, is_index, begins_with_digit, index_of, index_if};
 
 use crate::class::Class;
 use crate::convert::to_number;
@@ -14,6 +14,15 @@ use rip_values::{FixedText, Numeral, Span, Value, Whole, text_of_whole};
 pub enum Found {
     Here,
     /// At an object on which every use of the name is outside the profile.
+    Barred,
+    Nowhere,
+}
+
+/// What the look-up of a name along prototypes hands back.
+#[derive(Clone, Copy, Debug, PartialEq, Eq)]
+pub enum LookedUp {
+    Value(Value),
+    /// The name came to an object on which every use of it is outside the profile.
     Barred,
     Nowhere,
 }
@@ -34,6 +43,10 @@ pub struct Reference {
 }
 
 const UNDERSCORE: u16 = 0x5F;
+
+const ZERO: u16 = 0x30;
+
+const NINE: u16 = 0x39;
 
 /// The greatest index of an array.
 const GREATEST_INDEX: i64 = 4_294_967_294;
@@ -63,12 +76,27 @@ pub fn is_index(key: i64) -> bool
 }
 
 /// The index whose decimal numeral the name is, if it is one.
+#[tactic(auto, using(crate::proofs::IndexLemmas::no_index))]
 pub fn index_of(heap: &Heap, name: Span) -> Option<u32>
     ensures { result ≡ index_of heap.now.pool name }
 {
+    let text = heap.pool().get(name);
+    if !begins_with_digit(text) {
+        return None;
+    }
     match to_number(heap, Value::Text(name)) {
-        Ok(number) => index_if(heap.pool().get(name), number),
+        Ok(number) => index_if(text, number),
         Err(_) => None,
+    }
+}
+
+// Whether a name begins with a digit, as the numeral of each index does.
+fn begins_with_digit(name: &[u16]) -> bool
+    ensures { result ≡ begins_with_digit name.now }
+{
+    match name {
+        [first, ..] => ZERO <= *first && *first <= NINE,
+        [] => false,
     }
 }
 
@@ -121,15 +149,31 @@ pub fn is_barred(heap: &Heap, name: Span, class: Class) -> bool
 pub fn look_up(heap: &Heap, object: u32, name: Span) -> Found
     ensures { result ≡ look_up heap.now object name }
 {
+    match looked_up(heap, object, name) {
+        LookedUp::Value(_) => Found::Here,
+        LookedUp::Barred => Found::Barred,
+        LookedUp::Nowhere => Found::Nowhere,
+    }
+}
+
+/// What that look-up hands back: the value of the property, where it ends at one (ECMA-262 8.12.3).
+#[tactic(auto, using(crate::proofs::LookUpLemmas::looked_up_step))]
+pub fn looked_up(heap: &Heap, object: u32, name: Span) -> LookedUp
+    ensures { result ≡ looked_up heap.now object name }
+{
+    let _ = &heap.objects;
     let mut at = Some(object);
     while let Some(number) = at {
-        if is_barred(heap, name, heap.class(number)) {
-            return Found::Barred;
+        let Some(found) = heap.object(number) else {
+            return LookedUp::Nowhere;
+        };
+        if is_barred(heap, name, found.class) {
+            return LookedUp::Barred;
         }
-        if heap.own(number, name).is_some() {
-            return Found::Here;
+        if let Some(value) = found.named(&heap.pool, name) {
+            return LookedUp::Value(value);
         }
-        at = heap.proto(number);
+        at = found.proto;
     }
-    Found::Nowhere
+    LookedUp::Nowhere
 }

@@ -62,8 +62,8 @@ pub use heap::Heap;
 pub use holder::{Holder, holder_of, not_in_profile};
 pub use host::{EmptyHost, Host, HostDone};
 pub use keys::{
-    Found, Key, Reference, index_of, is_barred, is_index, is_named, is_of_object_prototype,
-    is_underscored, look_up,
+    Found, Key, LookedUp, Reference, index_of, is_barred, is_index, is_named,
+    is_of_object_prototype, is_underscored, look_up, looked_up,
 };
 pub use laws::{
     fixed_texts_stand, names_are_looked_up_along_prototypes, puts_are_read, puts_leave_others,

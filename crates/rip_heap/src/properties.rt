@@ -14,10 +14,7 @@ impl Heap {
         ensures { result ≡ own self.now object name }
     {
         match self.object(object) {
-            Some(found) => {
-                let place = found.place(&self.pool, name)?;
-                Some(found.properties[place].value)
-            }
+            Some(found) => found.named(&self.pool, name),
             None => None,
         }
     }

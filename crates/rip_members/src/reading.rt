@@ -5,7 +5,8 @@ use crate::base::{Base, base_of};
 use crate::calls::{call_of_arrays, call_of_math, call_of_texts};
 use crate::outcome::Read;
 use rip_heap::{
-    Class, Found, Heap, Key, index_of, is_named, is_of_object_prototype, is_underscored, look_up,
+    Class, Heap, Key, LookedUp, index_of, is_named, is_of_object_prototype, is_underscored,
+    looked_up,
 };
 use rip_values::{Builtin, Fault, FixedText, Span, Value, Whole};
 
@@ -110,10 +111,10 @@ fn element_of(heap: &Heap, array: u32, index: u32) -> Read
 fn plain_member(heap: &Heap, object: u32, name: Span) -> Read
     ensures { result ≡ member heap.now (Base.Plain object) name }
 {
-    match look_up(heap, object, name) {
-        Found::Here => Read::Value(heap.find(object, name).unwrap_or(Value::Undefined)),
-        Found::Barred => Read::Fault(Fault::NotInProfile),
-        Found::Nowhere => absent(heap, name),
+    match looked_up(heap, object, name) {
+        LookedUp::Value(value) => Read::Value(value),
+        LookedUp::Barred => Read::Fault(Fault::NotInProfile),
+        LookedUp::Nowhere => absent(heap, name),
     }
 }
 
