@@ -1,5 +1,5 @@
 -- What a router of the three routes answers.
-use Rattle.std.proofs.Common.{◌≡◌, ◌∙◌, ℕ, zero, suc, ◌-◌, ◌<◌, ◌==◌, List, [], ◌∷◌, length, Bool, true, false, cond, Option, Some, None, All, refl, sym, ap, arith, nat_lt, ◌&&◌, ◌||◌, not}
+use Rattle.std.proofs.Common.{◌≡◌, ◌∙◌, ℕ, zero, suc, ◌-◌, ◌<◌, ◌==◌, List, [], ◌∷◌, length, take, drop, Bool, true, false, cond, Option, Some, None, All, refl, sym, ap, arith, nat_lt, ◌&&◌, ◌||◌, not}
 use Rattle.std.proofs.lemmas.Bool.{lt-ltb}
 use Rattle.std.proofs.lemmas.Bool.Decides.{nat_tests}
 use Rattle.std.specs.List.{list_any}
@@ -203,3 +203,18 @@ module _ {K : Type 0} (f : K → Route) (page events quit : K) (is_page : f page
       → option_map f (first ((47 ∷ 101 ∷ 47 ∷ 256 ∷ [], events) ∷ (47 ∷ 113 ∷ 47 ∷ 256 ∷ [], quit) ∷ (47 ∷ [], page) ∷ []) path)
       ≡ route_of path
   rows_route path h = ap (option_map f) (chosen_is page events quit path h) ∙ chosen_route path
+
+first_fails : (p q : Bool) → (p || q) ≡ false → (p || false) ≡ false
+first_fails true q e = e
+first_fails false q e = refl
+
+-- of a segment in which no slash stands, the first byte tells the route
+pub front_route : (path : List ℕ) → 4 < length path → list_any (λ b. b == 47) (drop 3 path) ≡ false → route_of (take 4 path) ≡ route_of path
+front_route (a ∷ b ∷ c ∷ d ∷ rest) within none =
+    let more : nat_lt 3 (length (a ∷ b ∷ c ∷ d ∷ rest)) ≡ true = lt-ltb 3 (length (a ∷ b ∷ c ∷ d ∷ rest)) (omega arith) in
+    let one : ((d == 47) || false) ≡ false = first_fails (d == 47) (list_any (λ x. x == 47) rest) none in
+    simp (more, none, one)
+front_route [] within none = absurd (omega (arith, within))
+front_route (a ∷ []) within none = absurd (omega (arith, within))
+front_route (a ∷ b ∷ []) within none = absurd (omega (arith, within))
+front_route (a ∷ b ∷ c ∷ []) within none = absurd (omega (arith, within))

@@ -1,4 +1,4 @@
-ghost use Rattle.std.specs.Prelude.{◌≡◌, ◌++◌, OnOk, IfOk, codes, decimal};
+ghost use Rattle.std.specs.Prelude.{◌≡◌, [], ◌∷◌, ◌++◌, OnOk, IfOk, codes, decimal};
 ghost use Rattle.rip_http.specs.Answers.{field, line, status_line, content_type, allow_line, identifier_text, opened_lines, opening_lines, length_line, close_line, body_of, answer_text};
 
 use crate::request::Method;
@@ -150,26 +150,31 @@ fn write_opening(out: &mut Vec<u8>, opening: &Option<Opening>) -> Result<(), NoM
     }
 }
 
-/// Writes the length of the body, unless the answer is bare.
-fn write_length(out: &mut Vec<u8>, answer: &HttpAnswer) -> Result<(), NoMemory>
-    ensures { OnOk result (out.new.items ≡ out.old.items ++ length_line answer.now) }
+/// What stands behind the value of the last field but `Connection`: the end of its line, that the
+/// connection is shut, if it is, and the empty line.
+fn ending(close: bool) -> &'static [u8]
+    ensures { result.now ≡ 13 ∷ 10 ∷ close_line close ++ line [] }
 {
-    if answer.bare {
-        Ok(())
+    if close {
+        b"\r\nConnection: close\r\n\r\n"
     } else {
-        write_number_field(out, b"Content-Length", answer.body.len() as u64)
+        b"\r\n\r\n"
     }
 }
 
-/// Writes that the connection is shut, if it is.
-fn write_close(out: &mut Vec<u8>, close: bool) -> Result<(), NoMemory>
-    ensures { OnOk result (out.new.items ≡ out.old.items ++ close_line close) }
+/// Writes the end of the head: the length of the body, unless the answer is bare, that the
+/// connection is shut, if it is, and the empty line.
+fn write_end(out: &mut Vec<u8>, answer: &HttpAnswer) -> Result<(), NoMemory>
+    ensures { OnOk result (out.new.items
+        ≡ out.old.items ++ (length_line answer.now ++ close_line answer.now.close ++ line [])) }
 {
-    if close {
-        write_field(out, b"Connection", b"close")
-    } else {
-        Ok(())
+    let ending = ending(answer.close);
+    if answer.bare {
+        return write(out, &ending[2..]);
     }
+    write(out, b"Content-Length: ")?;
+    write_number(out, answer.body.len() as u64)?;
+    write(out, ending)
 }
 
 /// Writes the body, unless the answer is bare.
@@ -193,9 +198,7 @@ pub fn answer_bytes(alloc: Global, answer: &HttpAnswer) -> Result<Bytes, NoMemor
     write_type(&mut out, answer.html)?;
     write_allow(&mut out, answer.allow)?;
     write_opening(&mut out, &answer.opening)?;
-    write_length(&mut out, answer)?;
-    write_close(&mut out, answer.close)?;
-    write(&mut out, b"\r\n")?;
+    write_end(&mut out, answer)?;
     write_body(&mut out, answer)?;
     Ok(Bytes::from_vec(out))
 }

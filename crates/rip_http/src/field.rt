@@ -43,6 +43,13 @@ fn is_same(a: &[u8], b: &[u8]) -> bool
     a.eq_ignore_ascii_case(b)
 }
 
+/// Whether a name is a known one, in any case. Most are written as the known one is.
+fn is_named(name: &[u8], known: &[u8]) -> bool
+    ensures { result ≡ str_eq_ignore_ascii_case name.now known.now }
+{
+    name == known || is_same(name, known)
+}
+
 fn kind_if(holds: bool, kind: Kind) -> Kind
     ensures { result ≡ (if holds then kind else Other) }
 {
@@ -54,10 +61,10 @@ fn kind_of(name: &[u8]) -> Kind
     ensures { IsKind name.now result }
 {
     match name.len() {
-        4 => kind_if(is_same(name, b"host"), Kind::Host),
-        10 => kind_if(is_same(name, b"connection"), Kind::Connection),
-        14 => kind_if(is_same(name, b"content-length"), Kind::Length),
-        17 => kind_if(is_same(name, b"transfer-encoding"), Kind::Coding),
+        4 => kind_if(is_named(name, b"Host"), Kind::Host),
+        10 => kind_if(is_named(name, b"Connection"), Kind::Connection),
+        14 => kind_if(is_named(name, b"Content-Length"), Kind::Length),
+        17 => kind_if(is_named(name, b"Transfer-Encoding"), Kind::Coding),
         _ => Kind::Other,
     }
 }

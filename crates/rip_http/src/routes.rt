@@ -50,6 +50,19 @@ fn value_at(router: &Router<Route>, path: &str) -> Option<Route>
     }
 }
 
+/// As much of a path as tells its route: of a segment in which no slash stands, its first byte.
+fn front_of(path: &[u8]) -> &[u8]
+    requires { IsUtf8 path.now }
+    ensures text { IsUtf8 result.now }
+    ensures route { route_of result.now ≡ route_of path.now }
+{
+    if path.len() > 4 && path[4].is_ascii() && !path[3..].contains(&b'/') {
+        &path[..4]
+    } else {
+        path
+    }
+}
+
 impl Routes {
     /// The routes.
     pub(crate) fn make(alloc: Global) -> Result<Routes, NoMemory> {
@@ -70,11 +83,11 @@ impl Routes {
         }
     }
 
-    /// The route of a target.
+    /// The route of a target. The router would look at each byte of a segment, and is spared that.
     pub(crate) fn route_of(&self, target: &[u8]) -> Option<Route>
         requires { IsUtf8 target.now }
         ensures { result ≡ route_of (path_of target.now) }
     {
-        self.of_path(path_of(target))
+        self.of_path(front_of(path_of(target)))
     }
 }

@@ -1,4 +1,4 @@
-ghost use Rattle.std.specs.Prelude.{◌≡◌, ◌≤◌, ◌+◌, ◌↔◌, length, take, IsTrue, IfOk, IfSome};
+ghost use Rattle.std.specs.Prelude.{◌≡◌, ◌≤◌, ◌+◌, ◌↔◌, length, take, IsTrue, IfOk};
 ghost use Rattle.std.specs.Bool.{OnTrue, OnFalse};
 ghost use Rattle.rip_http.specs.Heads.{head_at, head_end};
 ghost use Rattle.rip_http.specs.Stream.{takes, waits, IsNext};
@@ -138,23 +138,6 @@ impl Stage {
     }
 }
 
-/// The stage of bytes at whose front, behind CR and LF, a head stands whole; none where none does.
-fn look_whole(routes: &Routes, bytes: &[u8]) -> Option<Stage>
-    ensures { IfSome result (λ stage. IsStage bytes.now stage) }
-{
-    let window = &bytes[..bytes.len().min(LONGEST_HEAD)];
-    let blank = count_blank(window);
-    match judge_front(routes, &window[blank..]) {
-        Some((_, Judged::Refused(refused))) => Some(Stage::Refused(refused)),
-        Some((size, Judged::Passed(going, target))) => Some(Stage::Body(Awaited {
-            going,
-            end: blank + size,
-            target,
-        })),
-        None => None,
-    }
-}
-
 /// The stage behind bytes of which none is looked at. Most heads come whole: the parse then finds their end.
 pub(crate) fn first_look(routes: &Routes, bytes: &[u8]) -> Stage
     ensures { IsStage bytes.now result }
@@ -162,8 +145,15 @@ pub(crate) fn first_look(routes: &Routes, bytes: &[u8]) -> Stage
     if bytes.is_empty() {
         return Stage::Head(Scan::Before);
     }
-    match look_whole(routes, bytes) {
-        Some(stage) => stage,
+    let window = &bytes[..bytes.len().min(LONGEST_HEAD)];
+    let blank = count_blank(window);
+    match judge_front(routes, &window[blank..]) {
+        Some((_, Judged::Refused(refused))) => Stage::Refused(refused),
+        Some((size, Judged::Passed(going, target))) => Stage::Body(Awaited {
+            going,
+            end: blank + size,
+            target,
+        }),
         None => look_on(routes, bytes, 0, Scan::Before),
     }
 }

@@ -2,7 +2,7 @@ use Rattle.std.proofs.Common.{◌+◌, refl}
 use Rattle.rip_http.specs.Heads.{head_at}
 use Rattle.rip_http.specs.declared.verdict.Judged.TheVariants.{Refused, Passed}
 use Rattle.rip_http.proofs.StageLemmas.{head_refuses, whole_there}
-use Rattle.rip_http.proofs.stage.look_whole.Goals as goal
+use Rattle.rip_http.proofs.stage.first_look.Goals as goal
 
 pub returns-in-Some-default-Refused : goal.returns-in-Some-default-Refused
 returns-in-Some-default-Refused c =
