@@ -5,3 +5,4 @@ pub mod FixedLemmas
 pub mod IndexLemmas
 pub mod LookUpLemmas
 pub mod PutLemmas
+pub mod ScopeRowLemmas

@@ -11,6 +11,7 @@ pub mod Marks
 pub mod Names
 pub mod Objects
 pub mod Outcome
+pub mod ScopeRows
 pub mod Scopes
 pub mod Sound
 pub mod Step

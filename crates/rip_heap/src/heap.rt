@@ -5,7 +5,8 @@ ghost use Rattle.rip_heap.specs.World.{empty_world, charging};
 ghost use Rattle.rip_heap.specs.Step.{Charges};
 
 use crate::limits::HeapLimits;
-use crate::stored::{StoredObject, StoredScope};
+use crate::scope_rows::ScopeRows;
+use crate::stored::StoredObject;
 use rip_values::{FIRST_HEAP_OBJECT, FIRST_NODE, Limit, NoMemory, Pool};
 use std::alloc::Global;
 use std::marker::Model;
@@ -18,7 +19,7 @@ pub struct Heap {
     pub(crate) used: u32,
     pub(crate) pool: Pool,
     pub(crate) objects: Vec<StoredObject>,
-    pub(crate) scopes: Vec<StoredScope>,
+    pub(crate) scopes: ScopeRows,
 }
 
 impl Model for Heap {
@@ -32,10 +33,10 @@ impl Model for Heap {
       cells = h.used;
       pool = h.pool;
       objects = h.objects.items;
-      scopes = h.scopes.items;
+      scopes = h.scopes;
     } };
 
-    ghost invariant = { λ h. IsSound h.limit h.used h.objects.items h.scopes.items };
+    ghost invariant = { λ h. IsSound h.limit h.used h.objects.items h.scopes };
 }
 
 impl Heap {
@@ -52,7 +53,7 @@ impl Heap {
             used: 0,
             pool,
             objects: Vec::new(alloc),
-            scopes: Vec::new(alloc),
+            scopes: ScopeRows::new(alloc),
         })
     }
 

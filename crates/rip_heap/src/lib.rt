@@ -49,6 +49,7 @@ mod outcome;
 mod properties;
 mod property;
 mod room;
+mod scope_rows;
 mod scopes;
 mod stored;
 mod texts;

@@ -5,8 +5,6 @@ ghost use Rattle.rip_heap.specs.Step.{Makes};
 ghost use Rattle.rip_heap.specs.World.{scope_at, IsScope};
 
 use crate::heap::Heap;
-use crate::room::{push, set};
-use crate::stored::StoredScope;
 use rip_values::{Limit, Refused, Value};
 use std::alloc::Global;
 
@@ -26,8 +24,7 @@ impl Heap {
         self.room_for(names as usize + 1)?;
         let number = self.scopes.len() as u32;
         let parent = self.kept_parent(parent);
-        let scope = StoredScope::unbound(alloc, parent, names)?;
-        push(&mut self.scopes, scope)?;
+        self.scopes.push(parent, names)?;
         self.used += names + 1;
         Ok(number)
     }
@@ -36,13 +33,7 @@ impl Heap {
     pub fn binding(&self, scope: u32, place: u32) -> Option<Value>
         ensures { result ≡ binding self.now scope place }
     {
-        match self.scopes.get(scope as usize) {
-            Some(found) => match found.bindings.get(place as usize) {
-                Some(value) => *value,
-                None => None,
-            },
-            None => None,
-        }
+        self.scopes.binding(scope, place)
     }
 
     /// Gives the binding at this place the value. Where there is no such binding nothing is changed.
@@ -50,11 +41,7 @@ impl Heap {
         ensures set { self.new ≡ with_binding self.old scope place v }
         ensures grows { Grows self.old self.new }
     {
-        if scope as usize >= self.scopes.len() {
-            return;
-        }
-        let target = &mut self.scopes[scope as usize];
-        set(&mut target.bindings, place as usize, Some(v));
+        self.scopes.bind(scope, place, v);
     }
 
     /// The scope around the scope, which was made before it.
@@ -62,20 +49,14 @@ impl Heap {
         ensures value { result ≡ parent_of (scope_at self.now scope) }
         ensures older { IfSome result (λ parent. (parent < scope) × IsScope self.now parent) }
     {
-        match self.scopes.get(scope as usize) {
-            Some(found) => found.parent,
-            None => None,
-        }
+        self.scopes.parent(scope)
     }
 
     /// How many bindings the scope has. What is no scope of this heap has none.
     pub fn names(&self, scope: u32) -> u32
         ensures { result ≡ length (bindings_of (scope_at self.now scope)) }
     {
-        match self.scopes.get(scope as usize) {
-            Some(found) => found.bindings.len() as u32,
-            None => 0,
-        }
+        self.scopes.names(scope)
     }
 
     fn kept_parent(&self, parent: Option<u32>) -> Option<u32>

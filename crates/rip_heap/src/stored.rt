@@ -1,4 +1,4 @@
-ghost use Rattle.std.specs.Prelude.{◌≡◌, ◌<◌, ◌∷◌, ◌++◌, [], length, remove, slice_set, IfOk, IfSome, OnOk, OnErr, replicate, take};
+ghost use Rattle.std.specs.Prelude.{◌≡◌, ◌<◌, ◌∷◌, ◌++◌, [], length, remove, slice_set, IfOk, IfSome, OnOk, OnErr, take};
 ghost use Rattle.rip_heap.specs.Arrays.{array_object, last_of, without_last};
 ghost use Rattle.rip_heap.specs.Errors.{error_object};
 ghost use Rattle.rip_heap.specs.Growth.{KeepsObject};
@@ -199,32 +199,5 @@ impl StoredObject {
         ensures keeps { KeepsObject self.old self.new }
     {
         self.elements.truncate(count);
-    }
-}
-
-/// A scope as the heap keeps it.
-#[derive(Debug, Drop)]
-pub struct StoredScope {
-    pub parent: Option<u32>,
-    pub bindings: Vec<Option<Value>>,
-}
-
-impl Model for StoredScope {
-    ghost use Rattle.rip_heap.specs.World.{Scope};
-
-    ghost Value = { Scope };
-
-    ghost view = { λ s. record { parent = s.parent; bindings = s.bindings.items } };
-}
-
-impl StoredScope {
-    /// A scope with so many bindings, none of which has a value yet.
-    pub fn unbound(alloc: Global, parent: Option<u32>, names: u32) -> Result<StoredScope, NoMemory>
-        ensures { IfOk result (λ scope. scope ≡ record { parent = parent; bindings = replicate names None }) }
-    {
-        Ok(StoredScope {
-            parent,
-            bindings: vec![in alloc; None; names as usize]?,
-        })
     }
 }
