@@ -1,10 +1,11 @@
 ghost use Rattle.std.specs.Prelude.{◌≡◌, IfOk, OnErr};
 ghost use Rattle.std.specs.Borrow.{sem};
 ghost use Rattle.std.specs.Fmt.{signed_decimal};
+ghost use Rattle.std.specs.Fn.{FnOnceReturnsAtMut, FnOnceTakesAtMut};
 ghost use Rattle.rip_heap.specs.Growth.{Grows};
 ghost use Rattle.rip_values.specs.Pool.{text_at, joined};
 ghost use Rattle.rip_heap.specs.Conversions.{numeral_made};
-ghost use Rattle.rip_heap.specs.Lending.{LendsPool};
+ghost use Rattle.rip_heap.specs.Lending.{LendsPool, OnlyAddsTexts, with_pool};
 ghost use Rattle.rip_heap.specs.Step.{Makes, TakesNoMemory};
 ghost use Rattle.rip_heap.specs.Texts.{concat, name_added, new_text};
 
@@ -65,6 +66,17 @@ impl Heap {
         ensures { result.now ≡ self.now.pool }
     {
         &self.pool
+    }
+
+    /// What the call answers to which the texts of the heap are lent. It may only add to them, and all else stays as it is.
+    pub fn with_texts<R, F: FnOnce(&mut Pool) -> R>(&mut self, add: F) -> R
+        requires takes { FnOnceTakesAtMut F.FnOnce add self.old.pool }
+        requires adds { OnlyAddsTexts F.FnOnce add self.old.pool }
+        ensures answer { FnOnceReturnsAtMut F.FnOnce add self.old.pool result self.new.pool }
+        ensures rest { self.new ≡ with_pool self.old self.new.pool }
+        ensures grows { Grows self.old self.new }
+    {
+        add(&mut self.pool)
     }
 
     /// The texts of the heap, to which more may be added. All else stays as it is. Where a heap is at hand texts are
