@@ -1,9 +1,9 @@
 ghost use Rattle.std.specs.Prelude.{◌≡◌, IfOk, OnErr};
-ghost use Rattle.std.specs.Borrow.{sem};
+ghost use Rattle.std.specs.Borrow.{MutBor, sem};
 ghost use Rattle.std.specs.Fmt.{signed_decimal};
-ghost use Rattle.std.specs.Fn.{FnOnceReturnsAtMut, FnOnceTakesAtMut};
+ghost use Rattle.std.specs.Fn.{CalledAtMut};
 ghost use Rattle.rip_heap.specs.Growth.{Grows};
-ghost use Rattle.rip_values.specs.Pool.{text_at, joined};
+ghost use Rattle.rip_values.specs.Pool.{Texts, text_at, joined};
 ghost use Rattle.rip_heap.specs.Conversions.{numeral_made};
 ghost use Rattle.rip_heap.specs.Lending.{LendsPool, OnlyAddsTexts, with_pool};
 ghost use Rattle.rip_heap.specs.Step.{Makes, TakesNoMemory};
@@ -69,10 +69,10 @@ impl Heap {
     }
 
     /// What the call answers to which the texts of the heap are lent. It may only add to them, and all else stays as it is.
-    pub fn with_texts<R, F: FnOnce(&mut Pool) -> R>(&mut self, add: F) -> R
-        requires takes { FnOnceTakesAtMut F.FnOnce add self.old.pool }
-        requires adds { OnlyAddsTexts F.FnOnce add self.old.pool }
-        ensures answer { FnOnceReturnsAtMut F.FnOnce add self.old.pool result self.new.pool }
+    pub fn with_texts<R, F: FnMut(&mut Pool) -> R>(&mut self, add: &mut F) -> R
+        requires takes { (p : MutBor Texts) → p.now ≡ self.old.pool → F.pre add.old p }
+        requires adds { OnlyAddsTexts F.FnMut add.old self.old.pool }
+        ensures called { CalledAtMut F.FnMut add.old self.old.pool result add.new self.new.pool }
         ensures rest { self.new ≡ with_pool self.old self.new.pool }
         ensures grows { Grows self.old self.new }
     {
