@@ -1,5 +1,5 @@
 -- What a start answers, once it is known what it comes to.
-use Rattle.std.proofs.Common.{◌≡◌, ℕ, ◌==◌, if◌then◌else◌, Bool, true, false, List, [], Some, Result, Ok, Err, IfErr, IfOk, OnOk, refl, ap, sym, ◌∙◌, subst}
+use Rattle.std.proofs.Common.{◌≡◌, ℕ, ◌==◌, if◌then◌else◌, Bool, true, false, List, [], Some, Result, Ok, Err, IfOk, refl, ap, sym, ◌∙◌, subst}
 use Rattle.std.specs.Prelude.{MatchResult}
 use Rattle.std.proofs.lemmas.Bool.{ne_eqb}
 use Rattle.rip_values.specs.declared.memory.NoMemory.{NoMemory}

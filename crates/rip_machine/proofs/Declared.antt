@@ -4,7 +4,7 @@ use Rattle.std.proofs.lemmas.Option.{none-some}
 use Rattle.std.specs.Prelude.{slice_get, slice_index_or}
 use Rattle.rip_values.specs.declared.value.Value.{Value}
 use Rattle.rip_values.specs.declared.value.Value.TheVariants.{Undefined, Object}
-use Rattle.rip_heap.specs.Objects.{adding_function, new_function}
+use Rattle.rip_heap.specs.Objects.{adding_function}
 use Rattle.rip_heap.specs.Scopes.{bound_in, kept_parent, new_scope, parent_of, with_binding}
 use Rattle.rip_heap.specs.World.{Scope, World, cost_of_function, cost_of_scope, first_object, paid}
 use Rattle.rip_tree.specs.Program.{root_of, vars_of}
@@ -140,7 +140,7 @@ one_apart true p f scope fs w x further h =
 more_apart : (d : Bool) (p : Loaded) (f scope : ℕ) (fs : List ℕ) (w x : World) → Apart p scope fs
     → functions_made scope (if d then f ∷ declared_in p fs else declared_in p fs) w ≡ Some x
     → (if d then option_and_then (with_functions p scope fs) (with_function p scope f w) else with_functions p scope fs w)
-        ≡ Some (functions_bound p scope (if d then f ∷ declared_in p fs else declared_in p fs) (first_object + length w.objects + 1) x)
+    ≡ Some (functions_bound p scope (if d then f ∷ declared_in p fs else declared_in p fs) (first_object + length w.objects + 1) x)
 more_apart true p f scope fs w x further h = one_apart (nat_le (w.cells + cost_of_function) w.limit) p f scope fs w x further h
 more_apart false p f scope fs w x further h = further w x h
 
@@ -176,14 +176,20 @@ abbrev pub IsFilled : Loaded → ℕ → List Value → World → ℕ × World �
 IsFilled p f args w made charged =
     option_and_then (scope_with (declared_in p (body p f))) charged ≡ Some made
     → option_and_then (scope_filled p f args) charged
-        ≡ Some (made.0, functions_bound p made.0 (declared_in p (body p f)) (first_object + length w.objects + 1)
-            (with_arguments p f made.0 args (parameters p f) (with_undefined made.0 (scoping p f).names made.1)))
+    ≡ Some (
+      made.0,
+      functions_bound p made.0 (declared_in p (body p f)) (first_object + length w.objects + 1)
+          (with_arguments p f made.0 args (parameters p f) (with_undefined made.0 (scoping p f).names made.1)),
+    )
 
 filled_with : (p : Loaded) (f : ℕ) (args : List Value) (w : World) (made there : ℕ × World) (o : Option World)
     → functions_made there.0 (declared_in p (body p f)) there.1 ≡ o → there.1.objects ≡ w.objects → option_map (λ x. (there.0, x)) o ≡ Some made
     → scope_filled p f args there
-        ≡ Some (made.0, functions_bound p made.0 (declared_in p (body p f)) (first_object + length w.objects + 1)
-            (with_arguments p f made.0 args (parameters p f) (with_undefined made.0 (scoping p f).names made.1)))
+    ≡ Some (
+      made.0,
+      functions_bound p made.0 (declared_in p (body p f)) (first_object + length w.objects + 1)
+          (with_arguments p f made.0 args (parameters p f) (with_undefined made.0 (scoping p f).names made.1)),
+    )
 filled_with p f args w made there None is objects h = absurd (none-some made h)
 filled_with p f args w made there (Some x) is objects h =
     let scope : ℕ = there.0 in
@@ -198,7 +204,7 @@ filled_with p f args w made there (Some x) is objects h =
     let count : length (fill there.1).objects ≡ length w.objects = ap (λ (y : World). length y.objects) first ∙ ap (λ os. length os) objects in
     let both = functions_apart p scope (body p f) (fill there.1) (fill x) rest in
     let R : ℕ × World → Option (ℕ × World) = λ m.
-        Some (m.0, functions_bound p m.0 ds (first_object + length w.objects + 1) (with_arguments p f m.0 args (parameters p f) (with_undefined m.0 names m.1))) in
+    Some (m.0, functions_bound p m.0 ds (first_object + length w.objects + 1) (with_arguments p f m.0 args (parameters p f) (with_undefined m.0 names m.1))) in
     ap (option_map (λ y. (scope, y))) both ∙ ap (λ n. Some (scope, functions_bound p scope ds (first_object + n + 1) (fill x))) count ∙ ap R (some-injective h)
 
 filled_in : (p : Loaded) (f : ℕ) (args : List Value) (w : World) (made : ℕ × World) (charged : Option (ℕ × World))

@@ -6,7 +6,7 @@ use Rattle.rip_values.specs.FixedTexts.{fixed_units}
 use Rattle.rip_values.specs.Pool.{with_text}
 use Rattle.rip_heap.specs.declared.mark.Mark.{Mark}
 use Rattle.rip_heap.specs.Growth.{Grows}
-use Rattle.rip_heap.specs.Marks.{CanBeCut, cut_world, mark_of}
+use Rattle.rip_heap.specs.Marks.{mark_of}
 use Rattle.rip_heap.specs.Sound.{IsSound}
 use Rattle.rip_heap.specs.World.{Object, Scope, World}
 use Rattle.rip_tree.specs.declared.form.Form.{Form}
@@ -19,16 +19,18 @@ cuts_itself w m is fixed sound =
     let objects : take (length w.objects) w.objects ≡ w.objects = take-length w.objects in
     let scopes : take (length w.scopes) w.scopes ≡ w.scopes = take-length w.scopes in
     let O : List Object → Type 0 = λ objects. IsSound w.limit w.cells objects w.scopes in
-    let S : List Scope → Type 0 = λ scopes. IsSound w.limit w.cells (take (length w.objects) w.objects) scopes in
-    (record {
-      fixed = subst (λ (k : Mark). length fixed_units ≤ k.end) is fixed;
-      units = omega arith;
-      used = omega arith;
-      charged = omega arith;
-      objects = omega arith;
-      scopes = omega arith;
-      sound = subst S (sym scopes) (subst O (sym objects) sound);
-    }, rw (objects, scopes, take-length w.pool.units) refl)
+    let S : List Scope → Type 0 = λ scopes. IsSound w.limit w.cells (take (length w.objects) w.objects) scopes in (
+      record {
+        fixed = subst (λ (k : Mark). length fixed_units ≤ k.end) is fixed;
+        units = omega arith;
+        used = omega arith;
+        charged = omega arith;
+        objects = omega arith;
+        scopes = omega arith;
+        sound = subst S (sym scopes) (subst O (sym objects) sound);
+      },
+      rw (objects, scopes, take-length w.pool.units) refl,
+    )
 
 -- a text more, which costs no more than its length
 cuts_text : (w x : World) (text : List ℕ) (cost : ℕ) → cost ≤ length text → CutsTo w x → CutsTo w (record x { pool = with_text x.pool text cost })
@@ -41,16 +43,18 @@ cuts_text w x text cost cheap b =
       pool = record x.pool { units = us; used = w.pool.used };
       objects = take (length w.objects) x.objects;
       scopes = take (length w.scopes) x.scopes;
-    } in
-    (record {
-      fixed = b.0.fixed;
-      units = omega (arith, more, b.0.units);
-      used = omega (arith, b.0.used);
-      charged = omega (arith, more, cheap, b.0.charged);
-      objects = b.0.objects;
-      scopes = b.0.scopes;
-      sound = b.0.sound;
-    }, ap r same ∙ b.1)
+    } in (
+      record {
+        fixed = b.0.fixed;
+        units = omega (arith, more, b.0.units);
+        used = omega (arith, b.0.used);
+        charged = omega (arith, more, cheap, b.0.charged);
+        objects = b.0.objects;
+        scopes = b.0.scopes;
+        sound = b.0.sound;
+      },
+      ap r same ∙ b.1,
+    )
 
 -- what a node costs is no more than the length of its text
 form_cheap : (units : List ℕ) (f : Form) → form_cost units f ≤ length (text_or_none (form_text units f))

@@ -146,13 +146,7 @@ pub(crate) fn make_functions(
 }
 
 /// Binds these functions, the first of which has this number.
-pub(crate) fn bind_functions(
-    p: &Source,
-    heap: &mut Heap,
-    scope: u32,
-    functions: &[u32],
-    first: u32,
-)
+pub(crate) fn bind_functions(p: &Source, heap: &mut Heap, scope: u32, functions: &[u32], first: u32)
     requires numbered { first + 2 * length functions.now < 2 ^ 32 }
     ensures bound { heap.new ≡ functions_bound p.now scope functions.now first heap.old }
     ensures grows { Grows heap.old heap.new }

@@ -1,5 +1,4 @@
-use Rattle.std.proofs.Common.{◌≡◌, ℕ, Some, refl, sym, ap, ◌∙◌, subst}
-use Rattle.rip_heap.specs.World.{World}
+use Rattle.std.proofs.Common.{◌≡◌, ℕ, Some, refl, sym, ◌∙◌, subst}
 use Rattle.rip_runs.specs.declared.frame.Ending.TheVariants.{Call}
 use Rattle.rip_runs.specs.declared.part.Inner.{Inner}
 use Rattle.rip_runs.specs.declared.part.Part.{Part}

@@ -1,6 +1,5 @@
 use Rattle.std.proofs.Common.{ap, sym}
 use Rattle.rip_heap.specs.declared.class.Class.TheVariants.{ThrownTypeError}
-use Rattle.rip_machine.specs.declared.rows.calls.Invocable.TheVariants.{NotCallable}
 use Rattle.rip_machine.specs.Rows.Names.{throws}
 use Rattle.rip_machine.specs.Starting.{Runs}
 use Rattle.rip_machine.specs.Table.{table}

@@ -1,4 +1,4 @@
-use Rattle.std.proofs.Common.{◌≡◌, ◌+◌, ◌*◌, ◌≤◌, drop, length}
+use Rattle.std.proofs.Common.{◌≡◌, ◌+◌, ◌*◌, drop}
 use Rattle.rip_heap.specs.Growth.{Grows}
 use Rattle.rip_machine.specs.Rows.Functions.{functions_bound}
 use Rattle.rip_machine.proofs.rows.functions.bind_functions.Given as goal

@@ -1,4 +1,4 @@
-use Rattle.std.proofs.Common.{rules, ◌≡◌, List, [], ◌∷◌, ◌++◌, true, false, None, Some, length, ap, ◌∙◌}
+use Rattle.std.proofs.Common.{rules, ◌≡◌, [], ◌∷◌, ◌++◌, true, false, None, Some, length, ap, ◌∙◌}
 use Rattle.rip_machine.specs.Reading.{child_at, children_from, form_of}
 use Rattle.rip_machine.specs.Rows.Functions.{declared_in}
 use Rattle.rip_machine.specs.Rows.Statements.{is_declaration}
@@ -12,20 +12,20 @@ loop-f-preserved c =
     let all = declared_in p (children_from p c.args.id c.args.from) in
     let there : child_at p c.args.id c.loop-f.place ≡ Some c.in-Some.f = search rules in
     elim c.if-is_declaration.branch [
-      then-is_declaration+in_ok-push w ↦
-        let is : is_declaration (form_of p c.in-Some.f) ≡ true = search rules in
-        let pushed : c.if-is_declaration.functions.items ≡ c.loop-f.functions.items ++ c.in-Some.f ∷ [] = search rules in
-        record {
-          few = search rules;
-          declared = declared_more p c.args.id c.loop-f.place c.in-Some.f c.loop-f.functions.items c.if-is_declaration.functions.items all there is pushed c.loop-f.invariant.declared;
-        }
-    | else-is_declaration w ↦
-        let is : is_declaration (form_of p c.in-Some.f) ≡ false = search rules in
-        let same : c.if-is_declaration.functions.items ≡ c.loop-f.functions.items = search rules in
-        record {
-          few = search rules;
-          declared = declared_same p c.args.id c.loop-f.place c.in-Some.f c.loop-f.functions.items c.if-is_declaration.functions.items all there is same c.loop-f.invariant.declared;
-        }
+      | then-is_declaration+in_ok-push w ↦
+          let is : is_declaration (form_of p c.in-Some.f) ≡ true = search rules in
+          let pushed : c.if-is_declaration.functions.items ≡ c.loop-f.functions.items ++ c.in-Some.f ∷ [] = search rules in
+          record {
+            few = search rules;
+            declared = declared_more p c.args.id c.loop-f.place c.in-Some.f c.loop-f.functions.items c.if-is_declaration.functions.items all there is pushed c.loop-f.invariant.declared;
+          }
+      | else-is_declaration w ↦
+          let is : is_declaration (form_of p c.in-Some.f) ≡ false = search rules in
+          let same : c.if-is_declaration.functions.items ≡ c.loop-f.functions.items = search rules in
+          record {
+            few = search rules;
+            declared = declared_same p c.args.id c.loop-f.place c.in-Some.f c.loop-f.functions.items c.if-is_declaration.functions.items all there is same c.loop-f.invariant.declared;
+          }
     ]
 
 pub returns-clause-declared : goal.returns-clause-declared
