@@ -127,7 +127,7 @@ impl Browser {
         ensures adds { AddsTexts heap.old heap.new }
         ensures answered { IsAnswered heap.old result heap.new }
     {
-        match self.forms.value(self.alloc, &self.dom, heap.pool_mut(), n) {
+        match heap.with_texts(&mut |pool| self.forms.value(self.alloc, &self.dom, pool, n)) {
             Ok(span) => HostDone::Value(text_value(heap, span)),
             Err(TextRefused::TooLong) => HostDone::Fault(Fault::TextTooLong),
             Err(TextRefused::Refused(Refused::Limit(limit))) => HostDone::Limit(limit),

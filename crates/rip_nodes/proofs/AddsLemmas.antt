@@ -1,12 +1,11 @@
--- Only texts are added: by a new text, by a name that is kept, and by one such step after another.
+-- Only texts are added: by a new text, and by one such step after another.
 use Rattle.std.proofs.Common.{◌≡◌, ℕ, ◌+◌, ◌<◌, ◌≤◌, Bool, true, false, List, ◌++◌, length, refl, sym, ap, ◌∙◌, subst, arith}
-use Rattle.std.specs.Prelude.{if◌then◌else◌, map}
+use Rattle.std.specs.Prelude.{if◌then◌else◌}
 use Rattle.std.proofs.lemmas.List.{length-append, length-map}
 use Rattle.rip_values.specs.declared.value.Span.{Span}
-use Rattle.rip_values.specs.Pool.{Texts, IsSpan, text_at, with_text}
-use Rattle.rip_heap.specs.Growth.{Grows}
-use Rattle.rip_heap.specs.World.{World, Object, Scope}
-use Rattle.rip_dom.specs.Attributes.{attribute_set, has_attribute}
+use Rattle.rip_values.specs.Pool.{Texts, text_at, with_text}
+use Rattle.rip_heap.specs.World.{World}
+use Rattle.rip_dom.specs.Attributes.{has_attribute}
 use Rattle.rip_dom.specs.Creation.{cost_of_name, is_all_small, small_text, with_kept}
 use Rattle.rip_dom.specs.Names.{small_unit}
 use Rattle.rip_dom.specs.Opening.{Opening}
@@ -35,48 +34,8 @@ text-behind w text n =
       objects = refl;
     }
 
--- nothing is added
-nothing : (w : World) → AddsTexts w w
-nothing w = record {
-  grows = record {
-    limit = refl;
-    unit_limit = refl;
-    text_limit = refl;
-    cells = omega arith;
-    units = omega arith;
-    texts = λ s h. refl;
-    spans = omega arith;
-    made = omega arith;
-    objects = λ i d h. (refl, refl, refl);
-    opened = omega arith;
-    scopes = λ i d h. (refl, refl);
-  };
-  objects = refl;
-}
-
 pub adds-text : (w x : World) (text : List ℕ) (n : ℕ) → x ≡ record w { pool = with_text w.pool text n } → AddsTexts w x
 adds-text w x text n e = subst (AddsTexts w) (sym e) (text-behind w text n)
-
--- a text is added or none
-pub adds-if : (b : Bool) (w : World) (text : List ℕ) (n : ℕ) → AddsTexts w (record w { pool = if b then w.pool else with_text w.pool text n })
-adds-if true w text n = nothing w
-adds-if false w text n = text-behind w text n
-
--- a name that is kept
-pub adds-kept : (w : World) (name : Span) (p : Texts) → p ≡ with_kept w.pool name → AddsTexts w (record w { pool = p })
-adds-kept w name p e =
-    let P : Texts → Type 0 = λ q. AddsTexts w (record w { pool = q }) in
-    subst P (sym e) (adds-if (is_all_small (text_at w.pool name)) w (small_text (text_at w.pool name)) (length (text_at w.pool name)))
-
--- the texts in which the name of an attribute is kept: as they were, where the attribute is there
-kept-by : (b : Bool) (w : World) (s x : Opening) (name : Span) → s.pool ≡ w.pool → x.pool ≡ with_kept w.pool name → AddsTexts w (record w { pool = (if b then s else x).pool })
-kept-by true w s x name e f = let P : Texts → Type 0 = λ q. AddsTexts w (record w { pool = q }) in subst P (sym e) (nothing w)
-kept-by false w s x name e f = adds-kept w name x.pool f
-
-pub adds-texts_kept : (w : World) (t : Tree) (n : ℕ) (name : Span) (p : Texts) → p ≡ texts_kept w t n name → AddsTexts w (record w { pool = p })
-adds-texts_kept w t n name p e =
-    let P : Texts → Type 0 = λ q. AddsTexts w (record w { pool = q }) in
-    subst P (sym e) (kept-by (has_attribute (opening w.pool t) n name) w _ _ name refl refl)
 
 length-kept_by : (b : Bool) (pool : Texts) (text : List ℕ) → length (if b then pool else with_text pool (small_text text) (length text)).units ≡ length pool.units + (if b then 0 else length text)
 length-kept_by true pool text = omega arith

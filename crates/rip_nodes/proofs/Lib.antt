@@ -4,3 +4,4 @@ pub mod ChildLemmas
 pub mod LimitLemmas
 pub mod LinkLemmas
 pub mod NameLemmas
+pub mod PoolLemmas

@@ -316,6 +316,6 @@ fn set_there(alloc: Global, heap: &mut Heap, dom: &mut Dom, n: u32, name: Span, 
     ensures tree { dom.new ≡ (attribute_set (opening heap.old.pool dom.old) n name value).tree }
     ensures adds { AddsTexts heap.old heap.new }
 {
-    dom.set_attribute(alloc, heap.pool_mut(), n, name, value)
+    heap.with_texts(&mut |pool| dom.set_attribute(alloc, pool, n, name, value))
         .unwrap();
 }

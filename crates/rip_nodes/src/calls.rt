@@ -160,7 +160,7 @@ fn make_element(alloc: Global, heap: &mut Heap, dom: &mut Dom, name: Span) -> Ho
     ensures answered { IsAnswered heap.old result heap.new }
     ensures kept { KeepsTree dom.old result dom.new }
 {
-    match dom.create_element(alloc, heap.pool_mut(), name) {
+    match heap.with_texts(&mut |pool| dom.create_element(alloc, pool, name)) {
         Ok(n) => {
             let _made = dom.made();
             HostDone::Value(node_value(n))

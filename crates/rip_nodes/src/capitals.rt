@@ -34,7 +34,7 @@ fn add_capitals(alloc: Global, heap: &mut Heap, name: Span) -> Span
     ensures made { heap.new ≡ with_new_text heap.old (capital_text (text_at heap.old.pool name)) }
     ensures adds { AddsTexts heap.old heap.new }
 {
-    push_capitals(alloc, heap.pool_mut(), name)
+    heap.with_texts(&mut |pool| push_capitals(alloc, pool, name))
 }
 
 // The same of the texts of a heap.

@@ -150,7 +150,7 @@ fn text_below(alloc: Global, heap: &mut Heap, dom: &Dom, n: u32) -> HostDone
     ensures adds { AddsTexts heap.old heap.new }
     ensures answered { IsAnswered heap.old result heap.new }
 {
-    match dom.read_text(alloc, heap.pool_mut(), n) {
+    match heap.with_texts(&mut |pool| dom.read_text(alloc, pool, n)) {
         Ok(span) => HostDone::Value(text_value(heap, span)),
         Err(TextRefused::TooLong) => HostDone::Fault(Fault::TextTooLong),
         Err(TextRefused::Refused(Refused::Limit(limit))) => HostDone::Limit(limit),

@@ -9,7 +9,7 @@ use Rattle.rip_values.specs.declared.value.Refused.{Refused}
 use Rattle.rip_values.specs.declared.value.Refused.TheVariants.{Limit as At, Memory}
 use Rattle.rip_values.specs.Pool.{Texts, span_behind, with_text}
 use Rattle.rip_heap.specs.Growth.{Grows}
-use Rattle.rip_heap.specs.Lending.{with_pool}
+use Rattle.rip_heap.specs.Lending.{PoolGrows, with_pool}
 use Rattle.rip_heap.specs.World.{World}
 use Rattle.rip_dom.specs.Tree.{Tree}
 use Rattle.rip_forms.specs.declared.state.FormState.{FormState}
@@ -21,6 +21,7 @@ use Rattle.rip_forms.specs.States.{States, state_at, state_with, states_with}
 use Rattle.rip_forms.specs.Values.{checked_of}
 use Rattle.rip_nodes.specs.Answers.{AddsTexts}
 use Rattle.rip_nodes.proofs.AddsLemmas.{adds-text}
+use Rattle.rip_nodes.proofs.PoolLemmas.{same-grows, text-grows}
 use Rattle.rip_host.specs.declared.browser.Browser.{Browser}
 use Rattle.rip_host.specs.Stays.{fits-stays}
 use Rattle.rip_host.specs.Visit.{Fits}
@@ -63,6 +64,20 @@ adds-by Submit t w f r = adds-same w w.pool refl
 
 pub grows-after : (w : World) (s : Browser) (r : Report) → Grows w (world_after w s r)
 grows-after w s r = (adds-by r.kind s.dom w s.forms r).grows
+
+grows-by : (kind : EventKind) (t : Tree) (w : FormWorld) (r : Report) → PoolGrows w.pool (effect_by kind t w r).pool
+grows-by Click t w r = same-grows w.pool w.pool refl
+grows-by Change t w r = same-grows w.pool w.pool refl
+grows-by Input t w r = text-grows w.pool (with_text w.pool (text_of r) (length (text_of r))) (text_of r) (length (text_of r)) refl
+grows-by Focus t w r = same-grows w.pool w.pool refl
+grows-by Blur t w r = same-grows w.pool w.pool refl
+grows-by Submit t w r = same-grows w.pool w.pool refl
+
+-- what is applied only adds texts to the pool
+pub applied-grows : (t : Tree) (r : Report) (old : FormWorld) (result : Result (Unit {0}) Refused) (new : FormWorld) → Applies (is_past old.pool r) (effect_of t old r) old result new → PoolGrows old.pool new.pool
+applied-grows t r old (Ok done) new h = let P : FormWorld → Type 0 = λ w. PoolGrows old.pool w.pool in subst P (sym h.1) (grows-by r.kind t old r)
+applied-grows t r old (Err (At l)) new h = same-grows old.pool new.pool (ap (λ (w : FormWorld). w.pool) h.2)
+applied-grows t r old (Err Memory) new h = absurd h
 
 -- THE BROWSER STILL FITS
 

@@ -78,10 +78,7 @@ pub(crate) fn take_effect(browser: &mut Browser, heap: &mut Heap, report: &Repor
 {
     let _made = browser.dom.made();
     let alloc = browser.alloc;
-    match browser
-        .forms
-        .apply(alloc, &browser.dom, heap.pool_mut(), report)
-    {
+    match heap.with_texts(&mut |pool| browser.forms.apply(alloc, &browser.dom, pool, report)) {
         Ok(()) | Err(_) => {}
     }
 }
