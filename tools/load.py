@@ -2,15 +2,14 @@
 """Loads a running `ripley serve` with random truthful and lying clients, and compares each answer.
 
     ripley serve crates/ripley/data/page.html tools/load.json 127.0.0.1:8080 > log &
-    tools/load.py 127.0.0.1:8080 --pid=$! [--seconds=600] [--connections=64] [--seed=1] [--rest=4000] [--idle=900]
+    tools/load.py 127.0.0.1:8080 --pid=$! [--seconds=600] [--connections=64] [--seed=1] [--rest=0] [--idle=0]
 
-Client N draws from the seed `SEED + N`, and rests before each visit for up to REST milliseconds, as it draws: so visitors do,
-beside IDLE sessions, which are opened before and stay. The manifest has to allow as many beside the connections, as that of
-`tools/load.json` does. At the end it prints how many visits of each kind there were, the time of an answer, and the resident
-memory of the process in the second minute and in the last. The status is 0 only where each answer was the due one and the
-memory of the last minute is no more than a tenth above that of the second. A server keeps some 60 bytes of each session that
-ended, so that what is asked of it is still answered: with `--rest=0` a storm of thousands is opened in a second, and what is
-kept of them shows.
+Client N draws from the seed `SEED + N`, and rests before each visit for up to REST milliseconds, as it draws. IDLE sessions
+are opened before, and stay: the manifest has to allow as many beside the connections, as that of `tools/load.json` does up to
+900. At the end it prints how many visits of each kind there were, the time of an answer, and the resident memory of the
+process in the second minute and in the last. The status is 0 only where each answer was the due one and the memory of the
+last minute is no more than a tenth above that of the second. A server keeps some 60 bytes of each session that ended, so that
+what is asked of it is still answered: with no rest thousands are opened in a second, and what is kept of them shows.
 """
 
 import json
@@ -101,9 +100,9 @@ def resident(pid):
 def main():
     words = dict(word[2:].split("=", 1) for word in sys.argv[2:])
     seconds = int(words.get("seconds", 600))
-    load = Load(address(sys.argv[1]), seconds, int(words.get("seed", 1)), int(words.get("rest", 4000)))
+    load = Load(address(sys.argv[1]), seconds, int(words.get("seed", 1)), int(words.get("rest", 0)))
     print(f"seed {load.seed}, {words.get('connections', 64)} connections, {seconds} seconds")
-    open_idle(load.where, int(words.get("idle", 900)))
+    open_idle(load.where, int(words.get("idle", 0)))
     threads = [
         threading.Thread(target=load.run, args=(number,))
         for number in range(int(words.get("connections", 64)))
