@@ -10,5 +10,6 @@ pub mod Page
 pub mod Pool
 pub mod Printed
 pub mod Text
+pub mod Units
 pub mod Values
 pub mod Whole

@@ -50,7 +50,8 @@ pub(crate) fn trim(text: &[u16]) -> &[u16]
     trim_end(trim_start(text))
 }
 
-fn trim_start(text: &[u16]) -> &[u16]
+/// The text without white space and line ends at its start.
+pub fn trim_start(text: &[u16]) -> &[u16]
     ensures { result.now ≡ trimmed_start text.now }
 {
     let mut rest = text;

@@ -11,6 +11,8 @@
 //! | [`Units::from_utf8`], [`Units::to_utf8`] | `Text.IsSameText`, `Text.IsUtf16` |
 //! | [`is_white_space`], [`is_line_end`] | `Blank.white_space`, `Blank.line_ends` |
 //! | [`number_of_text`] | `Numbers.IsNumberOf`, of the text that `Blank.trimmed` leaves |
+//! | [`whole_of`], [`digit_value`], [`split_sign`], [`trim_start`] | std's `digits_value` and `digit_value`, `Blank.trimmed_start` |
+//! | [`is_hex_digit`], [`hex_value`], [`small_unit`], [`is_ascii`], [`is_ascii_in_small`] | `Units`, one definition each |
 //! | [`text_of_whole`] | std's `signed_decimal` |
 //! | [`Value`] of a number | `Values.value_of_number` |
 //! | [`FixedText`] | `FixedTexts.text_of`, its table, and `FixedTexts.fixed_span`, its places |
@@ -41,22 +43,24 @@ mod page;
 mod pool;
 mod report;
 mod text;
+mod unit;
 mod value;
 mod whole;
 mod writer;
 
-pub use blank::{is_line_end, is_white_space};
+pub use blank::{is_line_end, is_white_space, trim_start};
 pub use builtin::{BUILTINS, Builtin, BuiltinHome, FIRST_HEAP_OBJECT, FIRST_NODE};
 pub use fixed::{FIXED_TEXTS, FixedText};
 pub use global::{GLOBALS, Global};
 pub use limits::{LONGEST_INPUT, LONGEST_TEXT, Limits, MOST_REPLIES};
 pub use list::{Bytes, List, NumberList, Units};
 pub use memory::NoMemory;
-pub use number::{number_of_text, text_of_whole};
+pub use number::{digit_value, number_of_text, split_sign, text_of_whole, whole_of};
 pub use operator::{BinaryOperator, LogicalOperator, StepOperator, UnaryOperator};
 pub use page::{Attribute, NodeKind, Page, PageKind, PageNode, PairList};
 pub use pool::Pool;
 pub use report::{BadReport, EventKind, Report};
+pub use unit::{hex_value, is_ascii, is_ascii_in_small, is_hex_digit, small_unit};
 pub use value::{Fault, Limit, Numeral, Refused, Span, TextError, Value};
 pub use whole::{MAX_WHOLE, Whole};
 pub use writer::Writer;

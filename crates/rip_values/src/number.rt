@@ -112,9 +112,9 @@ fn number_of_trimmed(text: &[u16]) -> Result<Numeral, Fault>
     }
 }
 
-// The whole number of a sign and digits.
-fn whole_of(negative: bool, base: u16, digits: &[u16]) -> Result<Numeral, Fault>
-    requires { base ≤ 16 }
+/// The whole number of a sign and digits in that base, if it is in range.
+pub fn whole_of(negative: bool, base: u16, digits: &[u16]) -> Result<Numeral, Fault>
+    requires { base ≤ 36 }
     ensures { IsRanged (signed_value negative (digits_value base digits.now)) result }
 {
     let magnitude = value_of(base, digits) as i64;
@@ -126,7 +126,7 @@ fn whole_of(negative: bool, base: u16, digits: &[u16]) -> Result<Numeral, Fault>
 
 // The value of the digits, or `PAST_RANGE` where it is larger.
 fn value_of(base: u16, digits: &[u16]) -> u64
-    requires { base ≤ 16 }
+    requires { base ≤ 36 }
     ensures { result ≡ min (digits_value base digits.now) PAST_RANGE }
 {
     let mut value = 0;
@@ -136,8 +136,8 @@ fn value_of(base: u16, digits: &[u16]) -> u64
     value
 }
 
-// Whether a minus stands first, and the text without its sign.
-fn split_sign(text: &[u16]) -> (bool, &[u16])
+/// Whether a minus stands first, and the text without its sign.
+pub fn split_sign(text: &[u16]) -> (bool, &[u16])
     ensures minus { result.0 ≡ starts_with_minus text.now }
     ensures rest { result.1.now ≡ without_leading_sign text.now }
 {
@@ -148,8 +148,8 @@ fn split_sign(text: &[u16]) -> (bool, &[u16])
     }
 }
 
-// The value of a digit or an ASCII letter, which is at least 10, and 36 for any other unit.
-fn digit_value(unit: u16) -> u16
+/// The value of a digit or an ASCII letter, which is at least 10, and 36 for any other unit.
+pub fn digit_value(unit: u16) -> u16
     ensures { result ≡ digit_value unit }
 {
     match unit {
