@@ -3,10 +3,11 @@ use Rattle.std.proofs.Common.{◌≡◌, ℕ, ◌≤◌, arith, get_or, ◌⊎�
 use Rattle.std.proofs.lemmas.Bool.{and_parts, or_from, cond-true, both_ways, false≢true}
 use Rattle.std.proofs.lemmas.Option.{none-some}
 use Rattle.std.specs.List.{prefix_len}
+use Rattle.rip_values.specs.Units.{begins}
 use Rattle.rip_grammar.specs.declared.word.Word.{Word}
 use Rattle.rip_grammar.specs.declared.word.Word.TheVariants as W
 use Rattle.rip_grammar.specs.Words.{is_name}
-use Rattle.rip_lexer.specs.Units.{class_of, is_line_end, is_blank, is_blank_class, is_name_start, is_name_unit, begins}
+use Rattle.rip_lexer.specs.Units.{class_of, is_line_end, is_blank, is_blank_class, is_name_start, is_name_unit}
 use Rattle.rip_lexer.specs.Words.{is_among, look_up, reserved_words, word_in}
 use Rattle.rip_lexer.specs.Gap.{Blank, LineComment, BlockComment, holds_close, begins_comment}
 use Rattle.rip_lexer.specs.Tokens.{Begins, fault_of, Refuses, Spelling, InText, InComment, AtUnit}

@@ -6,9 +6,10 @@ use Rattle.std.proofs.lemmas.Bool.{and_parts, and_from, and_left, or_left, or_ri
 use Rattle.std.proofs.lemmas.List.{take_at}
 use Rattle.std.proofs.lemmas.List.Sums.{prefix_len-le-length}
 use Rattle.std.proofs.lemmas.Option.{none-some}
+use Rattle.rip_values.specs.Units.{is_one_of, is_hex_digit, begins}
 use Rattle.rip_grammar.specs.declared.word.Word.{Word}
 use Rattle.rip_grammar.specs.declared.word.Word.TheVariants as W
-use Rattle.rip_lexer.specs.Units.{class_of, is_one_of, is_digit, is_digit_class, is_name_unit, is_name_class, is_name_start, is_name_start_class, is_quote_class, is_mark, is_mark_class, is_hex_digit, begins}
+use Rattle.rip_lexer.specs.Units.{class_of, is_digit, is_digit_class, is_name_unit, is_name_class, is_name_start, is_name_start_class, is_quote_class, is_mark, is_mark_class}
 use Rattle.rip_lexer.specs.Words.{Entry, is_word, is_among, look_up, reserved_words, punctuators, word_in}
 use Rattle.rip_lexer.specs.Numeral.{is_decimal, has_prefix, is_hexadecimal, is_numeral}
 use Rattle.rip_lexer.specs.Text.{spell, spell_all, AreCharacters, character_value, refused_in, ends_text, ReadsText, StandsFor, text_fault}

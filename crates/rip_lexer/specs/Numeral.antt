@@ -2,7 +2,8 @@
 -- number: 48 is `0`, 120 and 88 are `x` and `X`, 46, 101 and 69 are `.`, `e` and `E`.
 use Rattle.std.specs.Prelude.{ℕ, ◌+◌, ◌*◌, Bool, false, not, ◌||◌, ◌&&◌, ◌==◌, nat_lt, if◌then◌else◌, List, [], ◌∷◌, length, drop, Option, Some, None, fold}
 use Rattle.std.specs.List.{list_all, prefix_len}
-use Rattle.rip_lexer.specs.Units.{is_one_of, is_digit, is_hex_digit, is_name_unit, digit_value, begins}
+use Rattle.rip_values.specs.Units.{is_one_of, is_hex_digit, hex_value, begins}
+use Rattle.rip_lexer.specs.Units.{is_digit, is_name_unit}
 use Rattle.rip_lexer.specs.Fault.{fault}
 use Rattle.rip_lexer.specs.declared.refusal.Fault.{Fault}
 use Rattle.rip_lexer.specs.declared.refusal.LexKind.TheVariants.{BadCharacter, FractionLiteral, OctalLiteral, LiteralTooLarge}
@@ -28,7 +29,7 @@ is_numeral s = is_decimal s || is_hexadecimal s
 
 -- the number that digits stand for
 abbrev pub digits_value : ℕ → List ℕ → ℕ
-digits_value base digits = fold (λ n c. n * base + digit_value c) 0 digits
+digits_value base digits = fold (λ n c. n * base + hex_value c) 0 digits
 
 -- the value of a numeral
 unfoldable pub numeral_value : List ℕ → ℕ

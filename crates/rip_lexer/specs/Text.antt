@@ -1,7 +1,8 @@
 -- Texts, character by character, and the units that they stand for (ECMA-262 7.8.4). Units by number: 92 is `\`,
 -- 48 `0`, 120 `x`, 117 `u`, 13 and 10 are CR and LF.
 use Rattle.std.specs.Prelude.{◌≡◌, ℕ, zero, suc, ◌+◌, ◌*◌, Bool, true, false, not, ◌||◌, ◌&&◌, ◌==◌, if◌then◌else◌, List, [], ◌∷◌, Option, Some, None, filter_map}
-use Rattle.rip_lexer.specs.Units.{class_of, is_between, is_digit, is_line_end, is_hex_digit, digit_value, begins}
+use Rattle.rip_values.specs.Units.{is_between, is_hex_digit, hex_value, begins}
+use Rattle.rip_lexer.specs.Units.{class_of, is_digit, is_line_end}
 use Rattle.rip_lexer.specs.declared.units.UnitClass.TheVariants.{Quote}
 use Rattle.rip_lexer.specs.declared.character.Character.{Character}
 use Rattle.rip_lexer.specs.declared.character.Character.TheVariants.{Plain, Escaped, Null, Hexadecimal, Unicode, Continuation, ContinuationPair, Refused}
@@ -62,8 +63,8 @@ abbrev pub character_value : Character → Option ℕ
 character_value (Plain c) = Some c
 character_value (Escaped c) = Some (escape_value c)
 character_value Null = Some 0
-character_value (Hexadecimal a b) = Some (digit_value a * 16 + digit_value b)
-character_value (Unicode a b c d) = Some (((digit_value a * 16 + digit_value b) * 16 + digit_value c) * 16 + digit_value d)
+character_value (Hexadecimal a b) = Some (hex_value a * 16 + hex_value b)
+character_value (Unicode a b c d) = Some (((hex_value a * 16 + hex_value b) * 16 + hex_value c) * 16 + hex_value d)
 character_value (Continuation c) = None
 character_value ContinuationPair = None
 character_value (Refused c) = None

@@ -1,18 +1,10 @@
 -- The units of a script, each of one class (ECMA-262 6, 7.2, 7.3, 7.6, 7.7, 7.8). Units by number: 48 to 57 are the
 -- decimal digits, 65 to 90 and 97 to 122 the letters.
-use Rattle.std.specs.Prelude.{ℕ, ◌-◌, Bool, true, false, ◌||◌, ◌&&◌, ◌==◌, nat_le, if◌then◌else◌, List, [], ◌∷◌, codes}
-use Rattle.std.specs.List.{list_any}
+use Rattle.std.specs.Prelude.{ℕ, Bool, true, false, ◌||◌, if◌then◌else◌, [], ◌∷◌, codes}
 use Rattle.rip_values.specs.Blank as Blank
+use Rattle.rip_values.specs.Units.{is_between, is_one_of}
 use Rattle.rip_lexer.specs.declared.units.UnitClass.{UnitClass}
 use Rattle.rip_lexer.specs.declared.units.UnitClass.TheVariants.{NameStart, Digit, LineEnd, White, Quote, Mark, Other}
-
--- from the low unit to the high one, both included
-abbrev pub is_between : ℕ → ℕ → ℕ → Bool
-is_between low high c = nat_le low c && nat_le c high
-
--- one of these units
-abbrev pub is_one_of : List ℕ → ℕ → Bool
-is_one_of units c = list_any (λ unit. c == unit) units
 
 -- A letter of ASCII, `$` or `_` may begin a name (7.6). A line end is LF, CR, LS or PS (7.3), and white space is
 -- what 7.2 lists. A quote begins a text (7.8.4), and a mark a punctuator (7.7). What is left begins nothing.
@@ -90,16 +82,3 @@ is_quote c = is_quote_class (class_of c)
 -- white space or a line end
 abbrev pub is_blank : ℕ → Bool
 is_blank c = is_blank_class (class_of c)
-
--- a hexadecimal digit (7.8.3)
-unfoldable pub is_hex_digit : ℕ → Bool
-is_hex_digit c = is_between 48 57 c || is_between 97 102 c || is_between 65 70 c
-
--- the number that a digit stands for, and 0 for any other unit
-unfoldable pub digit_value : ℕ → ℕ
-digit_value c = if is_between 48 57 c then c - 48 else (if is_between 97 102 c then c - 87 else (if is_between 65 70 c then c - 55 else 0))
-
--- the units begin with one that passes
-abbrev pub begins : (ℕ → Bool) → List ℕ → Bool
-begins passes [] = false
-begins passes (c ∷ rest) = passes c

@@ -2,10 +2,11 @@
 -- the relations of the other files is proved, and no public clause cites them.
 use Rattle.std.specs.Prelude.{◌≡◌, ℕ, ◌+◌, ◌≤◌, Bool, true, false, not, ◌||◌, ◌&&◌, ◌==◌, if◌then◌else◌, List, [], ◌∷◌, ◌++◌, length, Option, Some, None, option_map, take_while}
 use Rattle.std.specs.List.{list_any, prefix_len}
+use Rattle.rip_values.specs.Units.{is_one_of, is_hex_digit, begins}
 use Rattle.rip_grammar.specs.declared.word.Word.{Word}
 use Rattle.rip_grammar.specs.declared.word.Word.TheVariants as W
 use Rattle.rip_lexer.specs.Words.{Entry, word_in}
-use Rattle.rip_lexer.specs.Units.{is_one_of, is_digit, is_line_end, is_blank, is_hex_digit, begins}
+use Rattle.rip_lexer.specs.Units.{is_digit, is_line_end, is_blank}
 use Rattle.rip_lexer.specs.Text.{ReadsText, begins_hex, text_fault}
 use Rattle.rip_lexer.specs.Gap.{Part, Blank, LineComment, BlockComment, line_in, gap_text, IsGap}
 use Rattle.rip_lexer.specs.Tokens.{Begins, fault_of, Refuses}

@@ -6,7 +6,8 @@ use crate::ascii::{
     BACKSLASH, CARRIAGE_RETURN, LINE_FEED, SMALL_B, SMALL_F, SMALL_N, SMALL_R, SMALL_T, SMALL_U,
     SMALL_V, SMALL_X, ZERO,
 };
-use crate::units::{begins_with_digit, digit_value, is_digit, is_hex_digit, is_line_end};
+use crate::units::{begins_with_digit, is_digit, is_line_end};
+use rip_values::{hex_value, is_hex_digit};
 
 /// A character of a text, as it is spelled between the quotes (ECMA-262 7.8.4).
 #[derive(Clone, Copy, Debug, PartialEq, Eq)]
@@ -54,10 +55,9 @@ impl Character {
             Character::Plain(unit) => Some(unit),
             Character::Escaped(unit) => Some(escape_value(unit)),
             Character::Null => Some(0),
-            Character::Hexadecimal(a, b) => Some(digit_value(a) * 16 + digit_value(b)),
+            Character::Hexadecimal(a, b) => Some(hex_value(a) * 16 + hex_value(b)),
             Character::Unicode(a, b, c, d) => Some(
-                ((digit_value(a) * 16 + digit_value(b)) * 16 + digit_value(c)) * 16
-                    + digit_value(d),
+                ((hex_value(a) * 16 + hex_value(b)) * 16 + hex_value(c)) * 16 + hex_value(d),
             ),
             Character::Continuation(_) | Character::ContinuationPair | Character::Refused(_) => {
                 None

@@ -1,8 +1,9 @@
 ghost use Rattle.std.specs.Prelude.{◌≡◌, ◌≤◌, None, IsTrue, IfSome, bytes_eq, codes, length};
+ghost use Rattle.rip_values.specs.Units.{begins};
 ghost use Rattle.rip_grammar.specs.Words.{is_name};
 ghost use Rattle.rip_lexer.specs.Fault.{fault};
 ghost use Rattle.rip_lexer.specs.Gap.{begins_comment};
-ghost use Rattle.rip_lexer.specs.Units.{begins, is_digit, is_mark, is_name_start, is_quote};
+ghost use Rattle.rip_lexer.specs.Units.{is_digit, is_mark, is_name_start, is_quote};
 ghost use Rattle.rip_lexer.specs.Tokens.{punctuator_fault};
 ghost use Rattle.rip_lexer.specs.View.{first_part, IsConstruct, OffsetWithin};
 

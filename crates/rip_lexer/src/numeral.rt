@@ -1,15 +1,13 @@
 ghost use Rattle.std.specs.Prelude.{◌≡◌, ◌<◌, ◌≤◌, ◌↔◌, [], ◌∷◌, length, pos, Some, IsSome, IfSome, IfNone};
 ghost use Rattle.std.specs.Option.{ForSome};
+ghost use Rattle.rip_values.specs.Units.{begins, is_one_of};
 ghost use Rattle.rip_lexer.specs.Numeral.{numeral_fault, numeral_value, digits_value, has_prefix};
-ghost use Rattle.rip_lexer.specs.Units.{begins, is_one_of};
 ghost use Rattle.rip_lexer.specs.View.{numeral_count};
 
 use crate::ascii::{CAPITAL_E, CAPITAL_X, POINT, SMALL_E, SMALL_X, ZERO};
 use crate::refusal::{Fault, LexKind};
-use crate::units::{
-    begins_with_digit, begins_with_name_unit, digit_count, digit_value, hex_digit_count,
-};
-use rip_values::Whole;
+use crate::units::{begins_with_digit, begins_with_name_unit, digit_count, hex_digit_count};
+use rip_values::{Whole, hex_value};
 
 /// The greatest value of a numeral, 2^53 - 1.
 const MAX_VALUE: u64 = 9_007_199_254_740_991;
@@ -110,7 +108,7 @@ fn digits_value(base: u64, digits: &[u16]) -> Option<u64>
 {
     let mut value = 0;
     for digit in digits {
-        value = value * base + u64::from(digit_value(*digit));
+        value = value * base + u64::from(hex_value(*digit));
         if value > MAX_VALUE {
             return None;
         }

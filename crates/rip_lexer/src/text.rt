@@ -1,5 +1,6 @@
 ghost use Rattle.std.specs.Prelude.{◌≡◌, ◌==◌, ◌≤◌, ◌++◌, ℕ, List, IfSome, IsTrue, OnOk, OnErr, length, option_to_list};
-ghost use Rattle.rip_lexer.specs.Units.{begins, is_quote};
+ghost use Rattle.rip_values.specs.Units.{begins};
+ghost use Rattle.rip_lexer.specs.Units.{is_quote};
 ghost use Rattle.rip_lexer.specs.Text.{refused_kind, fault_at, option_or, StandsFor};
 ghost use Rattle.rip_lexer.specs.View.{ReadsEnd};
 

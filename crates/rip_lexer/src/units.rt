@@ -1,8 +1,9 @@
-ghost use Rattle.std.specs.Prelude.{◌≡◌, ◌<◌, ◌≤◌, length, not};
+ghost use Rattle.std.specs.Prelude.{◌≡◌, ◌≤◌, length, not};
 ghost use Rattle.std.specs.List.{prefix_len};
-ghost use Rattle.rip_lexer.specs.Units.{class_of, is_hex_digit, is_digit, is_name_unit, is_line_end, is_blank, digit_value, begins};
+ghost use Rattle.rip_values.specs.Units.{begins, is_hex_digit};
+ghost use Rattle.rip_lexer.specs.Units.{class_of, is_digit, is_name_unit, is_line_end, is_blank};
 
-use rip_values::{is_line_end as ends_line, is_white_space};
+use rip_values::{is_hex_digit, is_line_end as ends_line, is_white_space};
 
 /// What a unit of a script may begin.
 #[derive(Clone, Copy, Debug, PartialEq, Eq)]
@@ -63,28 +64,6 @@ pub(crate) fn is_blank(unit: u16) -> bool
     ensures { result ≡ is_blank unit }
 {
     matches!(class_of(unit), UnitClass::White | UnitClass::LineEnd)
-}
-
-/// Whether the unit is a hexadecimal digit.
-#[tactic(auto, unfolding(crate::specs::Units::is_hex_digit))]
-pub(crate) fn is_hex_digit(unit: u16) -> bool
-    ensures { result ≡ is_hex_digit unit }
-{
-    matches!(unit, 0x30..=0x39 | 0x61..=0x66 | 0x41..=0x46)
-}
-
-/// The number that a hexadecimal digit stands for, and 0 for any other unit.
-#[tactic(auto, unfolding(crate::specs::Units::digit_value))]
-pub(crate) fn digit_value(unit: u16) -> u16
-    ensures value { result ≡ digit_value unit }
-    ensures small { result < 16 }
-{
-    match unit {
-        0x30..=0x39 => unit - 0x30,
-        0x61..=0x66 => unit - 0x57,
-        0x41..=0x46 => unit - 0x37,
-        _ => 0,
-    }
 }
 
 /// Whether the units begin with a decimal digit.

@@ -1,11 +1,10 @@
 ghost use Rattle.std.specs.Prelude.{◌≡◌};
-ghost use Rattle.std.specs.Str.{bytes_eq};
 ghost use Rattle.rip_grammar.specs.declared.word.Word.TheVariants as W;
 ghost use Rattle.rip_lexer.specs.Words.{look_up, reserved_words};
 ghost use Rattle.rip_lexer.specs.View.{of_length};
 
 use rip_grammar::Word;
-use rip_values::{BinaryOperator, UnaryOperator};
+use rip_values::{BinaryOperator, UnaryOperator, is_ascii};
 
 /// The word of a name or a reserved word (ECMA-262 7.6.1).
 pub(crate) fn name_word(spelling: &[u16]) -> Word
@@ -30,11 +29,11 @@ pub(crate) fn name_word(spelling: &[u16]) -> Word
 fn word_of_two(spelling: &[u16]) -> Word
     ensures { result ≡ look_up W.Name (of_length 2 reserved_words) spelling.now }
 {
-    if same(spelling, b"do") {
+    if is_ascii(spelling, b"do") {
         Word::Do
-    } else if same(spelling, b"if") {
+    } else if is_ascii(spelling, b"if") {
         Word::If
-    } else if same(spelling, b"in") {
+    } else if is_ascii(spelling, b"in") {
         Word::Infix(BinaryOperator::In)
     } else {
         Word::Name
@@ -46,15 +45,15 @@ fn word_of_two(spelling: &[u16]) -> Word
 fn word_of_three(spelling: &[u16]) -> Word
     ensures { result ≡ look_up W.Name (of_length 3 reserved_words) spelling.now }
 {
-    if same(spelling, b"for") {
+    if is_ascii(spelling, b"for") {
         Word::For
-    } else if same(spelling, b"new") {
+    } else if is_ascii(spelling, b"new") {
         Word::New
-    } else if same(spelling, b"try") {
+    } else if is_ascii(spelling, b"try") {
         Word::Try
-    } else if same(spelling, b"var") {
+    } else if is_ascii(spelling, b"var") {
         Word::Var
-    } else if same(spelling, b"let") {
+    } else if is_ascii(spelling, b"let") {
         Word::Unused
     } else {
         Word::Name
@@ -66,19 +65,19 @@ fn word_of_three(spelling: &[u16]) -> Word
 fn word_of_four(spelling: &[u16]) -> Word
     ensures { result ≡ look_up W.Name (of_length 4 reserved_words) spelling.now }
 {
-    if same(spelling, b"case") {
+    if is_ascii(spelling, b"case") {
         Word::Case
-    } else if same(spelling, b"else") {
+    } else if is_ascii(spelling, b"else") {
         Word::Else
-    } else if same(spelling, b"null") {
+    } else if is_ascii(spelling, b"null") {
         Word::Null
-    } else if same(spelling, b"this") {
+    } else if is_ascii(spelling, b"this") {
         Word::This
-    } else if same(spelling, b"true") {
+    } else if is_ascii(spelling, b"true") {
         Word::True
-    } else if same(spelling, b"void") {
+    } else if is_ascii(spelling, b"void") {
         Word::Prefix(UnaryOperator::Void)
-    } else if same(spelling, b"enum") || same(spelling, b"with") {
+    } else if is_ascii(spelling, b"enum") || is_ascii(spelling, b"with") {
         Word::Unused
     } else {
         Word::Name
@@ -90,20 +89,20 @@ fn word_of_four(spelling: &[u16]) -> Word
 fn word_of_five(spelling: &[u16]) -> Word
     ensures { result ≡ look_up W.Name (of_length 5 reserved_words) spelling.now }
 {
-    if same(spelling, b"break") {
+    if is_ascii(spelling, b"break") {
         Word::Break
-    } else if same(spelling, b"catch") {
+    } else if is_ascii(spelling, b"catch") {
         Word::Catch
-    } else if same(spelling, b"false") {
+    } else if is_ascii(spelling, b"false") {
         Word::False
-    } else if same(spelling, b"throw") {
+    } else if is_ascii(spelling, b"throw") {
         Word::Throw
-    } else if same(spelling, b"while") {
+    } else if is_ascii(spelling, b"while") {
         Word::While
-    } else if same(spelling, b"class")
-        || same(spelling, b"const")
-        || same(spelling, b"super")
-        || same(spelling, b"yield")
+    } else if is_ascii(spelling, b"class")
+        || is_ascii(spelling, b"const")
+        || is_ascii(spelling, b"super")
+        || is_ascii(spelling, b"yield")
     {
         Word::Unused
     } else {
@@ -116,18 +115,18 @@ fn word_of_five(spelling: &[u16]) -> Word
 fn word_of_six(spelling: &[u16]) -> Word
     ensures { result ≡ look_up W.Name (of_length 6 reserved_words) spelling.now }
 {
-    if same(spelling, b"delete") {
+    if is_ascii(spelling, b"delete") {
         Word::Prefix(UnaryOperator::Delete)
-    } else if same(spelling, b"return") {
+    } else if is_ascii(spelling, b"return") {
         Word::Return
-    } else if same(spelling, b"switch") {
+    } else if is_ascii(spelling, b"switch") {
         Word::Switch
-    } else if same(spelling, b"typeof") {
+    } else if is_ascii(spelling, b"typeof") {
         Word::Prefix(UnaryOperator::TypeOf)
-    } else if same(spelling, b"export")
-        || same(spelling, b"import")
-        || same(spelling, b"public")
-        || same(spelling, b"static")
+    } else if is_ascii(spelling, b"export")
+        || is_ascii(spelling, b"import")
+        || is_ascii(spelling, b"public")
+        || is_ascii(spelling, b"static")
     {
         Word::Unused
     } else {
@@ -140,13 +139,13 @@ fn word_of_six(spelling: &[u16]) -> Word
 fn word_of_seven(spelling: &[u16]) -> Word
     ensures { result ≡ look_up W.Name (of_length 7 reserved_words) spelling.now }
 {
-    if same(spelling, b"default") {
+    if is_ascii(spelling, b"default") {
         Word::Default
-    } else if same(spelling, b"finally") {
+    } else if is_ascii(spelling, b"finally") {
         Word::Finally
-    } else if same(spelling, b"extends")
-        || same(spelling, b"package")
-        || same(spelling, b"private")
+    } else if is_ascii(spelling, b"extends")
+        || is_ascii(spelling, b"package")
+        || is_ascii(spelling, b"private")
     {
         Word::Unused
     } else {
@@ -159,11 +158,11 @@ fn word_of_seven(spelling: &[u16]) -> Word
 fn word_of_eight(spelling: &[u16]) -> Word
     ensures { result ≡ look_up W.Name (of_length 8 reserved_words) spelling.now }
 {
-    if same(spelling, b"continue") {
+    if is_ascii(spelling, b"continue") {
         Word::Continue
-    } else if same(spelling, b"function") {
+    } else if is_ascii(spelling, b"function") {
         Word::Function
-    } else if same(spelling, b"debugger") {
+    } else if is_ascii(spelling, b"debugger") {
         Word::Unused
     } else {
         Word::Name
@@ -175,7 +174,7 @@ fn word_of_eight(spelling: &[u16]) -> Word
 fn word_of_nine(spelling: &[u16]) -> Word
     ensures { result ≡ look_up W.Name (of_length 9 reserved_words) spelling.now }
 {
-    if same(spelling, b"interface") || same(spelling, b"protected") {
+    if is_ascii(spelling, b"interface") || is_ascii(spelling, b"protected") {
         Word::Unused
     } else {
         Word::Name
@@ -187,25 +186,11 @@ fn word_of_nine(spelling: &[u16]) -> Word
 fn word_of_ten(spelling: &[u16]) -> Word
     ensures { result ≡ look_up W.Name (of_length 10 reserved_words) spelling.now }
 {
-    if same(spelling, b"instanceof") {
+    if is_ascii(spelling, b"instanceof") {
         Word::Infix(BinaryOperator::InstanceOf)
-    } else if same(spelling, b"implements") {
+    } else if is_ascii(spelling, b"implements") {
         Word::Unused
     } else {
         Word::Name
     }
-}
-
-/// Whether the units are those of an ASCII text.
-fn same(units: &[u16], ascii: &[u8]) -> bool
-    ensures { result ≡ bytes_eq units.now ascii.now }
-{
-    let mut rest = units;
-    for byte in ascii {
-        match rest {
-            [unit, after @ ..] if *unit == u16::from(*byte) => rest = after,
-            _ => return false,
-        }
-    }
-    rest.is_empty()
 }
