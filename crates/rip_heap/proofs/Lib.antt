@@ -4,5 +4,6 @@ pub mod FindLemmas
 pub mod FixedLemmas
 pub mod IndexLemmas
 pub mod LookUpLemmas
+pub mod NameIndexLemmas
 pub mod PutLemmas
 pub mod ScopeRowLemmas

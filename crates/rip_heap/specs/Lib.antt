@@ -8,6 +8,7 @@ pub mod Keys
 pub mod Laws
 pub mod Lending
 pub mod Marks
+pub mod NameIndex
 pub mod Names
 pub mod Objects
 pub mod Outcome

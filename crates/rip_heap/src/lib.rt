@@ -43,6 +43,8 @@ mod keys;
 mod laws;
 mod limits;
 mod mark;
+mod name_index;
+mod name_indexes;
 mod names;
 mod objects;
 mod outcome;
