@@ -1,22 +1,27 @@
 -- What an index of names keeps when texts, values and names are added, and what a walk along one of its buckets finds.
-use Rattle.std.proofs.Common.{◌≡◌, ◌≢◌, ℕ, zero, suc, ◌+◌, ◌-◌, ◌<◌, ◌≤◌, Bool, true, false, cond, ◌⊎◌, inl, inr, List, [], ◌∷◌, ◌++◌, length, Option, None, Some, refl, sym, ap, ◌∙◌, subst, arith, nat_lt, replicate, take}
-use Rattle.std.specs.Prelude.{slice_index, slice_index_or, slice_set}
+use Rattle.std.proofs.Common.{◌≡◌, ◌≢◌, ℕ, zero, suc, ◌+◌, ◌-◌, ◌<◌, ◌≤◌, Bool, true, false, cond, ◌⊎◌, inl, inr, List, [], ◌∷◌, ◌++◌, length, Option, None, Some, Result, Ok, Err, OnOk, OnErr, refl, sym, ap, ◌∙◌, subst, arith, nat_lt, replicate, take}
+use Rattle.std.specs.Prelude.{remove, slice_get, slice_index, slice_index_or, slice_set}
 use Rattle.std.specs.List.{position_or_len}
 use lib.Pointwise.{bytes_decides}
 use Rattle.std.proofs.lemmas.Bool.{cases_Bool, cases_eq, cases_lt, cases_order}
 use Rattle.std.proofs.lemmas.Bool.Decides.{nat_tests}
 use Rattle.std.proofs.lemmas.List.Sums.{position_or_len_is}
-use Rattle.std.proofs.lemmas.List.{get_or-replicate, get_or-set_other, get_or-set_same, get_or_append_left, get_or_at, get_or_past, length-append, length-replicate, length-set, take_all, take_more}
+use Rattle.std.proofs.lemmas.List.Edits.{get_or-remove_above, get_or-remove_below, length-remove}
+use Rattle.std.proofs.lemmas.List.{get_or-replicate, get_or-set_other, get_or-set_same, get_or_append_left, get_or_at, get_or_default, get_or_past, length-append, length-replicate, length-set, take-append-le, take_all, take_more}
+use Rattle.std.proofs.lemmas.Option.{slice_get-get_or}
 use Rattle.rip_values.specs.declared.value.Span.{Span}
 use Rattle.rip_values.specs.declared.value.Value.{Value}
 use Rattle.rip_values.specs.declared.value.Value.TheVariants.{Undefined}
 use Rattle.rip_values.specs.Pool.{Texts, IsSpan, KeepsTexts, text_at}
 use Rattle.rip_heap.specs.declared.name_index.NameIndex.{NameIndex}
 use Rattle.rip_heap.specs.declared.property.Property.{Property}
-use Rattle.rip_heap.specs.NameIndex.{bucket_of, bucket_at, index_at, name_at, AreIndexes, IsIndex, IsIndexOf, IsLast}
+use Rattle.rip_heap.specs.NameIndex.{bucket_of, bucket_at, index_at, name_at, AreIndexes, IsIndex, IsIndexOf, IsLast, shifted}
+use Rattle.rip_heap.specs.Growth.{KeepsObject}
+use Rattle.rip_heap.specs.NamedObjects.{KeepObjects, Named, edited, with_edit}
 use Rattle.rip_heap.specs.Names.{same_text, place_of}
 use Rattle.rip_heap.specs.Objects.{with_value}
 use Rattle.rip_heap.specs.World.{Object}
+use Rattle.rip_heap.proofs.ScopeRowLemmas.{part-length}
 
 -- WHAT STAYS
 
@@ -159,6 +164,137 @@ index_added p ps x buckets before buckets' before' b h lies is-bucket within is-
       links = λ i lt. subst (λ n. IsLast (bucket_at p n (ps ++ x ∷ [])) (bucket_at p n (ps ++ x ∷ []) i) i (slice_index (before ++ slice_index buckets b ∷ []) i)) (sym (length-set buckets b (m + 1)))
           (link i (by-place i (omega (arith, lt, size))));
     }
+
+-- WHAT IS TAKEN AWAY
+
+shifted-low : (gone link v : ℕ) → v < gone → shifted gone link v ≡ v
+shifted-low gone link v lt =
+    let test : nat_lt v gone ≡ true = grind (arith, nat_tests) in
+    ap (λ b. cond b v (cond (nat_lt gone v) (v - 1) link)) test
+
+shifted-here : (gone link v : ℕ) → v ≡ gone → shifted gone link v ≡ link
+shifted-here gone link v is =
+    let low : nat_lt v gone ≡ false = grind (arith, nat_tests) in
+    let high : nat_lt gone v ≡ false = grind (arith, nat_tests) in
+    ap (λ b. cond b v (cond (nat_lt gone v) (v - 1) link)) low ∙ ap (λ b. cond b (v - 1) link) high
+
+shifted-high : (gone link v : ℕ) → gone < v → shifted gone link v ≡ v - 1
+shifted-high gone link v lt =
+    let low : nat_lt v gone ≡ false = grind (arith, nat_tests) in
+    let high : nat_lt gone v ≡ true = grind (arith, nat_tests) in
+    ap (λ b. cond b v (cond (nat_lt gone v) (v - 1) link)) low ∙ ap (λ b. cond b (v - 1) link) high
+
+-- of the places before the one that is gone
+IsLast-below : (f g : ℕ → ℕ) (place b to v link : ℕ) → ((k : ℕ) → k < place → g k ≡ f k) → to ≤ place → IsLast f b to v → IsLast g b to (shifted (place + 1) link v)
+IsLast-below f g place b to v link below le h =
+    IsLast-like f g b b to v (shifted (place + 1) link v) refl (shifted-low (place + 1) link v (omega (arith, h.within, le))) (λ k lt. below k (omega (arith, lt, le))) h
+
+-- of places behind it too
+IsLast-above : (f g : ℕ → ℕ) (place b to v link : ℕ) → ((k : ℕ) → k < place → g k ≡ f k) → ((k : ℕ) → place ≤ k → g k ≡ f (k + 1)) → place < to
+    → IsLast f (f place) place link → IsLast f b to v → IsLast g b (to - 1) (shifted (place + 1) link v)
+IsLast-above f g place b to v link below above lt l h = by (cases_order v (place + 1))
+  where
+    behind : (k : ℕ) → place ≤ k → v ≤ k + 1 → k < to - 1 → g k ≢ b
+    behind k le low high = λ is. h.apart (k + 1) low (omega (arith, high)) (sym (above k le) ∙ is)
+
+    by : (v ≡ place + 1) ⊎ ((v < place + 1) ⊎ (place + 1 < v)) → IsLast g b (to - 1) (shifted (place + 1) link v)
+    by (inl is) =
+        let place-is : v - 1 ≡ place = omega (arith, is) in
+        let bucket : f place ≡ b = ap f (sym place-is) ∙ h.last (omega (arith, is)) in
+        subst (IsLast g b (to - 1)) (sym (shifted-here (place + 1) link v is)) (record {
+          within = omega (arith, l.within, lt);
+          apart = λ k low high. apart bucket k low high (cases_lt k place);
+          last = λ some. below (link - 1) (omega (arith, l.within, some)) ∙ l.last some ∙ bucket;
+        })
+      where
+        apart : f place ≡ b → (k : ℕ) → link ≤ k → k < to - 1 → (k < place) ⊎ (place ≤ k) → g k ≢ b
+        apart bucket k low high (inl less) = λ same. l.apart k low less (sym (below k less) ∙ same ∙ sym bucket)
+        apart bucket k low high (inr le) = behind k le (omega (arith, is, le)) high
+    by (inr (inl less)) =
+        subst (IsLast g b (to - 1)) (sym (shifted-low (place + 1) link v less)) (record {
+          within = omega (arith, less, lt);
+          apart = λ k low high. apart k low high (cases_lt k place);
+          last = λ some. below (v - 1) (omega (arith, less, some)) ∙ h.last some;
+        })
+      where
+        apart : (k : ℕ) → v ≤ k → k < to - 1 → (k < place) ⊎ (place ≤ k) → g k ≢ b
+        apart k low high (inl lower) = λ same. h.apart k low (omega (arith, high)) (sym (below k lower) ∙ same)
+        apart k low high (inr le) = behind k le (omega (arith, low)) high
+    by (inr (inr more)) =
+        let one : v - 1 - 1 + 1 ≡ v - 1 = omega (arith, more) in
+        subst (IsLast g b (to - 1)) (sym (shifted-high (place + 1) link v more)) (record {
+          within = omega (arith, h.within);
+          apart = λ k low high. behind k (omega (arith, more, low)) (omega (arith, low)) high;
+          last = λ some. above (v - 1 - 1) (omega (arith, more)) ∙ ap f one ∙ h.last (omega (arith, more));
+        })
+
+-- one property less, behind which each place is one less
+pub index_removed : (p : Texts) (ps : List Property) (buckets before buckets' before' : List ℕ) (place : ℕ) → IsIndex p ps buckets before → place < length ps
+    → length buckets' ≡ length buckets → ((k : ℕ) → k < length buckets → slice_index buckets' k ≡ shifted (place + 1) (slice_index before place) (slice_index buckets k))
+    → length before' ≡ length (remove before place)
+    → ((k : ℕ) → k < length (remove before place) → slice_index before' k ≡ shifted (place + 1) (slice_index before place) (slice_index (remove before place) k))
+    → IsIndex p (remove ps place) buckets' before'
+index_removed p ps buckets before buckets' before' place h within size each size' each' = record {
+  some = omega (arith, h.some, size);
+  spans = λ k lt. span k (omega (arith, lt, less)) (cases_lt k place);
+  all = omega (arith, size', less', less, h.all);
+  heads = λ b lt.
+      let low : b < length buckets = omega (arith, lt, size) in
+      subst (λ n. IsLast (bucket_at p n (remove ps place)) b (length (remove ps place)) (slice_index buckets' b)) (sym size)
+      (subst (IsLast g b (length (remove ps place))) (sym (each b low)) (subst (λ n. IsLast g b n (shifted (place + 1) link (slice_index buckets b))) end
+      (IsLast-above f g place b (length ps) (slice_index buckets b) link below above within last (h.heads b low))));
+  links = λ i lt.
+      subst (λ n. IsLast (bucket_at p n (remove ps place)) (bucket_at p n (remove ps place) i) i (slice_index before' i)) (sym size)
+      (subst (IsLast g (g i) i) (sym (each' i (omega (arith, lt, less, less', h.all)))) (linked i (omega (arith, lt, less)) (cases_lt i place)));
+}
+  where
+    none : Property
+    none = record { name = record { start = 0; count = 0 }; value = Undefined }
+
+    link : ℕ
+    link = slice_index before place
+
+    f : ℕ → ℕ
+    f = bucket_at p (length buckets) ps
+
+    g : ℕ → ℕ
+    g = bucket_at p (length buckets) (remove ps place)
+
+    less : length (remove ps place) + 1 ≡ length ps
+    less = length-remove ps place within
+
+    less' : length (remove before place) + 1 ≡ length before
+    less' = length-remove before place (omega (arith, within, h.all))
+
+    end : length ps - 1 ≡ length (remove ps place)
+    end = omega (arith, less)
+
+    below : (k : ℕ) → k < place → g k ≡ f k
+    below k lt = ap (λ y. bucket_of (length buckets) (text_at p y.name)) (get_or-remove_below ps place none k lt within)
+
+    above : (k : ℕ) → place ≤ k → g k ≡ f (k + 1)
+    above k le = ap (λ y. bucket_of (length buckets) (text_at p y.name)) (get_or-remove_above ps place none k le within)
+
+    last : IsLast f (f place) place link
+    last = h.links place within
+
+    span : (k : ℕ) → k + 1 < length ps → (k < place) ⊎ (place ≤ k) → IsSpan p (name_at (remove ps place) k)
+    span k lt (inl low) = subst (λ y. IsSpan p y.name) (sym (get_or-remove_below ps place none k low within)) (h.spans k (omega (arith, lt)))
+    span k lt (inr le) = subst (λ y. IsSpan p y.name) (sym (get_or-remove_above ps place none k le within)) (h.spans (k + 1) lt)
+
+    linked : (i : ℕ) → i + 1 < length ps → (i < place) ⊎ (place ≤ i) → IsLast g (g i) i (shifted (place + 1) link (slice_index (remove before place) i))
+    linked i lt (inl low) =
+        let there : slice_index (remove before place) i ≡ slice_index before i = get_or-remove_below before place 0 i low (omega (arith, within, h.all)) in
+        subst (λ n. IsLast g (g i) i (shifted (place + 1) link n)) (sym there)
+        (subst (λ b. IsLast g b i (shifted (place + 1) link (slice_index before i))) (sym (below i low))
+        (IsLast-below f g place (f i) i (slice_index before i) link below (omega (arith, low)) (h.links i (omega (arith, lt)))))
+    linked i lt (inr le) =
+        let there : slice_index (remove before place) i ≡ slice_index before (i + 1) = get_or-remove_above before place 0 i le (omega (arith, within, h.all)) in
+        let one : i + 1 - 1 ≡ i = omega arith in
+        subst (λ n. IsLast g (g i) i (shifted (place + 1) link n)) (sym there)
+        (subst (λ b. IsLast g b i (shifted (place + 1) link (slice_index before (i + 1)))) (sym (above i le))
+        (subst (λ n. IsLast g (f (i + 1)) n (shifted (place + 1) link (slice_index before (i + 1)))) one
+        (IsLast-above f g place (f (i + 1)) (i + 1) (slice_index before (i + 1)) link below above (omega (arith, le)) last (h.links (i + 1) lt))))
 
 -- A WALK ALONG A BUCKET
 
@@ -338,17 +474,115 @@ indexes_pushed pool objects objects' more rows h is =
       each = λ i d lt. subst (λ x. IsIndexOf pool x.properties (index_at rows i)) (sym (get_or_append_left objects more d i (omega (arith, lt, h.fewer)))) (h.each i d lt);
     })
 
+cut_shorter : {X : Type 0} (k : ℕ) (xs : List X) → length (take k xs) ≤ length xs
+cut_shorter zero xs = omega arith
+cut_shorter (suc k) [] = omega arith
+cut_shorter (suc k) (x ∷ xs) = omega (arith, cut_shorter k xs)
+
+-- where each text stands there are no fewer units
+kept_longer : (p q : Texts) → KeepsTexts p q → length p.units ≤ length q.units
+kept_longer p q keeps =
+    let whole : Span = record { start = 0; count = length p.units } in
+    let same : length (text_at q whole) ≡ length (text_at p whole) = ap length (keeps whole (omega arith)) in
+    let here : length (text_at p whole) ≡ length p.units = part-length p.units 0 (length p.units) (omega arith) in
+    let there : length (text_at q whole) ≤ length q.units = cut_shorter (0 + length p.units - 0) q.units in
+    omega (arith, same, here, there)
+
 -- texts are only added
-pub indexes_grown : (p q : Texts) (objects : List Object) (rows : List (Option NameIndex)) → AreIndexes p objects rows → KeepsTexts p q → length p.units ≤ length q.units → AreIndexes q objects rows
-indexes_grown p q objects rows h keeps longer = record {
+pub indexes_kept : (p q : Texts) (objects : List Object) (rows : List (Option NameIndex)) → AreIndexes p objects rows → KeepsTexts p q → AreIndexes q objects rows
+indexes_kept p q objects rows h keeps = record {
   fewer = h.fewer;
   each = λ i d lt. by (slice_index_or objects i d).properties (index_at rows i) (h.each i d lt);
 }
   where
     by : (ps : List Property) (index : Option NameIndex) → IsIndexOf p ps index → IsIndexOf q ps index
     by ps None _ = tt
-    by ps (Some index) ih = index_grows p q ps index.buckets.items index.before.items keeps longer ih
+    by ps (Some index) ih = index_grows p q ps index.buckets.items index.before.items keeps (kept_longer p q keeps) ih
 
 -- no indexes are those of any objects
 pub indexes_none : (p : Texts) (objects : List Object) (rows : List (Option NameIndex)) → rows ≡ [] → AreIndexes p objects rows
 indexes_none p objects rows none = subst (AreIndexes p objects) (sym none) (record { fewer = omega arith; each = λ i d lt. absurd (omega (arith, lt)) })
+
+-- the same where a call may have put them there, and did where it is Ok
+pub indexes_pushed_or_not : {E : Type 0} (pool : Texts) (objects : List Object) (rows : List (Option NameIndex)) (objects' more : List Object) (result : Result (Unit {0}) E)
+    → AreIndexes pool objects rows → OnOk result (objects' ≡ objects ++ more) → OnErr result (objects' ≡ objects) → AreIndexes pool objects' rows
+indexes_pushed_or_not pool objects rows objects' more (Ok done) h ok err = indexes_pushed pool objects objects' more rows h ok
+indexes_pushed_or_not pool objects rows objects' more (Err e) h ok err = subst (λ xs. AreIndexes pool xs rows) (sym err) h
+
+-- WHAT AN EDIT OF ONE OBJECT KEEPS, which stands at a place of the whole
+
+pub beside : (pool : Texts) (objects : List Object) (rows : List (Option NameIndex)) (at : ℕ) (o o' : Object) → AreIndexes pool objects rows → at < length objects
+    → o ≡ slice_index_or objects at o → o'.properties ≡ o.properties → AreIndexes pool (slice_set objects at o') rows
+beside pool objects rows at o o' h within is same = indexes_beside pool objects (slice_set objects at o') rows at o' o h within refl (same ∙ ap (λ x. x.properties) is)
+
+pub valued : (pool : Texts) (objects : List Object) (rows : List (Option NameIndex)) (at place : ℕ) (v : Value) (o o' : Object) → AreIndexes pool objects rows → at < length objects
+    → o ≡ slice_index_or objects at o → o'.properties ≡ with_value o.properties place v → AreIndexes pool (slice_set objects at o') rows
+valued pool objects rows at place v o o' h within is same =
+    indexes_valued pool objects (slice_set objects at o') rows at place v o' o h within refl (same ∙ ap (λ x. with_value x.properties place v) is)
+
+-- the index of one object, and of no other, is made anew
+pub renewed : (pool : Texts) (objects : List Object) (rows rows' : List (Option NameIndex)) (at : ℕ) (o : Object) → AreIndexes pool objects rows → at < length objects
+    → IsIndexOf pool o.properties (index_at rows' at) → ((i : ℕ) → i ≢ at → index_at rows' i ≡ index_at rows i) → ((n : ℕ) → length rows ≤ n → at < n → length rows' ≤ n)
+    → AreIndexes pool (slice_set objects at o) rows'
+renewed pool objects rows rows' at o h within index others fewer = indexes_changed pool objects (slice_set objects at o) rows rows' at o h within refl index others fewer
+
+pub without : (pool : Texts) (objects : List Object) (rows rows' : List (Option NameIndex)) (at : ℕ) (o : Object) → AreIndexes pool objects rows → at < length objects
+    → rows' ≡ slice_set rows at None → AreIndexes pool (slice_set objects at o) rows'
+without pool objects rows rows' at o h within gone = indexes_without pool objects (slice_set objects at o) rows rows' at o h within refl gone
+
+-- an index, of the properties of the object at this place
+pub index_of_found : (pool : Texts) (objects : List Object) (rows : List (Option NameIndex)) (at : ℕ) (o : Object) (index : NameIndex) (ps : List Property) → AreIndexes pool objects rows
+    → o ≡ slice_index_or objects at o → index_at rows at ≡ Some index → ps ≡ o.properties → IsIndex pool ps index.buckets.items index.before.items
+index_of_found pool objects rows at o index ps h is kept same =
+    subst (λ r. IsIndexOf pool ps r) kept (subst (λ xs. IsIndexOf pool xs (index_at rows at)) (sym (same ∙ ap (λ x. x.properties) is)) (index_of_row pool objects rows at o h))
+
+pub index_same : (pool : Texts) (ps qs : List Property) (index : Option NameIndex) → ps ≡ qs → IsIndexOf pool ps index → IsIndexOf pool qs index
+index_same pool ps qs index same h = subst (λ xs. IsIndexOf pool xs index) same h
+
+-- an index, of the properties before the last
+pub index_before : (pool : Texts) (objects : List Object) (rows : List (Option NameIndex)) (at : ℕ) (o : Object) (x : Property) (ps : List Property) → AreIndexes pool objects rows
+    → o ≡ slice_index_or objects at o → ps ≡ o.properties ++ x ∷ [] → IsIndexOf pool (take (length ps - 1) ps) (index_at rows at)
+index_before pool objects rows at o x ps h is more =
+    let size : length ps ≡ length o.properties + 1 = ap length more ∙ length-append o.properties (x ∷ []) in
+    let count : length ps - 1 ≡ length o.properties = omega (arith, size) in
+    let front : take (length ps - 1) ps ≡ o.properties =
+    ap (λ n. take n ps) count ∙ ap (take (length o.properties)) more ∙ take-append-le (length o.properties) o.properties (x ∷ []) (omega arith) ∙ take_all (length o.properties) o.properties (omega arith) in
+    index_same pool _ _ (index_at rows at) (sym front) (index_same pool _ _ (index_at rows at) (ap (λ y. y.properties) (sym is)) (index_of_row pool objects rows at o h))
+
+-- an object stands at a place of the whole
+pub stands_within : (n : Named) (pool : Texts) (objects : List Object) (at : ℕ) → record { pool = pool; objects = objects } ≡ n → at < length n.objects → at < length objects
+stands_within n pool objects at whole within = subst (λ xs. at < length xs) (sym (ap (λ m. m.objects) whole)) within
+
+pub object_stands : (n : Named) (pool : Texts) (objects : List Object) (at : ℕ) (o : Object) → record { pool = pool; objects = objects } ≡ n → at < length objects
+    → o ≡ slice_index_or objects at o → slice_get n.objects at ≡ Some o
+object_stands n pool objects at o whole within is =
+    sym (ap (λ m. slice_get m.objects at) whole) ∙ slice_get-get_or objects at o within ∙ sym (ap (λ x. Some x) is)
+
+-- the whole with an edited object in the place of the one there
+pub edit_stands : (n : Named) (pool : Texts) (objects : List Object) (at : ℕ) (edit : Object → Object) (o o' : Object) → record { pool = pool; objects = objects } ≡ n → at < length objects
+    → o ≡ slice_index_or objects at o → o' ≡ edit o → record { pool = pool; objects = slice_set objects at o' } ≡ with_edit n at edit
+edit_stands n pool objects at edit o o' whole within is edited-is =
+    let there : slice_get objects at ≡ Some o = slice_get-get_or objects at o within ∙ sym (ap (λ x. Some x) is) in
+    let step : slice_set objects at o' ≡ edited objects at edit (slice_get objects at) = ap (slice_set objects at) edited-is ∙ sym (ap (edited objects at edit) there) in
+    ap (λ xs. put pool xs) step ∙ ap (λ m. with_edit m at edit) whole
+  where
+    put : Texts → List Object → Named
+    put p xs = record { pool = p; objects = xs }
+
+-- an edit that keeps what never changes in the one object
+pub edit_keeps : (n : Named) (pool : Texts) (objects : List Object) (at : ℕ) (o o' : Object) → record { pool = pool; objects = objects } ≡ n → at < length objects
+    → o ≡ slice_index_or objects at o → KeepsObject o o' → KeepObjects n.objects (slice_set objects at o')
+edit_keeps n pool objects at o o' whole within is keeps = subst (λ m. KeepObjects m.objects (slice_set objects at o')) whole (record {
+  made = omega (arith, length-set objects at o');
+  objects = λ i d lt. by i d (cases_eq i at);
+})
+  where
+    by : (i : ℕ) (d : Object) → (i ≡ at) ⊎ (i ≢ at) → KeepsObject (slice_index_or objects i d) (slice_index_or (slice_set objects at o') i d)
+    by i d (inl here) =
+        let old : slice_index_or objects i d ≡ o = ap (λ k. slice_index_or objects k d) here ∙ default d ∙ sym is in
+        let new : slice_index_or (slice_set objects at o') i d ≡ o' = ap (λ k. slice_index_or (slice_set objects at o') k d) here ∙ get_or-set_same objects at o' d within in
+        subst (λ x. KeepsObject x (slice_index_or (slice_set objects at o') i d)) (sym old) (subst (KeepsObject o) (sym new) keeps)
+      where
+        default : (e : Object) → slice_index_or objects at e ≡ slice_index_or objects at o
+        default e = get_or_default objects at e o within
+    by i d (inr other) = subst (KeepsObject (slice_index_or objects i d)) (sym (get_or-set_other objects at i o' d other)) (refl, refl, refl)

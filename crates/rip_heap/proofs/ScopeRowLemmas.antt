@@ -12,7 +12,7 @@ use Rattle.rip_heap.specs.World.{Scope}
 
 -- PARTS OF A ROW
 
-part-length : {X : Type 0} (row : List X) (at n : ℕ) → at + n ≤ length row → length (slice_range row at (at + n)) ≡ n
+pub part-length : {X : Type 0} (row : List X) (at n : ℕ) → at + n ≤ length row → length (slice_range row at (at + n)) ≡ n
 part-length row at n h =
     let size : at + n - at ≡ n = omega arith in
     length-take-le (at + n - at) (drop at row) (omega (arith, length-drop at row)) ∙ size

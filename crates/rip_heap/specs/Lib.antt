@@ -7,8 +7,10 @@ pub mod Host
 pub mod Keys
 pub mod Laws
 pub mod Lending
+pub mod LendingNamed
 pub mod Marks
 pub mod NameIndex
+pub mod NamedObjects
 pub mod Names
 pub mod Objects
 pub mod Outcome

@@ -1,6 +1,6 @@
 -- How a heap finds the properties of an object by name: those whose names fall into one bucket hang together. No public
 -- clause cites this.
-use Rattle.std.specs.Prelude.{◌≡◌, ◌≢◌, ℕ, Option, None, Some, List, ◌+◌, ◌-◌, ◌*◌, ◌%◌, ◌^◌, ◌<◌, ◌≤◌, fold, length, slice_index, slice_index_or}
+use Rattle.std.specs.Prelude.{◌≡◌, ◌≢◌, ℕ, Option, None, Some, List, ◌+◌, ◌-◌, ◌*◌, ◌%◌, ◌^◌, ◌<◌, ◌≤◌, fold, if◌then◌else◌, length, nat_lt, slice_index, slice_index_or}
 use Rattle.rip_values.specs.declared.value.Span.{Span}
 use Rattle.rip_values.specs.declared.value.Value.TheVariants.{Undefined}
 use Rattle.rip_values.specs.Pool.{Texts, IsSpan, text_at}
@@ -15,6 +15,11 @@ hash_more hash unit = (hash * 31 % 2 ^ 32 + unit) % 2 ^ 32
 -- the bucket of a text, of so many
 unfoldable pub bucket_of : ℕ → List ℕ → ℕ
 bucket_of count text = fold hash_more 0 text % count
+
+-- where a place is left: those behind the one that is gone are one less, and the one before it in its bucket stands for
+-- it; `gone` and `link` are how many places there are up to and with each
+abbrev pub shifted : ℕ → ℕ → ℕ → ℕ
+shifted gone link v = if nat_lt v gone then v else if nat_lt gone v then v - 1 else link
 
 -- the name of the property at this place
 abbrev pub name_at : List Property → ℕ → Span

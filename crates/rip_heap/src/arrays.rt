@@ -6,7 +6,6 @@ ghost use Rattle.rip_heap.specs.Step.{Makes, Changes};
 ghost use Rattle.rip_heap.specs.World.{object_at, as_array, first_object, IsObject};
 
 use crate::heap::Heap;
-use crate::room::push;
 use crate::stored::StoredObject;
 use rip_values::{FIRST_HEAP_OBJECT, Limit, Refused, Value};
 use std::alloc::Global;
@@ -19,9 +18,9 @@ impl Heap {
         ensures grows { Grows self.old self.new }
     {
         self.room_for(items.len() + 1)?;
-        let number = FIRST_HEAP_OBJECT + self.objects.len() as u32;
+        let number = FIRST_HEAP_OBJECT + self.named.objects().len() as u32;
         let array = StoredObject::array(alloc, items)?;
-        push(&mut self.objects, array)?;
+        self.named.push(array)?;
         self.used += items.len() as u32 + 1;
         Ok(number)
     }
@@ -54,8 +53,7 @@ impl Heap {
         let Some(at) = self.place_of_array(array) else {
             return;
         };
-        let target = &mut self.objects[at];
-        target.set_element(place as usize, v);
+        self.named.set_element(at, place as usize, v);
     }
 
     /// Puts an element behind the others. What is no array of this heap stays as it is.
@@ -67,8 +65,7 @@ impl Heap {
             return Ok(());
         };
         self.room_for(1)?;
-        let target = &mut self.objects[at];
-        target.push_element(v)?;
+        self.named.push_element(at, v)?;
         self.used += 1;
         Ok(())
     }
@@ -82,8 +79,7 @@ impl Heap {
             return Ok(());
         };
         self.room_for(items.len())?;
-        let target = &mut self.objects[at];
-        target.push_elements(items)?;
+        self.named.push_elements(at, items)?;
         self.used += items.len() as u32;
         Ok(())
     }
@@ -104,8 +100,8 @@ impl Heap {
         let count = items.len();
         self.room_for(count + 1)?;
         let made = StoredObject::array(alloc, items)?;
-        let number = FIRST_HEAP_OBJECT + self.objects.len() as u32;
-        push(&mut self.objects, made)?;
+        let number = FIRST_HEAP_OBJECT + self.named.objects().len() as u32;
+        self.named.push(made)?;
         self.used += count as u32 + 1;
         Ok(number)
     }
@@ -131,8 +127,7 @@ impl Heap {
         ensures grows { Grows self.old self.new }
     {
         let at = self.place_of_array(array)?;
-        let target = &mut self.objects[at];
-        target.pop_element()
+        self.named.pop_element(at)
     }
 
     /// Takes the elements from this count on away. No cell is given back.
@@ -143,8 +138,7 @@ impl Heap {
         let Some(at) = self.place_of_array(array) else {
             return;
         };
-        let target = &mut self.objects[at];
-        target.cut_elements(count as usize);
+        self.named.cut_elements(at, count as usize);
     }
 
     // The array of that number.
@@ -167,7 +161,7 @@ impl Heap {
         ensures { MatchOption result (as_array (object_at self.now number) ≡ None) (λ i. (number ≡ first_object + i) × (i < length self.now.objects) × (slice_get self.now.objects i ≡ as_array (object_at self.now number))) }
     {
         let place = self.place_of_object(number)?;
-        let found = &self.objects[place];
+        let found = &self.named.objects()[place];
         if found.class.is_array() {
             Some(place)
         } else {

@@ -9,9 +9,8 @@ use crate::class::Class;
 use crate::convert::to_text;
 use crate::heap::Heap;
 use crate::outcome::Abrupt;
-use crate::room::push;
 use crate::stored::StoredObject;
-use rip_values::{FIRST_HEAP_OBJECT, Fault, FixedText, Limit, Span, Value, Whole, text_of_whole};
+use rip_values::{FIRST_HEAP_OBJECT, Fault, Limit, Span, Value, Whole, text_of_whole};
 use std::alloc::Global;
 
 /// Cells that an error with its message costs.
@@ -46,9 +45,9 @@ impl Heap {
         if self.free_cells() < COST_OF_ERROR {
             return Err(Abrupt::Limit(Limit::Cells));
         }
-        let number = FIRST_HEAP_OBJECT + self.objects.len() as u32;
+        let number = FIRST_HEAP_OBJECT + self.named.objects().len() as u32;
         let error = StoredObject::error(alloc, class, message)?;
-        push(&mut self.objects, error)?;
+        self.named.push(error)?;
         self.used += COST_OF_ERROR;
         Ok(Value::Object(number))
     }
@@ -65,21 +64,17 @@ impl Heap {
     {
         let mut room = [0; 17];
         let count = text_of_whole(number, &mut room);
-        if count > self.pool.text_limit() as usize {
+        if count > self.named.pool().text_limit() as usize {
             return Err(Abrupt::Fault(Fault::TextTooLong));
         }
         if self.free_cells() < COST_OF_ERROR {
             return Err(Abrupt::Limit(Limit::Cells));
         }
-        if count > self.pool.free() as usize {
+        if count > self.named.pool().free() as usize {
             return Err(Abrupt::Limit(Limit::Units));
         }
-        let number = FIRST_HEAP_OBJECT + self.objects.len() as u32;
-        let mut error = StoredObject::error(alloc, class, FixedText::Empty.span())?;
-        self.objects.reserve(1)?;
-        let text = self.pool.add(alloc, &room[..count]).unwrap();
-        error.set_value(0, Value::Text(text));
-        self.objects.push_reserved(error);
+        let number = FIRST_HEAP_OBJECT + self.named.objects().len() as u32;
+        self.named.push_error(alloc, class, &room[..count])?;
         self.used += COST_OF_ERROR;
         Ok(Value::Object(number))
     }

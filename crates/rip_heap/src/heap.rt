@@ -5,8 +5,8 @@ ghost use Rattle.rip_heap.specs.World.{empty_world, charging};
 ghost use Rattle.rip_heap.specs.Step.{Charges};
 
 use crate::limits::HeapLimits;
+use crate::named_objects::NamedObjects;
 use crate::scope_rows::ScopeRows;
-use crate::stored::StoredObject;
 use rip_values::{FIRST_HEAP_OBJECT, FIRST_NODE, Limit, NoMemory, Pool};
 use std::alloc::Global;
 use std::marker::Model;
@@ -17,8 +17,7 @@ use std::marker::Model;
 pub struct Heap {
     pub(crate) limit: u32,
     pub(crate) used: u32,
-    pub(crate) pool: Pool,
-    pub(crate) objects: Vec<StoredObject>,
+    pub(crate) named: NamedObjects,
     pub(crate) scopes: ScopeRows,
 }
 
@@ -31,12 +30,12 @@ impl Model for Heap {
     ghost view = { λ h. record {
       limit = h.limit;
       cells = h.used;
-      pool = h.pool;
-      objects = h.objects.items;
+      pool = h.named.pool;
+      objects = h.named.objects;
       scopes = h.scopes;
     } };
 
-    ghost invariant = { λ h. IsSound h.limit h.used h.objects.items h.scopes };
+    ghost invariant = { λ h. IsSound h.limit h.used h.named.objects h.scopes };
 }
 
 impl Heap {
@@ -51,8 +50,7 @@ impl Heap {
         Ok(Heap {
             limit: limits.cells,
             used: 0,
-            pool,
-            objects: Vec::new(alloc),
+            named: NamedObjects::new(alloc, pool),
             scopes: ScopeRows::new(alloc),
         })
     }
@@ -62,7 +60,7 @@ impl Heap {
         ensures count { result ≡ length self.now.objects }
         ensures older { HaveOlderProtos self.now.objects }
     {
-        self.objects.len() as u32
+        self.named.objects().len() as u32
     }
 
     /// How many scopes were made.

@@ -161,7 +161,7 @@ pub fn look_up(heap: &Heap, object: u32, name: Span) -> Found
 pub fn looked_up(heap: &Heap, object: u32, name: Span) -> LookedUp
     ensures { result ≡ looked_up heap.now object name }
 {
-    let _ = &heap.objects;
+    let _ = &heap.named;
     let mut at = Some(object);
     while let Some(number) = at {
         let Some(found) = heap.object(number) else {
@@ -170,7 +170,7 @@ pub fn looked_up(heap: &Heap, object: u32, name: Span) -> LookedUp
         if is_barred(heap, name, found.class) {
             return LookedUp::Barred;
         }
-        if let Some(value) = found.named(&heap.pool, name) {
+        if let Some(value) = heap.own(number, name) {
             return LookedUp::Value(value);
         }
         at = found.proto;

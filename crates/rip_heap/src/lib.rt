@@ -11,7 +11,7 @@
 //! | the charge of each step | `World.charging`, and the table `World.cost_of_object` and those behind it |
 //! | [`Heap::new_object`], [`Heap::new_of`], [`Heap::new_function`] | `Objects.new_object`, `Objects.new_of`, `Objects.new_function` |
 //! | [`Heap::own`], [`Heap::find`], [`Heap::own_at`] | `Objects.own`, `Objects.find`, `Objects.own_at` |
-//! | [`Heap::put`], [`Heap::remove`] | `Objects.put`, `Objects.removed` |
+//! | [`Heap::put`], [`Heap::remove`] | `Objects.put`, `Objects.removed`; the indexes beside them are private, by `NameIndex` |
 //! | arrays and scopes | `Arrays`, `Scopes` |
 //! | [`Heap::new_error`] | `Errors.new_error` |
 //! | [`Heap::concat`], [`same_text`] | `Texts.concat`, `Names.same_text` |
@@ -45,6 +45,7 @@ mod limits;
 mod mark;
 mod name_index;
 mod name_indexes;
+mod named_objects;
 mod names;
 mod objects;
 mod outcome;

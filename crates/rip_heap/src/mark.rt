@@ -24,9 +24,9 @@ impl Heap {
     {
         Mark {
             cells: self.used,
-            end: self.pool.end(),
-            used: self.pool.used(),
-            objects: self.objects.len() as u32,
+            end: self.named.pool().end(),
+            used: self.named.pool().used(),
+            objects: self.named.objects().len() as u32,
             scopes: self.scopes.len() as u32,
         }
     }
@@ -37,8 +37,8 @@ impl Heap {
         requires { CanBeCut mark self.old }
         ensures { self.new ≡ cut_world mark self.old }
     {
-        self.pool.cut_back(mark.end, mark.used);
-        self.objects.truncate(mark.objects as usize);
+        self.named
+            .cut_back(mark.end, mark.used, mark.objects as usize);
         self.scopes.truncate(mark.scopes as usize);
         self.used = mark.cells;
     }

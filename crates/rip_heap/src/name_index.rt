@@ -1,6 +1,6 @@
-ghost use Rattle.std.specs.Prelude.{◌≡◌, ◌<◌, ◌↔◌, ◌∷◌, ◌++◌, [], IfOk, IsTrue, OnOk, length};
+ghost use Rattle.std.specs.Prelude.{◌≡◌, ◌<◌, ◌↔◌, ◌+◌, ◌∷◌, ◌++◌, [], IfOk, IsTrue, OnOk, length, remove, slice_index, ℕ, ◌^◌};
 ghost use Rattle.rip_values.specs.Pool.{Texts, IsSpan};
-ghost use Rattle.rip_heap.specs.NameIndex.{bucket_of, IsIndex, IsIndexOf};
+ghost use Rattle.rip_heap.specs.NameIndex.{bucket_of, shifted, IsIndex, IsIndexOf};
 ghost use Rattle.rip_heap.specs.Names.{place_of};
 
 use crate::names::same_text;
@@ -76,6 +76,19 @@ impl NameIndex {
         Ok(())
     }
 
+    /// Drops the name of the property at this place of these. Those behind it are each a place lower.
+    #[tactic(auto, using(crate::proofs::NameIndexLemmas::index_removed))]
+    pub fn remove(&mut self, pool: &Pool, properties: &[Property], place: usize)
+        requires index { IsIndex pool.now properties.now self.old.buckets.items self.old.before.items }
+        requires within { place < length properties.now }
+        requires counted { place + 1 < 2 ^ 32 }
+        ensures { IsIndex pool.now (remove properties.now place) self.new.buckets.items self.new.before.items }
+    {
+        let link = self.before.remove(place);
+        shift(&mut self.buckets, place as u32 + 1, link);
+        shift(&mut self.before, place as u32 + 1, link);
+    }
+
     /// An index of the names of these properties, with twice as many buckets. There is none where
     /// one of the names does not lie in the pool, nor for want of memory.
     pub fn make(alloc: Global, pool: &Pool, properties: &[Property]) -> Option<NameIndex>
@@ -99,6 +112,29 @@ pub fn lies_in(pool: &Pool, span: Span) -> bool
     ensures { IsTrue result ↔ IsSpan pool.now span }
 {
     span.start as usize + span.count as usize <= pool.end() as usize
+}
+
+// Makes each number that of what is left when a place is gone: `gone` counts the places up to and with it, and `link`
+// those up to and with the one before it in its bucket.
+fn shift(numbers: &mut Vec<u32>, gone: u32, link: u32)
+    ensures count { length numbers.new.items ≡ length numbers.old.items }
+    ensures each { (k : ℕ) → k < length numbers.old.items → slice_index numbers.new.items k ≡ shifted gone link (slice_index numbers.old.items k) }
+{
+    for number in numbers.iter_mut() {
+        *number = shifted(*number, gone, link);
+    }
+}
+
+fn shifted(number: u32, gone: u32, link: u32) -> u32
+    ensures { result ≡ shifted gone link number }
+{
+    if number < gone {
+        number
+    } else if gone < number {
+        number - 1
+    } else {
+        link
+    }
 }
 
 // The bucket of a text, of so many.

@@ -1,9 +1,9 @@
-ghost use Rattle.std.specs.Prelude.{◌≡◌, ◌≢◌, ℕ, ◌+◌, ◌-◌, ◌<◌, ◌≤◌, ◌⊎◌, [], None, Some, MatchOption, OnOk, length, slice_set, take};
+ghost use Rattle.std.specs.Prelude.{◌≡◌, ◌≢◌, ℕ, ◌+◌, ◌-◌, ◌<◌, ◌≤◌, ◌⊎◌, [], None, Some, MatchOption, OnOk, length, remove, slice_set, take};
 ghost use Rattle.rip_heap.specs.NameIndex.{IsIndexOf, index_at};
 
 use crate::name_index::{NameIndex, lies_in};
 use crate::property::Property;
-use crate::room::{push, set};
+use crate::room::push;
 use rip_values::{NoMemory, Pool};
 use std::alloc::Global;
 
@@ -43,13 +43,6 @@ impl NameIndexes {
         self.rows.clear();
     }
 
-    /// Drops the index of the object at this place.
-    pub fn forget(&mut self, at: usize)
-        ensures { self.new.rows.items ≡ slice_set self.old.rows.items at None }
-    {
-        set(&mut self.rows, at, None);
-    }
-
     /// Takes up the last property of the object at this place, which is new. An index that cannot
     /// be had is no refusal.
     pub fn renew(&mut self, alloc: Global, pool: &Pool, at: usize, properties: &[Property])
@@ -61,6 +54,19 @@ impl NameIndexes {
     {
         let old = self.take(at);
         let new = renewed(alloc, pool, properties, old);
+        self.put(at, new);
+    }
+
+    /// Drops the name of one of these properties of the object at this place, which is taken away.
+    pub fn drop_name(&mut self, pool: &Pool, at: usize, properties: &[Property], place: usize)
+        requires index { IsIndexOf pool.now properties.now (index_at self.old.rows.items at) }
+        requires within { place < length properties.now }
+        ensures index { IsIndexOf pool.now (remove properties.now place) (index_at self.new.rows.items at) }
+        ensures others { (i : ℕ) → i ≢ at → index_at self.new.rows.items i ≡ index_at self.old.rows.items i }
+        ensures fewer { (n : ℕ) → length self.old.rows.items ≤ n → at < n → length self.new.rows.items ≤ n }
+    {
+        let old = self.take(at);
+        let new = without_name(pool, properties, place, old);
         self.put(at, new);
     }
 
@@ -126,6 +132,25 @@ fn renewed(
             NameIndex::make(alloc, pool, properties)
         },
     }
+}
+
+// The index of these properties but for one.
+fn without_name(
+    pool: &Pool,
+    properties: &[Property],
+    place: usize,
+    old: Option<NameIndex>,
+) -> Option<NameIndex>
+    requires index { IsIndexOf pool.now properties.now old }
+    requires within { place < length properties.now }
+    ensures { IsIndexOf pool.now (remove properties.now place) result }
+{
+    let mut index = old?;
+    if place >= u32::MAX as usize {
+        return None;
+    }
+    index.remove(pool, properties, place);
+    Some(index)
 }
 
 // The index with the last of these properties.

@@ -6,7 +6,6 @@ ghost use Rattle.rip_heap.specs.World.{object_at, IsObject, class_of, proto_of, 
 
 use crate::class::Class;
 use crate::heap::Heap;
-use crate::room::{push, push_two};
 use crate::stored::StoredObject;
 use rip_values::{FIRST_HEAP_OBJECT, Limit, Refused};
 use std::alloc::Global;
@@ -43,10 +42,10 @@ impl Heap {
         ensures grows { Grows self.old self.new }
     {
         self.room_for(COST_OF_FUNCTION as usize)?;
-        let prototype = FIRST_HEAP_OBJECT + self.objects.len() as u32;
+        let prototype = FIRST_HEAP_OBJECT + self.named.objects().len() as u32;
         let function = StoredObject::function(alloc, node, scope, prototype)?;
         let bare = StoredObject::bare(alloc, Class::Prototype, None);
-        push_two(&mut self.objects, bare, function)?;
+        self.named.push_two(bare, function)?;
         self.used += COST_OF_FUNCTION;
         Ok(prototype + 1)
     }
@@ -91,7 +90,9 @@ impl Heap {
         if number < FIRST_HEAP_OBJECT {
             return None;
         }
-        self.objects.get((number - FIRST_HEAP_OBJECT) as usize)
+        self.named
+            .objects()
+            .get((number - FIRST_HEAP_OBJECT) as usize)
     }
 
     // The place of the object of that number in the list of objects.
@@ -102,7 +103,7 @@ impl Heap {
             return None;
         }
         let place = (number - FIRST_HEAP_OBJECT) as usize;
-        if place < self.objects.len() {
+        if place < self.named.objects().len() {
             Some(place)
         } else {
             None
@@ -118,8 +119,8 @@ impl Heap {
         ensures grows { Grows self.old self.new }
     {
         self.room_for(1)?;
-        let number = FIRST_HEAP_OBJECT + self.objects.len() as u32;
-        push(&mut self.objects, object)?;
+        let number = FIRST_HEAP_OBJECT + self.named.objects().len() as u32;
+        self.named.push(object)?;
         self.used += 1;
         Ok(number)
     }

@@ -13,10 +13,10 @@ impl Heap {
     pub fn own(&self, object: u32, name: Span) -> Option<Value>
         ensures { result ≡ own self.now object name }
     {
-        match self.object(object) {
-            Some(found) => found.named(&self.pool, name),
-            None => None,
-        }
+        let at = self.place_of_object(object)?;
+        let place = self.named.place(at, name)?;
+        let found = &self.named.objects()[at];
+        Some(found.properties[place].value)
     }
 
     /// The value of the property with this name on the object or, going up, on the first of its prototypes that has one
@@ -26,7 +26,7 @@ impl Heap {
         ensures value { result ≡ find self.now object name }
         ensures up { find self.now object name ≡ or_up (own self.now object name) (proto_of (object_at self.now object)) (λ proto. find self.now proto name) }
     {
-        let _ = &self.objects;
+        let _ = &self.named;
         let mut at = Some(object);
         while let Some(number) = at {
             if let Some(value) = self.own(number, name) {
@@ -59,15 +59,11 @@ impl Heap {
         let Some(at) = self.place_of_object(object) else {
             return Ok(());
         };
-        match self.objects[at].place(&self.pool, name) {
-            Some(found) => {
-                let target = &mut self.objects[at];
-                target.set_value(found, v);
-            }
+        match self.named.place(at, name) {
+            Some(found) => self.named.set_value(at, found, v),
             None => {
                 self.room_for(1)?;
-                let target = &mut self.objects[at];
-                target.add_property(name, v)?;
+                self.named.add_property(alloc, at, name, v)?;
                 self.used += 1;
             }
         }
@@ -84,10 +80,9 @@ impl Heap {
         let Some(at) = self.place_of_object(object) else {
             return false;
         };
-        match self.objects[at].place(&self.pool, name) {
+        match self.named.place(at, name) {
             Some(found) => {
-                let target = &mut self.objects[at];
-                target.remove_property(found);
+                self.named.remove_property(at, found);
                 true
             }
             None => false,

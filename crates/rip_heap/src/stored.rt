@@ -2,7 +2,7 @@ ghost use Rattle.std.specs.Prelude.{◌≡◌, ◌<◌, ◌∷◌, ◌++◌, [],
 ghost use Rattle.rip_heap.specs.Arrays.{array_object, last_of, without_last};
 ghost use Rattle.rip_heap.specs.Errors.{error_object};
 ghost use Rattle.rip_heap.specs.Growth.{KeepsObject};
-ghost use Rattle.rip_heap.specs.Names.{named, place_of};
+ghost use Rattle.rip_heap.specs.Names.{place_of};
 ghost use Rattle.rip_heap.specs.Objects.{bare, function_object, with_value};
 
 use crate::class::Class;
@@ -120,14 +120,6 @@ impl StoredObject {
         self.properties.iter().position(|property| {
             property.name == name || pool.get(property.name) == text
         })
-    }
-
-    /// The value of the property with this name.
-    pub fn named(&self, pool: &Pool, name: Span) -> Option<Value>
-        ensures { result ≡ named pool.now name self.now.properties }
-    {
-        let place = self.place(pool, name)?;
-        Some(self.properties[place].value)
     }
 
     /// Gives the property at this place the value. Past the end nothing is changed.

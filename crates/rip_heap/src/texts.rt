@@ -22,7 +22,7 @@ impl Heap {
         ensures room { TakesNoMemory result }
         ensures grows { Grows self.old self.new }
     {
-        Ok(self.pool.add_joined(a, b)?)
+        Ok(self.named.add_joined(a, b)?)
     }
 
     /// A new text of these units, at its length.
@@ -32,7 +32,7 @@ impl Heap {
         ensures room { TakesNoMemory result }
         ensures grows { Grows self.old self.new }
     {
-        self.pool.add(alloc, text)
+        self.named.add(alloc, text)
     }
 
     /// A name of the program, which costs nothing.
@@ -42,7 +42,7 @@ impl Heap {
         ensures stands { IfOk result (λ span. text_at self.new.pool span ≡ text.now) }
         ensures grows { Grows self.old self.new }
     {
-        self.pool.add_fixed(alloc, text)
+        self.named.add_fixed(alloc, text)
     }
 
     // A new text: the decimal numeral of the number (ECMA-262 9.8.1).
@@ -52,10 +52,10 @@ impl Heap {
     {
         let mut room = [0; 17];
         let count = text_of_whole(number, &mut room);
-        if count > self.pool.text_limit() as usize {
+        if count > self.named.pool().text_limit() as usize {
             return Err(Halt::Fault(Fault::TextTooLong));
         }
-        match self.pool.add(alloc, &room[..count]) {
+        match self.named.add(alloc, &room[..count]) {
             Ok(span) => Ok(span),
             Err(_) => Err(Halt::Limit(Limit::Units)),
         }
@@ -65,7 +65,7 @@ impl Heap {
     pub fn pool(&self) -> &Pool
         ensures { result.now ≡ self.now.pool }
     {
-        &self.pool
+        self.named.pool()
     }
 
     /// What the call answers to which the texts of the heap are lent. It may only add to them, and all else stays as it is.
@@ -76,15 +76,15 @@ impl Heap {
         ensures rest { self.new ≡ with_pool self.old self.new.pool }
         ensures grows { Grows self.old self.new }
     {
-        add(&mut self.pool)
+        self.named.with_texts(add)
     }
 
-    /// The texts of the heap, to which more may be added. All else stays as it is. Where a heap is at hand texts are
-    /// made by its own calls, which say that older texts stand; this is for a call that takes a pool alone.
+    /// The texts of the heap, to which more may be added. All else stays as it is. It is for the opening of a page, before
+    /// which there is little to find: look-ups by name take longer from then on, until an object gets more names.
     pub fn pool_mut(&mut self) -> &mut Pool
         ensures* writes_back { sem 𝓛 (LendsPool self.entry result) }
         ensures value { result.now ≡ self.old.pool }
     {
-        &mut self.pool
+        self.named.pool_mut()
     }
 }

@@ -1,9 +1,10 @@
-use Rattle.std.proofs.Common.{rules, refl, ap}
+use Rattle.std.proofs.Common.{rules, ap, subst, sym}
+use Rattle.rip_heap.specs.Lending.{OnlyAddsTexts}
 use Rattle.rip_heap.specs.World.{World}
 use Rattle.rip_heap.proofs.heap.Heap.with_texts.Goals as goal
 
+pub with_texts-requires-clause-adds : goal.with_texts-requires-clause-adds
+with_texts-requires-clause-adds g c = subst (OnlyAddsTexts _ c.args.add.now) (sym (ap (λ (w : World). w.pool) c.self.view_is)) c.requires.adds
+
 pub returns-clause-grows : goal.returns-clause-grows
-returns-clause-grows g c =
-    let adds = c.requires.adds c.add.result _ c.add.new.arg2
-    (record { shown = _; shows = ap (λ (w : World). w.pool) c.self.view_is; left = _; called = c.add.ensures; leaves = refl }) in
-    search rules
+returns-clause-grows g c = let adds = c.with_texts.ensures.adds in search rules

@@ -1,0 +1,30 @@
+-- What a heap keeps of texts and objects, beside which there are indexes that no contract sees. No public clause cites this.
+use Rattle.std.specs.Prelude.{ℕ, ◌<◌, ◌≤◌, Option, None, Some, List, length, slice_get, slice_index_or, slice_set, option_and_then}
+use Rattle.rip_values.specs.declared.value.Span.{Span}
+use Rattle.rip_values.specs.Pool.{Texts}
+use Rattle.rip_heap.specs.Growth.{KeepsObject}
+use Rattle.rip_heap.specs.Names.{place_of}
+use Rattle.rip_heap.specs.World.{Object}
+
+-- the texts, and the objects whose properties they name
+pub record Named : Type 0 where
+  pub pool : Texts
+  pub objects : List Object
+
+-- the objects with an edit of the one at this place; where there is none nothing is changed
+abbrev pub edited : List Object → ℕ → (Object → Object) → Option Object → List Object
+edited objects at edit None = objects
+edited objects at edit (Some o) = slice_set objects at (edit o)
+
+-- the same beside the texts
+abbrev pub with_edit : Named → ℕ → (Object → Object) → Named
+with_edit n at edit = record n { objects = edited n.objects at edit (slice_get n.objects at) }
+
+-- no object is gone, and each keeps what never changes in it
+pub record KeepObjects (old new : List Object) : Type 0 where
+  pub made : length old ≤ length new
+  pub objects : (i : ℕ) (d : Object) → i < length old → KeepsObject (slice_index_or old i d) (slice_index_or new i d)
+
+-- the place of the property with this name of the object at this place
+abbrev pub place_at : Named → ℕ → Span → Option ℕ
+place_at n at name = option_and_then (λ o. place_of n.pool name o.properties) (slice_get n.objects at)
