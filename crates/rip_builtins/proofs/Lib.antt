@@ -3,3 +3,4 @@ pub mod NumberLemmas
 pub mod SearchLemmas
 pub mod JoinLemmas
 pub mod BorderLemmas
+pub mod RangedLemmas

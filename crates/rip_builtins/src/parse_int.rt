@@ -1,12 +1,9 @@
-ghost use Rattle.std.specs.Prelude.{◌≡◌, ◌≤◌, ◌<◌, ◌∷◌, [], drop, take_while, min, length, IfSome};
-ghost use Rattle.std.specs.Char.{digit_value};
+ghost use Rattle.std.specs.Prelude.{◌≡◌, ◌≤◌, take_while, length, IfSome};
 ghost use Rattle.std.specs.List.{prefix_len};
-ghost use Rattle.std.specs.Str.Parse.{digits_value, starts_with_minus, without_leading_sign};
-ghost use Rattle.rip_values.specs.Blank.{is_blank, trimmed_start};
-ghost use Rattle.rip_values.specs.NumberScan.{is_digit, signed_value};
+ghost use Rattle.rip_values.specs.NumberScan.{is_digit};
 ghost use Rattle.rip_values.specs.Pool.{text_at};
 ghost use Rattle.rip_values.specs.declared.value.Value.TheVariants.{Num};
-ghost use Rattle.rip_heap.specs.Conversions.{ranged, text_of_value};
+ghost use Rattle.rip_heap.specs.Conversions.{text_of_value};
 ghost use Rattle.rip_heap.specs.Growth.{Grows};
 ghost use Rattle.rip_heap.specs.Outcome.{Answers, after_text};
 ghost use Rattle.rip_builtins.specs.Arguments.{value_or_fault};
@@ -16,17 +13,12 @@ use crate::arguments::argument;
 use crate::numerals::behind_numeral;
 use crate::outcome::value_done;
 use rip_heap::{Abrupt, Heap, to_int32, to_number, to_text};
-use rip_values::{Fault, Numeral, Value, Whole, is_line_end, is_white_space, text_of_whole};
+use rip_values::{
+    Fault, Numeral, Value, Whole, digit_value, split_sign, text_of_whole, trim_start, whole_of,
+};
 use std::alloc::Global;
 
-// One more than the greatest whole number: larger values count as it.
-const PAST_RANGE: u64 = 9_007_199_254_740_992;
-
 const ZERO: u16 = 0x30;
-
-const PLUS: u16 = 0x2B;
-
-const MINUS: u16 = 0x2D;
 
 const CAPITAL_X: u16 = 0x58;
 
@@ -95,38 +87,6 @@ fn integer_at_start(text: &[u16], radix: i32) -> Result<Numeral, Fault>
     }
 }
 
-#[tactic(auto, unfolding(rip_values::specs::Blank::is_blank))]
-fn is_blank(unit: u16) -> bool
-    ensures { result ≡ is_blank unit }
-{
-    is_white_space(unit) || is_line_end(unit)
-}
-
-fn trim_start(text: &[u16]) -> &[u16]
-    ensures { result.now ≡ trimmed_start text.now }
-{
-    let mut rest = text;
-    while let [first, others @ ..] = rest {
-        if !is_blank(*first) {
-            break;
-        }
-        rest = others;
-    }
-    rest
-}
-
-// Whether a minus stands first, and the text without its sign.
-fn split_sign(text: &[u16]) -> (bool, &[u16])
-    ensures minus { result.0 ≡ starts_with_minus text.now }
-    ensures rest { result.1.now ≡ without_leading_sign text.now }
-{
-    match text {
-        [MINUS, rest @ ..] => (true, rest),
-        [PLUS, rest @ ..] => (false, rest),
-        _ => (false, text),
-    }
-}
-
 // Whether the text begins with the mark of base 16.
 fn is_marked(text: &[u16]) -> bool
     ensures { result ≡ is_marked text.now }
@@ -174,18 +134,8 @@ fn count_of_digits(base: u16, text: &[u16]) -> usize
         .count()
 }
 
-// The value of a digit or an ASCII letter, which is at least 10, and 36 for any other unit.
-fn digit_value(unit: u16) -> u16
-    ensures { result ≡ digit_value unit }
-{
-    match unit {
-        0x30..=0x39 => unit - 0x30,
-        0x41..=0x5A => unit - 0x41 + 10,
-        0x61..=0x7A => unit - 0x61 + 10,
-        _ => 36,
-    }
-}
-
+// The number of a sign and digits, of which there may be none.
+#[tactic(auto, using(crate::proofs::RangedLemmas::ranged_one))]
 fn number_of_digits(negative: bool, base: u16, digits: &[u16]) -> Result<Numeral, Fault>
     requires { base ≤ 36 }
     ensures { result ≡ number_of_digits negative base digits.now }
@@ -193,29 +143,5 @@ fn number_of_digits(negative: bool, base: u16, digits: &[u16]) -> Result<Numeral
     if digits.is_empty() {
         return Ok(Numeral::NaN);
     }
-    ranged_of(negative, capped_value(base, digits))
-}
-
-// The whole number of a sign and a value, if it is in range.
-fn ranged_of(negative: bool, value: u64) -> Result<Numeral, Fault>
-    requires { value ≤ PAST_RANGE }
-    ensures { result ≡ ranged (signed_value negative value) }
-{
-    let magnitude = value as i64;
-    match Whole::new(if negative { -magnitude } else { magnitude }) {
-        Some(number) => Ok(Numeral::Num(number)),
-        None => Err(Fault::OutOfRange),
-    }
-}
-
-// The value of the digits, or `PAST_RANGE` where it is larger.
-fn capped_value(base: u16, digits: &[u16]) -> u64
-    requires { base ≤ 36 }
-    ensures { result ≡ min (digits_value base digits.now) PAST_RANGE }
-{
-    let mut value = 0;
-    for digit in digits {
-        value = (value * u64::from(base) + u64::from(digit_value(*digit))).min(PAST_RANGE);
-    }
-    value
+    whole_of(negative, base, digits)
 }
