@@ -21,7 +21,7 @@
 //! | [`Mark`], [`Heap::mark`], [`Heap::cut_back`], for want of memory | `Marks.mark_of`, `Marks.cut_world` |
 //! | [`to_boolean`], [`to_number`], [`to_integer`], [`to_uint32`], [`to_int32`], [`to_text`], [`strictly_equal`] | `Conversions`, one table each |
 //! | [`room_for_text`], [`room_for_numeral`] | `Conversions.room_for_text`: the limit `text`, and then the units |
-//! | [`holder_of`], [`not_in_profile`] | `Holders`, for `in` and `hasOwnProperty` |
+//! | [`holder_of`], [`asked_of`], [`not_in_profile`] | `Holders`, for `in` and `hasOwnProperty` |
 //! | [`Host`] | its own `answers` of a `Host.Request`; `Host.Gives`, `Host.Keeps` and `Host.LeavesOnRefusal` say what each call answers and keeps |
 //!
 //! Laws of worlds stand in `Laws`, each the contract of a function: what is put is read ([`puts_are_read`]) and changes no
@@ -63,7 +63,7 @@ pub use convert::{
     to_text, to_uint32,
 };
 pub use heap::Heap;
-pub use holder::{Holder, holder_of, not_in_profile};
+pub use holder::{Asked, Holder, asked_of, holder_of, not_in_profile};
 pub use host::{EmptyHost, Host, HostDone};
 pub use keys::{
     Found, Key, LookedUp, Reference, index_of, is_barred, is_index, is_named,

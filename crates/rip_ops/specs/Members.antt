@@ -8,14 +8,13 @@ use Rattle.rip_values.specs.Pool.{text_at}
 use Rattle.rip_heap.specs.declared.keys.Found.{Found}
 use Rattle.rip_heap.specs.declared.keys.Found.TheVariants.{Here, Barred, Nowhere}
 use Rattle.rip_heap.specs.Arrays.{elements_at}
-use Rattle.rip_heap.specs.Conversions.{text_of_value}
 use Rattle.rip_heap.specs.Keys.{is_named, is_index, index_of, is_of_object_prototype, is_underscored, look_up}
 use Rattle.rip_heap.specs.Objects.{find}
-use Rattle.rip_heap.specs.Outcome.{Outcome, Gives, Throws, Faults, after_text}
-use Rattle.rip_heap.specs.World.{World, object_at}
-use Rattle.rip_heap.specs.declared.holder.Holder.{Holder}
-use Rattle.rip_heap.specs.declared.holder.Holder.TheVariants.{PlainObject, ArrayObject, OtherObject}
-use Rattle.rip_heap.specs.Holders.{holder_of, not_in_profile}
+use Rattle.rip_heap.specs.Outcome.{Outcome, Gives, Throws, Faults}
+use Rattle.rip_heap.specs.World.{World}
+use Rattle.rip_heap.specs.declared.holder.Asked.{Asked}
+use Rattle.rip_heap.specs.declared.holder.Asked.TheVariants.{Name, Numeral, Element, ArrayName}
+use Rattle.rip_heap.specs.Holders.{asking, not_in_profile}
 
 -- what is found nowhere: `hasOwnProperty` is there
 abbrev pub absent : World → Span → Outcome
@@ -47,23 +46,18 @@ in_array w n name = at_index w n name (index_of w.pool name)
 
 -- `in`
 
--- a numeral is none of the names that have a rule of their own
-abbrev pub numeral_in_plain : World → ℤ → ℕ → Outcome
-numeral_in_plain w z n = after_text (text_of_value w (Num z)) (λ name v. Gives (Boolean (is_some (find v n name))) v)
-
 -- an index costs nothing, other numerals do
 abbrev pub number_in_array : World → ℤ → ℕ → Outcome
 number_in_array w z n =
     if is_index z then Gives (Boolean (nat_lt (unsigned_abs z) (length (elements_at w n)))) w
     else not_in_profile w (Num z)
 
--- `in` by what holds the name
-abbrev pub in_holder : Holder → World → Value → ℕ → Outcome
-in_holder OtherObject w a n = not_in_profile w a
-in_holder PlainObject w (Num z) n = numeral_in_plain w z n
-in_holder PlainObject w a n = after_text (text_of_value w a) (λ name v. in_plain v n name)
-in_holder ArrayObject w (Num z) n = number_in_array w z n
-in_holder ArrayObject w a n = after_text (text_of_value w a) (λ name v. in_array v n name)
+-- `in` by what the key asks; a numeral is none of the names that have a rule of their own
+abbrev pub in_asked : ℕ → Asked → World → Outcome
+in_asked n (Name name) w = in_plain w n name
+in_asked n (Numeral name) w = Gives (Boolean (is_some (find w n name))) w
+in_asked n (Element z) w = number_in_array w z n
+in_asked n (ArrayName name) w = in_array w n name
 
 -- `in` (ECMA-262 11.8.7)
 abbrev pub contained : World → Value → Value → Outcome
@@ -73,4 +67,4 @@ contained w a (Boolean b) = Throws
 contained w a (Num z) = Throws
 contained w a NaN = Throws
 contained w a (Text span) = Throws
-contained w a (Object n) = in_holder (holder_of (object_at w n)) w a n
+contained w a (Object n) = asking w n a (in_asked n)

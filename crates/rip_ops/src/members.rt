@@ -1,10 +1,10 @@
 ghost use Rattle.rip_heap.specs.Growth.{Grows};
-ghost use Rattle.rip_ops.specs.Members.{contained, in_holder, in_plain, in_array, numeral_in_plain, number_in_array, absent};
+ghost use Rattle.rip_ops.specs.Members.{contained, in_asked, in_plain, in_array, number_in_array, absent};
 ghost use Rattle.rip_heap.specs.Outcome.{Answers};
 
 use rip_heap::{
-    Abrupt, Found, Heap, Holder, holder_of, index_of, is_index, is_named, is_of_object_prototype,
-    is_underscored, look_up, not_in_profile, to_text,
+    Abrupt, Asked, Found, Heap, asked_of, index_of, is_index, is_named, is_of_object_prototype,
+    is_underscored, look_up, not_in_profile,
 };
 use rip_values::{Fault, FixedText, Span, Value, Whole};
 use std::alloc::Global;
@@ -14,56 +14,15 @@ pub fn contained(alloc: Global, heap: &mut Heap, a: Value, b: Value) -> Result<V
     ensures answers { Answers (contained heap.old a b) heap.old result heap.new }
     ensures grows { Grows heap.old heap.new }
 {
-    match b {
-        Value::Object(number) => {
-            let holder = holder_of(heap, number);
-            in_holder(alloc, heap, holder, a, number)
-        }
-        _ => Err(Abrupt::TypeError),
+    let Value::Object(object) = b else {
+        return Err(Abrupt::TypeError);
+    };
+    match asked_of(alloc, heap, object, a)? {
+        Asked::Name(name) => in_plain(heap, object, name),
+        Asked::Numeral(name) => Ok(Value::Bool(heap.find(object, name).is_some())),
+        Asked::Element(number) => number_in_array(heap, number, object),
+        Asked::ArrayName(name) => in_array(heap, object, name),
     }
-}
-
-fn in_holder(
-    alloc: Global,
-    heap: &mut Heap,
-    holder: Holder,
-    a: Value,
-    number: u32,
-) -> Result<Value, Abrupt>
-    ensures answers { Answers (in_holder holder heap.old a number) heap.old result heap.new }
-    ensures grows { Grows heap.old heap.new }
-{
-    match holder {
-        Holder::PlainObject => in_plain_object(alloc, heap, a, number),
-        Holder::ArrayObject => in_array_object(alloc, heap, a, number),
-        Holder::OtherObject => not_in_profile(heap, a),
-    }
-}
-
-fn in_plain_object(alloc: Global, heap: &mut Heap, a: Value, number: u32) -> Result<Value, Abrupt>
-    ensures answers { Answers (in_holder Holder.PlainObject heap.old a number) heap.old result heap.new }
-    ensures grows { Grows heap.old heap.new }
-{
-    match a {
-        Value::Num(key) => numeral_in_plain(alloc, heap, key, number),
-        _ => {
-            let name = to_text(alloc, heap, a)?;
-            in_plain(heap, number, name)
-        }
-    }
-}
-
-fn numeral_in_plain(
-    alloc: Global,
-    heap: &mut Heap,
-    key: Whole,
-    number: u32,
-) -> Result<Value, Abrupt>
-    ensures answers { Answers (numeral_in_plain heap.old key number) heap.old result heap.new }
-    ensures grows { Grows heap.old heap.new }
-{
-    let name = to_text(alloc, heap, Value::Num(key))?;
-    Ok(Value::Bool(heap.find(number, name).is_some()))
 }
 
 fn in_plain(heap: &Heap, number: u32, name: Span) -> Result<Value, Abrupt>
@@ -89,19 +48,6 @@ fn absent(heap: &Heap, name: Span) -> Result<Value, Abrupt>
         Err(Abrupt::Fault(Fault::NotInProfile))
     } else {
         Ok(Value::Bool(false))
-    }
-}
-
-fn in_array_object(alloc: Global, heap: &mut Heap, a: Value, number: u32) -> Result<Value, Abrupt>
-    ensures answers { Answers (in_holder Holder.ArrayObject heap.old a number) heap.old result heap.new }
-    ensures grows { Grows heap.old heap.new }
-{
-    match a {
-        Value::Num(key) => number_in_array(heap, key, number),
-        _ => {
-            let name = to_text(alloc, heap, a)?;
-            in_array(heap, number, name)
-        }
     }
 }
 
