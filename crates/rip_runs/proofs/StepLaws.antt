@@ -55,13 +55,13 @@ enter_rest h t part next os frames control w x s u row c f =
     ∙ sym (rest-enters h t part os u w s) ∙ ap (λ n. rest h t (Enter part) os n w s) (sym (add-one u))
 
 -- after a part was entered, and other parts that its row asks for were done
-pub begun_rest : {S : Type 0} (h : Calling S) (t : Table) (part : Part) (next : Next) (os frames : List Open) (control : Control) (w x : World) (s r : S) (u v : ℕ)
-    → next_run h t part next u x r ≡ run h t (part.room - 1) (entered t part w) v s → control ≡ control_of part next → frames ≡ os ++ frame_of part next []
-    → rest h t control frames u x r ≡ rest h t (Enter part) os (v + 1) w s
-begun_rest h t part next os frames control w x s r u v same c f =
+pub begun_rest : {S : Type 0} (h : Calling S) (t : Table) (part : Part) (next : Next) (os frames : List Open) (control : Control) (w x : World) (s r : S) (u v n : ℕ)
+    → next_run h t part next u x r ≡ run h t (part.room - 1) (entered t part w) v s → control ≡ control_of part next → frames ≡ os ++ frame_of part next [] → v + 1 ≡ n
+    → rest h t control frames u x r ≡ rest h t (Enter part) os n w s
+begun_rest h t part next os frames control w x s r u v n same c f is =
     ap (λ d. rest h t d frames u x r) c ∙ ap (λ fs. rest h t (control_of part next) fs u x r) f
     ∙ sym (rest-next h t part next [] os u x r) ∙ ap (unwind h t os) same
-    ∙ sym (rest-enters h t part os v w s) ∙ ap (λ n. rest h t (Enter part) os n w s) (sym (add-one v))
+    ∙ sym (rest-enters h t part os v w s) ∙ ap (λ n. rest h t (Enter part) os n w s) (sym (add-one v) ∙ is)
 
 -- the run of what an open part does next is that of its row, where the host was asked
 pub settled_run : {S : Type 0} (h : Calling S) (t : Table) (at : Part) (next : Next) (values : List Value) (row : Row) (room u : ℕ) (x : World) (s r : S)

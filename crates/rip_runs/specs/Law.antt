@@ -12,7 +12,7 @@ use Rattle.rip_runs.specs.declared.next.Control.TheVariants.{Enter, Give, Halted
 use Rattle.rip_runs.specs.declared.next.Next.{Next}
 use Rattle.rip_runs.specs.Cut.{rest_of}
 use Rattle.rip_runs.specs.declared.part.Part.{Part}
-use Rattle.rip_runs.specs.Rest.{as_row, control_of, frame_of, room_in}
+use Rattle.rip_runs.specs.Rest.{as_row, control_of, frame_of, rest, room_in}
 use Rattle.rip_runs.specs.Row.{Row, Table}
 use Rattle.rip_runs.specs.Run.{Answer, Completes, Stops, Cuts, Calling}
 use Rattle.rip_runs.specs.Stack.{Open}
@@ -61,6 +61,10 @@ abbrev pub open_depth : Standing → ℕ
 open_depth m = open_at m.depth m.control m.frames
 
 -- STEPS
+
+-- with any units more, the rest of a run is what it was
+abbrev pub SameRest : {S : Type 0} → Calling S → Table → Control → List Open → ℕ → World → S → Control → List Open → ℕ → World → S → Type 0
+SameRest h t control os u w s control' os' u' w' s' = (k : ℕ) → rest h t control' os' (u' + k) w' s' ≡ rest h t control os (u + k) w s
 
 -- a bound for the steps up to the next part that is entered
 abbrev pub weight : Control → List Open → ℕ

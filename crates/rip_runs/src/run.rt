@@ -14,7 +14,7 @@ use crate::outcome::{Outcome, Turned};
 use crate::part::Part;
 use crate::rows::Rows;
 use crate::stack::Stack;
-use crate::steps::{keep_values, open, pushed, steps};
+use crate::steps::{Ahead, keep_values, open, pushed, steps};
 use rip_heap::{Heap, Host};
 use rip_values::{Limit, NoMemory, Value};
 use std::alloc::Global;
@@ -195,9 +195,16 @@ impl Run {
     {
         let budget = n.min(self.fuel);
         let more = n < self.fuel;
-        match steps(rows, heap, host, &mut self.stack, &mut self.control, budget) {
-            Ok(left) => {
-                let used = budget - left;
+        let mut ahead = Ahead {
+            control: self.control,
+            next: Next::End(Completion::Normal(Value::Undefined)),
+            left: budget,
+        };
+        let ran = steps(rows, heap, host, &mut self.stack, &mut ahead);
+        self.control = ahead.control;
+        match ran {
+            Ok(()) => {
+                let used = budget - ahead.left;
                 self.fuel -= used;
                 self.spent += used;
                 turned_of(&self.control, more)

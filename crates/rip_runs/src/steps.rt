@@ -2,9 +2,9 @@ ghost use Rattle.std.specs.Prelude.{◌≡◌, ℕ, ◌+◌, ◌-◌, ◌*◌, �
 ghost use Rattle.std.specs.Bool.{MatchBool};
 ghost use Rattle.rip_heap.specs.Growth.{Grows};
 ghost use Rattle.rip_runs.specs.Frame.{waiting};
-ghost use Rattle.rip_runs.specs.Law.{Stands, weight};
+ghost use Rattle.rip_runs.specs.Law.{SameRest, Stands, weight};
 ghost use Rattle.rip_runs.specs.Nesting.{IsInside};
-ghost use Rattle.rip_runs.specs.Rest.{as_row, called_control, called_frame, control_of, frame_of, has_room, next_run, rest, room_in};
+ghost use Rattle.rip_runs.specs.Rest.{called_control, called_frame, control_of, frame_of, has_room, next_run};
 ghost use Rattle.rip_runs.specs.Run.{run};
 ghost use Rattle.rip_runs.specs.Stack.{framed, last_values, without_last};
 
@@ -236,9 +236,19 @@ fn take_parts<R: Rows, H: Host>(
     Ok(())
 }
 
-/// Whether nobody has tried to do the part at once that is entered next.
-fn is_untried(next: &Next) -> bool {
-    !matches!(next, Next::Ask(_, _) | Next::Turn(_, _))
+/// What is ahead of a run: what it goes on with, what the part does next that was open last, and the units that are left.
+#[derive(Drop)]
+pub(crate) struct Ahead {
+    pub control: Control,
+    pub next: Next,
+    pub left: u64,
+}
+
+impl Ahead {
+    /// Whether nobody has tried to do the part at once that is entered next.
+    fn is_untried(&self) -> bool {
+        !matches!(self.next, Next::Ask(_, _) | Next::Turn(_, _))
+    }
 }
 
 /// A part is entered, for which at least one unit is left; at once where that can be, if nobody has tried it.
@@ -248,41 +258,39 @@ fn enter<R: Rows, H: Host>(
     host: &mut H,
     stack: &mut Stack,
     part: &Part,
-    control: &mut Control,
-    left: &mut u64,
-    untried: &mut bool,
-    next: &mut Next,
+    ahead: &mut Ahead,
 ) -> Result<(), NoMemory>
     requires fits { H.fits host.old heap.old }
     requires inside { IsInside stack.old.most (Control.Enter part.now) stack.old.frames }
-    requires some { 0 < left.old }
-    ensures rest { OnOk result ((k : ℕ) → rest H.answers (R.table rows.now) control.new
-        stack.new.frames (left.new + k) heap.new host.new ≡ rest H.answers (R.table rows.now)
-        (Control.Enter part.now) stack.old.frames (left.old + k) heap.old host.old) }
-    ensures weight { OnOk result (weight control.new stack.new.frames ≤ 2 * length stack.old.frames
-        + 2) }
-    ensures inside { OnOk result (IsInside stack.new.most control.new stack.new.frames) }
-    ensures kept { OnErr result ((stack.new ≡ stack.old) × (control.new ≡ control.old)) }
-    ensures less { left.new < left.old }
+    requires some { 0 < ahead.old.left }
+    ensures rest { OnOk result (SameRest H.answers (R.table rows.now)
+        (Control.Enter part.now) stack.old.frames ahead.old.left heap.old host.old
+        ahead.new.control stack.new.frames ahead.new.left heap.new host.new) }
+    ensures weight { OnOk result (weight ahead.new.control stack.new.frames
+        ≤ 2 * length stack.old.frames + 2) }
+    ensures inside { OnOk result (IsInside stack.new.most ahead.new.control stack.new.frames) }
+    ensures kept { OnErr result ((stack.new ≡ stack.old)
+        × (ahead.new.control ≡ ahead.old.control)) }
+    ensures less { ahead.new.left < ahead.old.left }
     ensures most { stack.new.most ≡ stack.old.most }
     ensures fits { H.fits host.new heap.new }
     ensures grows { Grows heap.old heap.new }
 {
     if part.room == 0 {
-        *left -= 1;
+        ahead.left -= 1;
         let stop = Stop::Limit(Limit::Depth);
-        *control = Control::Halted { stop, room: 0 };
+        ahead.control = Control::Halted { stop, room: 0 };
         return Ok(());
     }
-    if *untried {
-        if let Some(done) = rows.at_once(heap, part, *left) {
-            *left -= done.units;
-            *control = Control::Give(done.completion);
+    if ahead.is_untried() {
+        if let Some(done) = rows.at_once(heap, part, ahead.left) {
+            ahead.left -= done.units;
+            ahead.control = Control::Give(done.completion);
             return Ok(());
         }
     }
-    *left -= 1;
-    enter_row(rows, heap, host, stack, part, control, left, untried, next)
+    ahead.left -= 1;
+    enter_row(rows, heap, host, stack, part, ahead)
 }
 
 /// What a part does first whose unit was taken, and after it the parts that are done at once.
@@ -316,60 +324,26 @@ fn enter_row<R: Rows, H: Host>(
     host: &mut H,
     stack: &mut Stack,
     part: &Part,
-    control: &mut Control,
-    left: &mut u64,
-    untried: &mut bool,
-    next: &mut Next,
+    ahead: &mut Ahead,
 ) -> Result<(), NoMemory>
     requires fits { H.fits host.old heap.old }
     requires inside { IsInside stack.old.most (Control.Enter part.now) stack.old.frames }
     requires some { 0 < part.now.room }
-    ensures rest { OnOk result ((k : ℕ) → rest H.answers (R.table rows.now) control.new
-        stack.new.frames (left.new + k) heap.new host.new ≡ rest H.answers (R.table rows.now)
-        (Control.Enter part.now) stack.old.frames (left.old + k + 1) heap.old host.old) }
-    ensures weight { OnOk result (weight control.new stack.new.frames ≤ 2 * length stack.old.frames
-        + 2) }
-    ensures inside { OnOk result (IsInside stack.new.most control.new stack.new.frames) }
-    ensures kept { OnErr result ((stack.new ≡ stack.old) × (control.new ≡ control.old)) }
-    ensures within { left.new ≤ left.old }
+    ensures rest { OnOk result (SameRest H.answers (R.table rows.now)
+        (Control.Enter part.now) stack.old.frames (ahead.old.left + 1) heap.old host.old
+        ahead.new.control stack.new.frames ahead.new.left heap.new host.new) }
+    ensures weight { OnOk result (weight ahead.new.control stack.new.frames
+        ≤ 2 * length stack.old.frames + 2) }
+    ensures inside { OnOk result (IsInside stack.new.most ahead.new.control stack.new.frames) }
+    ensures kept { OnErr result ((stack.new ≡ stack.old)
+        × (ahead.new.control ≡ ahead.old.control)) }
+    ensures within { ahead.new.left ≤ ahead.old.left }
     ensures most { stack.new.most ≡ stack.old.most }
     ensures fits { H.fits host.new heap.new }
     ensures grows { Grows heap.old heap.new }
 {
-    begin(rows, heap, host, part, next, left)?;
-    *untried = is_untried(next);
-    open(stack, part, next, control)
-}
-
-/// What an open part does with the completion of the part that it waits for so, and after it the parts that are done at once.
-fn finish<R: Rows, H: Host>(
-    rows: &R,
-    heap: &mut Heap,
-    host: &mut H,
-    frame: &Frame,
-    values: &[Value],
-    c: &Completion,
-    next: &mut Next,
-    left: &mut u64,
-) -> Result<(), NoMemory>
-    requires fits { H.fits host.old heap.old }
-    ensures run { OnOk result ((k : ℕ) → run H.answers (R.table rows.now)
-        (room_in frame.now) (as_row (R.table rows.now) frame.now.at next.new values.now heap.new)
-        (left.new + k) host.new ≡ run H.answers (R.table rows.now) (room_in frame.now)
-        ((R.table rows.now).rest (framed frame.now values.now) c.now heap.old) (left.old + k)
-        host.old) }
-    ensures within { left.new ≤ left.old }
-    ensures fits { H.fits host.new heap.new }
-    ensures grows { Grows heap.old heap.new }
-{
-    match rows.finish(heap, host, &frame.at, &frame.wait, values, c) {
-        Ok(then) => *next = then,
-        Err(NoMemory) => return Err(NoMemory),
-    }
-    if values.is_empty() {
-        return take_parts(rows, heap, host, &frame.at, next, left);
-    }
-    Ok(())
+    begin(rows, heap, host, part, &mut ahead.next, &mut ahead.left)?;
+    open(stack, part, &ahead.next, &mut ahead.control)
 }
 
 /// A completion is given to the innermost frame; where there is none, nothing is done.
@@ -378,26 +352,24 @@ fn give<R: Rows, H: Host>(
     heap: &mut Heap,
     host: &mut H,
     stack: &mut Stack,
-    c: Completion,
-    control: &mut Control,
-    left: &mut u64,
-    untried: &mut bool,
-    next: &mut Next,
+    c: &Completion,
+    ahead: &mut Ahead,
 ) -> Result<bool, NoMemory>
     requires fits { H.fits host.old heap.old }
-    requires inside { IsInside stack.old.most (Control.Give c) stack.old.frames }
+    requires inside { IsInside stack.old.most (Control.Give c.now) stack.old.frames }
     ensures rest { IfOk result (λ given. MatchBool given
-        ((k : ℕ) → rest H.answers (R.table rows.now) control.new stack.new.frames (left.new + k)
-        heap.new host.new ≡ rest H.answers (R.table rows.now) (Control.Give c) stack.old.frames
-        (left.old + k) heap.old host.old) ((stack.old.frames ≡ []) × (control.new ≡ control.old)
-        × (stack.new ≡ stack.old) × (left.new ≡ left.old) × (heap.new ≡ heap.old)
-        × (host.new ≡ host.old))) }
+        (SameRest H.answers (R.table rows.now)
+        (Control.Give c.now) stack.old.frames ahead.old.left heap.old host.old
+        ahead.new.control stack.new.frames ahead.new.left heap.new host.new)
+        ((stack.old.frames ≡ []) × (ahead.new ≡ ahead.old) × (stack.new ≡ stack.old)
+        × (heap.new ≡ heap.old) × (host.new ≡ host.old))) }
     ensures weight { IfOk result (λ given. MatchBool given
-        (weight control.new stack.new.frames < weight (Control.Give c) stack.old.frames) ⊤) }
+        (weight ahead.new.control stack.new.frames < weight (Control.Give c.now) stack.old.frames) ⊤) }
     ensures inside { IfOk result (λ given. MatchBool given
-        (IsInside stack.new.most control.new stack.new.frames) ⊤) }
-    ensures kept { OnErr result ((stack.new ≡ stack.old) × (control.new ≡ control.old)) }
-    ensures within { left.new ≤ left.old }
+        (IsInside stack.new.most ahead.new.control stack.new.frames) ⊤) }
+    ensures kept { OnErr result ((stack.new ≡ stack.old)
+        × (ahead.new.control ≡ ahead.old.control)) }
+    ensures within { ahead.new.left ≤ ahead.old.left }
     ensures most { stack.new.most ≡ stack.old.most }
     ensures fits { H.fits host.new heap.new }
     ensures grows { Grows heap.old heap.new }
@@ -407,9 +379,12 @@ fn give<R: Rows, H: Host>(
         None => return Ok(false),
     };
     let at = frame.at;
-    finish(rows, heap, host, frame, stack.values(), &c, next, left)?;
-    *untried = is_untried(next);
-    reopen(stack, &at, next, control)?;
+    let values = stack.values();
+    ahead.next = rows.finish(heap, host, &at, &frame.wait, values, c)?;
+    if values.is_empty() {
+        take_parts(rows, heap, host, &at, &mut ahead.next, &mut ahead.left)?;
+    }
+    reopen(stack, &at, &ahead.next, &mut ahead.control)?;
     Ok(true)
 }
 
@@ -419,79 +394,61 @@ fn step<R: Rows, H: Host>(
     heap: &mut Heap,
     host: &mut H,
     stack: &mut Stack,
-    control: &mut Control,
-    left: &mut u64,
-    untried: &mut bool,
-    next: &mut Next,
+    ahead: &mut Ahead,
 ) -> Result<bool, NoMemory>
     requires fits { H.fits host.old heap.old }
-    requires inside { IsInside stack.old.most control.old stack.old.frames }
-    ensures rest { OnOk result ((k : ℕ) → rest H.answers (R.table rows.now) control.new
-        stack.new.frames (left.new + k) heap.new host.new
-        ≡ rest H.answers (R.table rows.now) control.old stack.old.frames (left.old + k) heap.old
-        host.old) }
+    requires inside { IsInside stack.old.most ahead.old.control stack.old.frames }
+    ensures rest { OnOk result (SameRest H.answers (R.table rows.now)
+        ahead.old.control stack.old.frames ahead.old.left heap.old host.old
+        ahead.new.control stack.new.frames ahead.new.left heap.new host.new) }
     ensures stands { IfOk result (λ stepped. MatchBool stepped ⊤
-        (Stands control.new stack.new.frames left.new)) }
+        (Stands ahead.new.control stack.new.frames ahead.new.left)) }
     ensures weight { IfOk result (λ stepped. MatchBool stepped
-        (3 * left.new + weight control.new stack.new.frames < 3 * left.old + weight control.old
-        stack.old.frames) ⊤) }
-    ensures within { left.new ≤ left.old }
-    ensures inside { IsInside stack.new.most control.new stack.new.frames }
+        (3 * ahead.new.left + weight ahead.new.control stack.new.frames
+        < 3 * ahead.old.left + weight ahead.old.control stack.old.frames) ⊤) }
+    ensures within { ahead.new.left ≤ ahead.old.left }
+    ensures inside { IsInside stack.new.most ahead.new.control stack.new.frames }
     ensures most { stack.new.most ≡ stack.old.most }
     ensures fits { H.fits host.new heap.new }
     ensures grows { Grows heap.old heap.new }
 {
-    match &*control {
+    match &ahead.control {
         Control::Enter(part) => {
-            if *left == 0 {
+            if ahead.left == 0 {
                 return Ok(false);
             }
             let part = *part;
-            enter(rows, heap, host, stack, &part, control, left, untried, next)?;
+            enter(rows, heap, host, stack, &part, ahead)?;
             Ok(true)
         },
         Control::Give(c) => {
             let c = *c;
-            give(rows, heap, host, stack, c, control, left, untried, next)
+            give(rows, heap, host, stack, &c, ahead)
         },
         Control::Halted { .. } => Ok(false),
     }
 }
 
-/// Runs until no unit is left for a part, or to the end, and gives the units left.
+/// Runs until no unit is left for a part, or to the end.
 pub(crate) fn steps<R: Rows, H: Host>(
     rows: &R,
     heap: &mut Heap,
     host: &mut H,
     stack: &mut Stack,
-    control: &mut Control,
-    budget: u64,
-) -> Result<u64, NoMemory>
+    ahead: &mut Ahead,
+) -> Result<(), NoMemory>
     requires fits { H.fits host.old heap.old }
-    requires inside { IsInside stack.old.most control.old stack.old.frames }
-    ensures rest { IfOk result (λ left. (k : ℕ) → rest H.answers (R.table rows.now) control.new
-        stack.new.frames (left + k) heap.new host.new
-        ≡ rest H.answers (R.table rows.now) control.old stack.old.frames (budget + k) heap.old
-        host.old) }
-    ensures stands { IfOk result (Stands control.new stack.new.frames) }
-    ensures within { IfOk result (λ left. left ≤ budget) }
-    ensures inside { IsInside stack.new.most control.new stack.new.frames }
+    requires inside { IsInside stack.old.most ahead.old.control stack.old.frames }
+    ensures rest { OnOk result (SameRest H.answers (R.table rows.now)
+        ahead.old.control stack.old.frames ahead.old.left heap.old host.old
+        ahead.new.control stack.new.frames ahead.new.left heap.new host.new) }
+    ensures stands { OnOk result (Stands ahead.new.control stack.new.frames ahead.new.left) }
+    ensures within { ahead.new.left ≤ ahead.old.left }
+    ensures inside { IsInside stack.new.most ahead.new.control stack.new.frames }
     ensures most { stack.new.most ≡ stack.old.most }
     ensures fits { H.fits host.new heap.new }
     ensures grows { Grows heap.old heap.new }
 {
-    let mut left = budget;
-    let mut untried = true;
-    let mut next = Next::End(Completion::Normal(Value::Undefined));
-    while step(
-        rows,
-        heap,
-        host,
-        stack,
-        control,
-        &mut left,
-        &mut untried,
-        &mut next,
-    )? {}
-    Ok(left)
+    while step(rows, heap, host, stack, ahead)? {}
+    Ok(())
 }

@@ -20,7 +20,7 @@ returns-then-part-eq0-clause-rest g c k =
     let none : part.room ≡ 0 = c.if-part-eq0.true in
     let row : Halts (AtLimit Depth) c.args.heap.now ≡ entered t part c.args.heap.now =
     ap (λ full. if full then Halts (AtLimit Depth) c.args.heap.now else t.row part c.args.heap.now) (sym (eq-eqb part.room 0 none)) in
-    enter_rest h t part (Halt (AtLimit Depth)) frames frames (Halted (AtLimit Depth) 0) c.args.heap.now c.args.heap.now c.args.host.now (c.args.left.now - 1 + k)
+    enter_rest h t part (Halt (AtLimit Depth)) frames frames (Halted (AtLimit Depth) 0) c.args.heap.now c.args.heap.now c.args.host.now (c.args.ahead.now.left - 1 + k)
     row (ap (λ room. Halted (AtLimit Depth) (room - 1)) (sym none)) (sym (append-nil frames))
     ∙ ap (λ n. rest h t (Enter part) frames n c.args.heap.now c.args.host.now) (omega (arith, c.requires.some))
 
@@ -28,5 +28,5 @@ returns-then-part-eq0-clause-rest g c k =
 pub returns-in-Some-clause-rest : goal.returns-in-Some-clause-rest
 returns-in-Some-clause-rest g c k =
     let done = c.in-Some.done in
-    rest-done g.H.Host.answers (g.R.Rows.table c.args.rows.now) c.args.part.now c.args.stack.now.frames done.units c.args.left.now (c.args.left.now - done.units) k
+    rest-done g.H.Host.answers (g.R.Rows.table c.args.rows.now) c.args.part.now c.args.stack.now.frames done.units c.args.ahead.now.left (c.args.ahead.now.left - done.units) k
     done.completion c.args.heap.now c.at_once.new.heap c.args.host.now c.in-Some.ensures.done.0 (omega (arith, c.in-Some.ensures.done.1))
