@@ -160,7 +160,7 @@ impl Machine {
     /// Begins a run with so much fuel. A script binds what it declares in the top scope, scope 0 of the heap; a function
     /// of the script is entered, at its own charge. Of a built-in function the arguments are charged, a cell each; its own
     /// work is done in `resume`, where the host may be asked, and takes no fuel. What is no function throws a TypeError. A
-    /// start that would pass a limit does nothing.
+    /// start that would pass a limit does nothing, and one for which memory is wanting leaves all as it was.
     pub fn start(
         &mut self,
         alloc: Global,
