@@ -41,7 +41,7 @@ begins h code m n w x start fuel (Ok done) literals depth starts =
     (λ s k. same_left h code m n x s k literals depth ∙ ap (reached m.depth) (runs_on h (loaded code m) m.depth start w x s fuel n (starts.0, starts.1, starts.2, depth) k), starts.2.1)
 begins h code m n w x start fuel (Err (At limit)) literals depth starts =
     (λ s k. ap (λ b. reached m.depth (run_begun h (table (loaded code m)) m.depth b w s fuel k)) starts.0 ∙ (let e : min fuel k ≡ min k fuel = omega arith in ap (λ u. Breaks (AtLimit limit) u w s) e), starts.1)
-begins h code m n w x start fuel (Err NoRoom) literals depth starts = tt
+begins h code m n w x start fuel (Err NoRoom) literals depth starts = starts
 
 -- where a run stands that has come to its end with this outcome
 by_outcome : {S : Type 0} → Outcome → ℕ → World → S → Reached S

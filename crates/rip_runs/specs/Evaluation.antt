@@ -34,13 +34,14 @@ pub record Evaluation (M S : Type 0) : Type 0 where
   pub in_use : M → ℕ
 
 -- what the beginning of a run leaves: what is left is that run, for every host; or, exactly where the beginning itself would
--- pass a limit, that run has stopped before its first unit, and the world is as it was. Of want of memory nothing is said
+-- pass a limit, that run has stopped before its first unit, and the world is as it was; or, where memory is wanting, all is as
+-- it was
 abbrev pub Begins : {M S : Type 0} → Evaluation M S → Started → ℕ → M → World → M → World → Result (Unit {0}) Refused → Type 0
 Begins e start fuel m w m' w' (Ok done) =
     ((s : _) (k : ℕ) → e.left m' w' s k ≡ e.run m start w s fuel k) × (e.fuel m' ≡ fuel)
 Begins e start fuel m w m' w' (Err (At limit)) =
     ((s : _) (k : ℕ) → e.run m start w s fuel k ≡ Breaks (AtLimit limit) (min k fuel) w s) × (w' ≡ w)
-Begins e start fuel m w m' w' (Err NoRoom) = Unit {0}
+Begins e start fuel m w m' w' (Err NoRoom) = (w' ≡ w) × (m' ≡ m)
 
 -- what n units of a run leave: it is cut after exactly these, and what is left is what was left, later; or it has come to
 -- its end with so many of them, and with more units it ends alike, and needs none of them. Of want of memory nothing is said

@@ -32,7 +32,8 @@ pub trait Evaluator<H: Host> {
     fn fuel_left(&self) -> u64
         ensures { (program : Self.Program) → result ≡ (evaluation program).fuel self.now };
 
-    /// Begins a run with so much fuel. One that would pass a limit does nothing.
+    /// Begins a run with so much fuel. One that would pass a limit does nothing, and one for which memory is wanting leaves all
+    /// as it was.
     fn begin(
         &mut self,
         alloc: Global,
