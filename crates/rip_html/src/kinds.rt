@@ -3,8 +3,8 @@ ghost use Rattle.rip_html.specs.Refusals.{text_kind, end_kind, content_kind, due
 
 use crate::part::Part;
 use crate::tags::{is_of_head, is_outside, is_script};
-use rip_markup::{TextRun, Token, is_void, same};
-use rip_values::{PageKind, Units};
+use rip_markup::{TextRun, Token, is_void};
+use rip_values::{PageKind, Units, is_ascii};
 
 /// How many elements may be open.
 const MOST_OPEN: usize = 200;
@@ -24,7 +24,7 @@ fn text_kind(kind: PageKind, run: &TextRun) -> Option<PageKind>
 fn name_kind(kind: PageKind, due: &[u8], name: &Units) -> Option<PageKind>
     ensures { result ≡ end_kind kind due.now name.now }
 {
-    if same(name.as_slice(), due) {
+    if is_ascii(name.as_slice(), due) {
         None
     } else {
         Some(kind)

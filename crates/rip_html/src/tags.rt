@@ -2,18 +2,19 @@ ghost use Rattle.std.specs.Prelude.{◌≡◌, codes};
 ghost use Rattle.rip_markup.specs.Words.{is_among};
 ghost use Rattle.rip_html.specs.Tags.{part_names, head_names, is_script, is_outside};
 
-use rip_markup::{is_refused, same};
+use rip_markup::is_refused;
+use rip_values::is_ascii;
 
 /// Whether the element may stand in the head (HTML 4.2.1).
 #[tactic(auto, unfolding(crate::specs::Tags::head_names))]
 pub(crate) fn is_of_head(name: &[u16]) -> bool
     ensures { result ≡ is_among head_names name.now }
 {
-    same(name, b"title")
-        || same(name, b"style")
-        || same(name, b"meta")
-        || same(name, b"link")
-        || same(name, b"base")
+    is_ascii(name, b"title")
+        || is_ascii(name, b"style")
+        || is_ascii(name, b"meta")
+        || is_ascii(name, b"link")
+        || is_ascii(name, b"base")
 }
 
 /// Whether the element holds a part of a page (HTML 4.1.1).
@@ -21,14 +22,14 @@ pub(crate) fn is_of_head(name: &[u16]) -> bool
 fn is_of_page(name: &[u16]) -> bool
     ensures { result ≡ is_among part_names name.now }
 {
-    same(name, b"html") || same(name, b"head") || same(name, b"body")
+    is_ascii(name, b"html") || is_ascii(name, b"head") || is_ascii(name, b"body")
 }
 
 /// Whether the element is a script.
 pub(crate) fn is_script(name: &[u16]) -> bool
     ensures { result ≡ is_script name.now }
 {
-    same(name, b"script")
+    is_ascii(name, b"script")
 }
 
 /// Whether no content has the element.

@@ -3,7 +3,8 @@ use Rattle.std.proofs.Common.{◌≡◌, ℕ, zero, suc, ◌+◌, ◌<◌, ◌�
 use Rattle.std.specs.Prelude.{codes}
 use Rattle.std.specs.List.{prefix_len}
 use Rattle.std.proofs.lemmas.Bool.{cond-true, cond-false, cond_both, and_parts, false≢true, true≢false}
-use Rattle.rip_markup.specs.Units.{is_letter, lower, begins}
+use Rattle.rip_values.specs.Units.{small_unit, begins}
+use Rattle.rip_markup.specs.Units.{is_letter}
 use Rattle.rip_markup.specs.Words.{begins_with}
 use Rattle.rip_markup.specs.Scans.{behind}
 use Rattle.rip_markup.specs.Forms.{begins_small, is_doctype, begins_end_tag, markup_form, form_of, before}
@@ -82,7 +83,7 @@ begins_with-length (c ∷ front) (d ∷ text) b = let below = begins_with-length
 begins_small-length : (front text : List ℕ) → begins_small front text ≡ true → length front ≤ length text
 begins_small-length [] text b = omega arith
 begins_small-length (c ∷ front) [] b = absurd (false≢true b)
-begins_small-length (c ∷ front) (d ∷ text) b = let below = begins_small-length front text (and_parts (lower d == c) _ b).1 in omega arith
+begins_small-length (c ∷ front) (d ∷ text) b = let below = begins_small-length front text (and_parts (small_unit d == c) _ b).1 in omega arith
 
 begins-length : (p : ℕ → Bool) (text : List ℕ) → begins p text ≡ true → 0 < length text
 begins-length p [] b = absurd (false≢true b)

@@ -1,7 +1,8 @@
 -- Each text has tokens.
 use Rattle.std.proofs.Common.{◌≡◌, ℕ, zero, suc, ◌+◌, ◌*◌, ◌<◌, ◌≤◌, Bool, true, false, List, [], ◌∷◌, length, drop, map, take_while, Option, Some, None, ◌⊎◌, inl, inr, ⊎_elim, refl, sym, ap, ◌∙◌, arith, length-drop}
 use Rattle.std.proofs.lemmas.Bool.{false≢true}
-use Rattle.rip_markup.specs.Units.{is_space, is_letter, is_name_unit, lowered, begins}
+use Rattle.rip_values.specs.Units.{small_text, begins}
+use Rattle.rip_markup.specs.Units.{is_space, is_letter, is_name_unit}
 use Rattle.rip_markup.specs.Attributes.{Written, attribute_text, LeadsAttribute, LeadsAttributes}
 use Rattle.rip_markup.specs.Scans.{behind, attribute_at}
 use Rattle.rip_markup.specs.Ends.{has_solidus, end_count}
@@ -53,7 +54,7 @@ some_attributes (suc fuel) text h = attributes_by text (attribute_at text) refl 
 some_tag : (text : List ℕ) → begins is_letter text ≡ true → (tag : StartTag) × (count : ℕ) × IsStartTag text tag count
 some_tag text letter =
     let spelled = take_while is_name_unit text in
-    let name = lowered spelled in
+    let name = small_text spelled in
     let after = behind is_name_unit text in
     let r = some_attributes (suc (length after)) after (omega arith) in
     let ws = r.0 in

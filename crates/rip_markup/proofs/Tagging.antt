@@ -1,7 +1,8 @@
 -- A start tag as it was read is one.
 use Rattle.std.proofs.Common.{◌≡◌, ℕ, ◌+◌, ◌-◌, Bool, true, List, ◌++◌, length, take, drop, Option, sym, ap, ◌∙◌, subst}
 use Rattle.std.specs.List.{prefix_len, list_all}
-use Rattle.rip_markup.specs.Units.{is_letter, is_name_unit, lowered, begins}
+use Rattle.rip_values.specs.Units.{small_text, begins}
+use Rattle.rip_markup.specs.Units.{is_letter, is_name_unit}
 use Rattle.rip_markup.specs.Tags.{tag_end, tag_fault, AreRead, IsStartTag}
 use Rattle.rip_markup.specs.Ends.{has_solidus, end_count}
 use Rattle.rip_markup.specs.declared.fault.Fault.{Fault}
@@ -12,7 +13,7 @@ use Rattle.rip_markup.proofs.Classes.{letter_name}
 use Rattle.rip_markup.proofs.Turns.{read_end}
 
 pub tag_stands : (behind spelled after : List ℕ) (count : ℕ) (name name' : List ℕ) (pairs : List Attribute) (found : Option Fault) (against : Bool) (place : ℕ) (rest' : List ℕ) (end : TagEnd) (name'' : List ℕ) (fault : Option Fault) (solidus : Bool) (ends : ℕ) →
-    begins is_letter behind ≡ true → count ≡ prefix_len is_name_unit behind → spelled ≡ take count behind → after ≡ drop count behind → name ≡ lowered spelled → name' ≡ name →
+    begins is_letter behind ≡ true → count ≡ prefix_len is_name_unit behind → spelled ≡ take count behind → after ≡ drop count behind → name ≡ small_text spelled → name' ≡ name →
     ((rest : List ℕ) × AreRead name' (1 + length spelled) after rest pairs found against place) → rest' ≡ drop (place - (1 + length spelled)) after →
     end ≡ tag_end rest' → name'' ≡ name → fault ≡ tag_fault name'' against found place end → solidus ≡ has_solidus end → ends ≡ end_count end →
     IsStartTag behind (record { name = name; attributes = pairs; solidus = solidus; fault = fault }) (place + ends)

@@ -1,6 +1,6 @@
 -- The loop over the attributes of a tag.
 use Rattle.std.proofs.Common.{◌≡◌, ℕ, ◌+◌, ◌-◌, drop, drop-drop, Bool, true, false, ◌||◌, List, [], ◌∷◌, ◌++◌, length, map, Option, Some, None, option_map, refl, sym, ap, ◌∙◌, subst, arith, append_assoc, append-nil}
-use Rattle.rip_markup.specs.Units.{lowered}
+use Rattle.rip_values.specs.Units.{small_text}
 use Rattle.rip_markup.specs.Words.{is_among}
 use Rattle.rip_markup.specs.Attributes.{Written, attribute_text, LeadsAttribute, LeadsAttributes}
 use Rattle.rip_markup.specs.Scans.{NoneLeads, ShowsAttribute}
@@ -48,20 +48,20 @@ names-append (p ∷ pairs) more = ap (λ u. p.name ∷ u) (names-append pairs mo
 -- one attribute more, as it is written
 one_more : (tag : List ℕ) (start : ℕ) (text : List ℕ) (place : ℕ) (rest : List ℕ) (pairs : List Attribute) (found : Option Fault) (against : Bool) (a : Written) (more : List ℕ) → ReadsOn tag start text place rest pairs found against → LeadsAttribute rest a more →
     ReadsOn tag start text (place + length (attribute_text a [])) more (pairs ++ pair_of a ∷ [])
-    (option_or found (option_map (shifted (place + length a.space)) (attribute_fault tag (is_among (names_of pairs) (lowered a.name)) (read_of a))))
-    (against || is_against tag (is_among (names_of pairs) (lowered a.name)) (read_of a))
+    (option_or found (option_map (shifted (place + length a.space)) (attribute_fault tag (is_among (names_of pairs) (small_text a.name)) (read_of a))))
+    (against || is_against tag (is_among (names_of pairs) (small_text a.name)) (read_of a))
 one_more tag start text place rest pairs found against a more reads fit others end leads =
     let base = reads (a ∷ others) end (more, fit, leads) in
-    let seen : names_of (pairs ++ pair_of a ∷ []) ≡ names_of pairs ++ lowered a.name ∷ [] = names-append pairs (pair_of a ∷ []) in
-    let here = option_map (shifted (place + length a.space)) (attribute_fault tag (is_among (names_of pairs) (lowered a.name)) (read_of a)) in
-    let now = is_against tag (is_among (names_of pairs) (lowered a.name)) (read_of a) in
+    let seen : names_of (pairs ++ pair_of a ∷ []) ≡ names_of pairs ++ small_text a.name ∷ [] = names-append pairs (pair_of a ∷ []) in
+    let here = option_map (shifted (place + length a.space)) (attribute_fault tag (is_among (names_of pairs) (small_text a.name)) (read_of a)) in
+    let now = is_against tag (is_among (names_of pairs) (small_text a.name)) (read_of a) in
     let next = place + length (attribute_text a []) in
     record {
       attributes = base.attributes;
       leads = base.leads;
       pairs-is = base.pairs-is ∙ sym (append_assoc pairs (pair_of a ∷ []) (map pair_of others));
-      found-is = base.found-is ∙ sym (option_or-assoc found here (attributes_fault tag next (names_of pairs ++ lowered a.name ∷ []) others)) ∙ ap (λ s. option_or (option_or found here) (attributes_fault tag next s others)) (sym seen);
-      against-is = base.against-is ∙ sym (or_assoc against now (are_against tag (names_of pairs ++ lowered a.name ∷ []) others)) ∙ ap (λ s. (against || now) || are_against tag s others) (sym seen);
+      found-is = base.found-is ∙ sym (option_or-assoc found here (attributes_fault tag next (names_of pairs ++ small_text a.name ∷ []) others)) ∙ ap (λ s. option_or (option_or found here) (attributes_fault tag next s others)) (sym seen);
+      against-is = base.against-is ∙ sym (or_assoc against now (are_against tag (names_of pairs ++ small_text a.name ∷ []) others)) ∙ ap (λ s. (against || now) || are_against tag s others) (sym seen);
       place-is = omega (arith, base.place-is);
     }
 
@@ -78,18 +78,18 @@ read_more tag start text place rest pairs found against space name before value 
     let befores = shows.before-is in
     let values = shows.value-is in
     let same : read ≡ read_of a = read-is ∙ (λ i. read_parts (names i) (befores i) (values i)) in
-    let twice : double ≡ is_among (names_of pairs) (lowered a.name) = double-is ∙ ap (λ (r : ReadAttribute). is_among (names_of pairs) r.name) same in
+    let twice : double ≡ is_among (names_of pairs) (small_text a.name) = double-is ∙ ap (λ (r : ReadAttribute). is_among (names_of pairs) r.name) same in
     let spaces = shows.space-is in
     let next : place + length (attribute_text a []) ≡ place' = omega (arith, ap length shows.leads.0, attribute_length a more) in
-    let founds : option_or found (option_map (shifted (place + length a.space)) (attribute_fault tag (is_among (names_of pairs) (lowered a.name)) (read_of a))) ≡ found' =
+    let founds : option_or found (option_map (shifted (place + length a.space)) (attribute_fault tag (is_among (names_of pairs) (small_text a.name)) (read_of a))) ≡ found' =
     sym (found-is ∙ (λ i. option_or found (option_map (shifted (place + spaces i)) (attribute_fault tag (twice i) (same i))))) in
-    let againsts : (against || is_against tag (is_among (names_of pairs) (lowered a.name)) (read_of a)) ≡ against' =
+    let againsts : (against || is_against tag (is_among (names_of pairs) (small_text a.name)) (read_of a)) ≡ against' =
     sym (against-is ∙ (λ i. against || is_against tag (twice i) (same i))) in
     let all : pairs ++ pair_of a ∷ [] ≡ pairs' = sym (pairs-is ∙ ap (λ (r : ReadAttribute). pairs ++ (record { name = r.name; value = r.value } ∷ [])) same) in
     subst (λ n. ReadsOn tag start text n more pairs' found' against') next
     (subst (λ ps. ReadsOn tag start text (place + length (attribute_text a [])) more ps found' against') all
     (subst (λ f. ReadsOn tag start text (place + length (attribute_text a [])) more (pairs ++ pair_of a ∷ []) f against') founds
-    (subst (λ b. ReadsOn tag start text (place + length (attribute_text a [])) more (pairs ++ pair_of a ∷ []) (option_or found (option_map (shifted (place + length a.space)) (attribute_fault tag (is_among (names_of pairs) (lowered a.name)) (read_of a)))) b) againsts
+    (subst (λ b. ReadsOn tag start text (place + length (attribute_text a [])) more (pairs ++ pair_of a ∷ []) (option_or found (option_map (shifted (place + length a.space)) (attribute_fault tag (is_among (names_of pairs) (small_text a.name)) (read_of a)))) b) againsts
     (one_more tag start text place rest pairs found against a more reads shows.leads))))
 
 -- at the end all are read

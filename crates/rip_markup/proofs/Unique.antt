@@ -2,7 +2,8 @@
 use Rattle.std.proofs.Common.{◌≡◌, ℕ, ◌+◌, Bool, true, false, List, [], ◌∷◌, length, drop, map, take_while, Option, MatchBool, refl, sym, ap, ◌∙◌, subst}
 use Rattle.std.proofs.lemmas.Option.{same_Some}
 use Rattle.std.proofs.lemmas.List.{drop_at}
-use Rattle.rip_markup.specs.Units.{is_name_unit, lowered}
+use Rattle.rip_values.specs.Units.{small_text}
+use Rattle.rip_markup.specs.Units.{is_name_unit}
 use Rattle.rip_markup.specs.Attributes.{Written, attribute_text, LeadsAttribute, LeadsAttributes}
 use Rattle.rip_markup.specs.Scans.{behind, attribute_at}
 use Rattle.rip_markup.specs.Ends.{has_solidus, end_count}
@@ -65,18 +66,18 @@ one_start : (units : List ℕ) (t u : StartTag) (n m : ℕ) → IsStartTag units
 one_start units t u n m x y =
     let names : x.name ≡ y.name = sym (run_is is_name_unit x.name x.after x.each x.longest) ∙ ap (take_while is_name_unit) (sym x.splits ∙ y.splits) ∙ run_is is_name_unit y.name y.after y.each y.longest in
     let afters : x.after ≡ y.after = sym (behind_is is_name_unit x.name x.after x.each x.longest) ∙ ap (behind is_name_unit) (sym x.splits ∙ y.splits) ∙ behind_is is_name_unit y.name y.after y.each y.longest in
-    let other : AreRead (lowered x.name) (1 + length x.name) x.after y.rest u.attributes y.found y.against y.place =
-    subst (λ a. AreRead (lowered x.name) (1 + length x.name) a y.rest u.attributes y.found y.against y.place) (sym afters)
-    (subst (λ k. AreRead (lowered k) (1 + length k) y.after y.rest u.attributes y.found y.against y.place) (sym names) y.read) in
-    let same = one_read (lowered x.name) (1 + length x.name) x.after x.rest y.rest t.attributes u.attributes x.found y.found x.against y.against x.place y.place x.read other in
+    let other : AreRead (small_text x.name) (1 + length x.name) x.after y.rest u.attributes y.found y.against y.place =
+    subst (λ a. AreRead (small_text x.name) (1 + length x.name) a y.rest u.attributes y.found y.against y.place) (sym afters)
+    (subst (λ k. AreRead (small_text k) (1 + length k) y.after y.rest u.attributes y.found y.against y.place) (sym names) y.read) in
+    let same = one_read (small_text x.name) (1 + length x.name) x.after x.rest y.rest t.attributes u.attributes x.found y.found x.against y.against x.place y.place x.read other in
     let rests = same.rests in
     let founds = same.founds in
     let againsts = same.againsts in
     let places = same.places in
-    let name-same : t.name ≡ u.name = x.name-is ∙ ap lowered names ∙ sym y.name-is in
+    let name-same : t.name ≡ u.name = x.name-is ∙ ap small_text names ∙ sym y.name-is in
     let all = same.all in
     let solid : t.solidus ≡ u.solidus = x.solidus-is ∙ ap (λ r. has_solidus (tag_end r)) rests ∙ sym y.solidus-is in
-    let faults : t.fault ≡ u.fault = x.fault-is ∙ (λ i. tag_fault (lowered (names i)) (againsts i) (founds i) (places i) (tag_end (rests i))) ∙ sym y.fault-is in (
+    let faults : t.fault ≡ u.fault = x.fault-is ∙ (λ i. tag_fault (small_text (names i)) (againsts i) (founds i) (places i) (tag_end (rests i))) ∙ sym y.fault-is in (
       (λ i. record { name = name-same i; attributes = all i; solidus = solid i; fault = faults i }),
       x.count-is ∙ (λ i. places i + end_count (tag_end (rests i))) ∙ sym y.count-is,
     )

@@ -7,7 +7,8 @@ use Rattle.std.specs.Prelude.{codes}
 use Rattle.std.specs.List.{prefix_len, AllByRecursion}
 use Rattle.rip_values.specs.declared.page.PageKind.{PageKind}
 use Rattle.rip_values.specs.declared.page.PageKind.TheVariants.{BadTag, BadAttribute, DoubleAttribute, BadReference, ExternalScript, NotInSubset}
-use Rattle.rip_markup.specs.Units.{is_space, is_letter, is_name_unit, lowered, begins}
+use Rattle.rip_values.specs.Units.{small_text, begins}
+use Rattle.rip_markup.specs.Units.{is_space, is_letter, is_name_unit}
 use Rattle.rip_markup.specs.Words.{is_among, void_names, begins_with, script_types}
 use Rattle.rip_markup.specs.Attributes.{Written, attribute_text, value_units, value_offset, LeadsAttribute, LeadsAttributes}
 use Rattle.rip_markup.specs.Scans.{behind, value_close}
@@ -97,13 +98,13 @@ attribute_within tag double a = fault_cond double (fault 0 DoubleAttribute) (own
 attributes_within : (ws : List Written) (tag : List ℕ) (place : ℕ) (seen : List (List ℕ)) → FaultWithin (attributes_fault tag place seen ws) (place + attributes_length ws)
 attributes_within [] tag place seen = tt
 attributes_within (a ∷ others) tag place seen =
-    let own = attribute_fault tag (is_among seen (lowered a.name)) (read_of a) in
-    let whole = attributes_fault tag (place + length (attribute_text a [])) (seen ++ lowered a.name ∷ []) others in
+    let own = attribute_fault tag (is_among seen (small_text a.name)) (read_of a) in
+    let whole = attributes_fault tag (place + length (attribute_text a [])) (seen ++ small_text a.name ∷ []) others in
     let most = place + (length (attribute_text a []) + attributes_length others) in
     fault_or (option_map (shifted (place + length a.space)) own) whole most
     (fault_more (option_map (shifted (place + length a.space)) own) _ most (omega (arith, attribute_long a []))
-    (fault_shifted own (place + length a.space) (length a.name + value_offset a.value + length (value_units a.value)) (attribute_within tag (is_among seen (lowered a.name)) a)))
-    (fault_more whole _ most (omega arith) (attributes_within others tag (place + length (attribute_text a [])) (seen ++ lowered a.name ∷ [])))
+    (fault_shifted own (place + length a.space) (length a.name + value_offset a.value + length (value_units a.value)) (attribute_within tag (is_among seen (small_text a.name)) a)))
+    (fault_more whole _ most (omega arith) (attributes_within others tag (place + length (attribute_text a [])) (seen ++ small_text a.name ∷ [])))
 
 leads_long : (ws : List Written) (text rest : List ℕ) → LeadsAttributes text ws rest → length text ≡ attributes_length ws + length rest
 leads_long [] text rest h = ap length h.0 ∙ omega arith
@@ -148,8 +149,8 @@ start_within text tag count it =
     let parts : length text ≡ length it.name + length it.after = ap length it.splits ∙ length-append it.name it.after in
     let long = leads_long r.attributes it.after it.rest r.leads in
     let end = tag_end_within it.rest in
-    let inner : FaultWithin it.found it.place = subst (λ n. FaultWithin it.found n) r.place-is (subst (λ (o : Option Fault). FaultWithin o (1 + length it.name + attributes_length r.attributes)) r.found-is (attributes_within r.attributes (lowered it.name) (1 + length it.name) [])) in
-    let whole : FaultWithin tag.fault (it.place + end_space (tag_end it.rest)) = subst (λ (o : Option Fault). FaultWithin o (it.place + end_space (tag_end it.rest))) (sym it.fault-is) (tag_by (lowered it.name) it.against it.found it.place (tag_end it.rest) inner) in
+    let inner : FaultWithin it.found it.place = subst (λ n. FaultWithin it.found n) r.place-is (subst (λ (o : Option Fault). FaultWithin o (1 + length it.name + attributes_length r.attributes)) r.found-is (attributes_within r.attributes (small_text it.name) (1 + length it.name) [])) in
+    let whole : FaultWithin tag.fault (it.place + end_space (tag_end it.rest)) = subst (λ (o : Option Fault). FaultWithin o (it.place + end_space (tag_end it.rest))) (sym it.fault-is) (tag_by (small_text it.name) it.against it.found it.place (tag_end it.rest) inner) in
     (omega (arith, it.count-is, r.place-is, parts, long, end), fault_more tag.fault _ _ (omega (arith, r.place-is, parts, long, end)) whole)
 
 before_by : (b : Bool) (c : ℕ) (rest more : List ℕ) → length more ≤ length rest → length (cond b [] (c ∷ more)) ≤ suc (length rest)

@@ -1,6 +1,7 @@
 -- What a page begins with at a place, by its first units (HTML 13.1, 13.2.5). Units by number: 60 is `<`, 62 `>`.
 use Rattle.std.specs.Prelude.{ℕ, Bool, true, false, not, ◌&&◌, ◌==◌, if◌then◌else◌, List, [], ◌∷◌, length, drop, codes}
-use Rattle.rip_markup.specs.Units.{is_space, is_letter, lower, begins}
+use Rattle.rip_values.specs.Units.{small_unit, begins}
+use Rattle.rip_markup.specs.Units.{is_space, is_letter}
 use Rattle.rip_markup.specs.Words.{begins_with}
 use Rattle.rip_markup.specs.Scans.{behind}
 use Rattle.rip_markup.specs.declared.form.Form.{Form}
@@ -12,7 +13,7 @@ use Rattle.rip_markup.specs.declared.form.Stop.TheVariants as S
 abbrev pub begins_small : List ℕ → List ℕ → Bool
 begins_small [] text = true
 begins_small (c ∷ front) [] = false
-begins_small (c ∷ front) (d ∷ text) = (lower d == c) && begins_small front text
+begins_small (c ∷ front) (d ∷ text) = (small_unit d == c) && begins_small front text
 
 -- a doctype stands behind the `<`: `!doctype` in any case, and somewhere a `>`
 abbrev pub is_doctype : List ℕ → Bool

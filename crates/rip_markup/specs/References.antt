@@ -4,7 +4,8 @@ use Rattle.std.specs.Prelude.{◌≡◌, ℕ, ◌+◌, ◌*◌, Bool, true, fals
 use Rattle.std.specs.Str.{bytes_eq}
 use Rattle.std.specs.List.{list_all}
 use Rattle.std.specs.Char.Escape.{encode_utf16}
-use Rattle.rip_markup.specs.Units.{is_between, is_letter, is_digit, is_hex_digit, digit_value, begins}
+use Rattle.rip_values.specs.Units.{is_between, is_hex_digit, hex_value, begins}
+use Rattle.rip_markup.specs.Units.{is_letter, is_digit}
 
 -- the code point of a reference by name
 unfoldable pub named_code : List ℕ → Option ℕ
@@ -19,7 +20,7 @@ named_code name =
 
 -- the number that digits stand for
 abbrev pub number_of : ℕ → List ℕ → ℕ
-number_of base digits = fold (λ n c. n * base + digit_value c) 0 digits
+number_of base digits = fold (λ n c. n * base + hex_value c) 0 digits
 
 -- a code point that no reference may name: 0, a control of Latin-1, a surrogate, or past Unicode
 abbrev pub is_refused_code : ℕ → Bool

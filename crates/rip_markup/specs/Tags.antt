@@ -3,7 +3,8 @@
 use Rattle.std.specs.Prelude.{◌≡◌, ℕ, ◌+◌, Bool, true, false, not, ◌||◌, ◌&&◌, ◌==◌, if◌then◌else◌, List, [], ◌∷◌, ◌++◌, length, Option, Some, None, is_none, option_map, map, codes}
 use Rattle.std.specs.Str.{bytes_eq}
 use Rattle.std.specs.List.{list_all, prefix_len}
-use Rattle.rip_markup.specs.Units.{is_space, is_letter, is_name_unit, lowered, begins}
+use Rattle.rip_values.specs.Units.{small_text, begins}
+use Rattle.rip_markup.specs.Units.{is_space, is_letter, is_name_unit}
 use Rattle.rip_markup.specs.Words.{is_among, void_names, script_types, begins_with}
 use Rattle.rip_markup.specs.Steps.{decoded, bad_reference}
 use Rattle.rip_markup.specs.Attributes.{Written, attribute_text, value_units, value_offset, LeadsAttributes}
@@ -35,18 +36,18 @@ tag_end rest = end_behind (prefix_len is_space rest) (behind is_space rest)
 -- is none, counted from the attribute's first unit
 abbrev pub read_of : Written → ReadAttribute
 read_of a = record {
-  name = lowered a.name;
+  name = small_text a.name;
   value = decoded 0 (value_units a.value);
   bad = option_map (λ place. length a.name + value_offset a.value + place) (bad_reference 0 0 (value_units a.value));
 }
 
 -- the attribute that is written so
 abbrev pub pair_of : Written → Attribute
-pair_of a = record { name = lowered a.name; value = decoded 0 (value_units a.value) }
+pair_of a = record { name = small_text a.name; value = decoded 0 (value_units a.value) }
 
 -- the value, in small letters, is among these words
 abbrev pub is_value : List (List ℕ) → ReadAttribute → Bool
-is_value words r = is_none r.bad && is_among words (lowered r.value)
+is_value words r = is_none r.bad && is_among words (small_text r.value)
 
 -- a `type` that no script may have: a value with a reference that is none is none of those that it may
 abbrev pub type_fault : List ℕ → ReadAttribute → Option Fault
@@ -73,8 +74,8 @@ attributes_length (a ∷ others) = length (attribute_text a []) + attributes_len
 abbrev pub attributes_fault : List ℕ → ℕ → List (List ℕ) → List Written → Option Fault
 attributes_fault tag place seen [] = None
 attributes_fault tag place seen (a ∷ others) =
-    option_or (option_map (shifted (place + length a.space)) (attribute_fault tag (is_among seen (lowered a.name)) (read_of a)))
-    (attributes_fault tag (place + length (attribute_text a [])) (seen ++ lowered a.name ∷ []) others)
+    option_or (option_map (shifted (place + length a.space)) (attribute_fault tag (is_among seen (small_text a.name)) (read_of a)))
+    (attributes_fault tag (place + length (attribute_text a [])) (seen ++ small_text a.name ∷ []) others)
 
 -- an `input` that is a radio button, and a `select` that takes more than one option, by this attribute
 abbrev pub is_radio : List ℕ → ReadAttribute → Bool
@@ -91,7 +92,7 @@ is_against tag double r = not double && (is_radio tag r || is_multiple tag r)
 -- one of these attributes, behind attributes of these names, is such
 abbrev pub are_against : List ℕ → List (List ℕ) → List Written → Bool
 are_against tag seen [] = false
-are_against tag seen (a ∷ others) = is_against tag (is_among seen (lowered a.name)) (read_of a) || are_against tag (seen ++ lowered a.name ∷ []) others
+are_against tag seen (a ∷ others) = is_against tag (is_among seen (small_text a.name)) (read_of a) || are_against tag (seen ++ small_text a.name ∷ []) others
 
 -- Where a tag of this name is refused for itself, counted from its `<`, and why, where the first fault of its
 -- attributes is this one and they end at this place. What refuses the whole tag counts at its `<`. Where an attribute
@@ -123,12 +124,12 @@ pub record IsStartTag (behind : List ℕ) (tag : StartTag) (count : ℕ) : Type 
   pub letter : begins is_letter name ≡ true
   pub each : list_all is_name_unit name ≡ true
   pub longest : begins is_name_unit after ≡ false
-  pub name-is : tag.name ≡ lowered name
+  pub name-is : tag.name ≡ small_text name
   pub rest : List ℕ
   pub found : Option Fault
   pub against : Bool
   pub place : ℕ
-  pub read : AreRead (lowered name) (1 + length name) after rest tag.attributes found against place
-  pub fault-is : tag.fault ≡ tag_fault (lowered name) against found place (tag_end rest)
+  pub read : AreRead (small_text name) (1 + length name) after rest tag.attributes found against place
+  pub fault-is : tag.fault ≡ tag_fault (small_text name) against found place (tag_end rest)
   pub solidus-is : tag.solidus ≡ has_solidus (tag_end rest)
   pub count-is : count ≡ place + end_count (tag_end rest)

@@ -3,7 +3,8 @@
 use Rattle.std.specs.Prelude.{◌≡◌, ℕ, ◌+◌, Bool, true, false, not, ◌&&◌, ◌==◌, nat_lt, if◌then◌else◌, List, [], ◌∷◌, length, drop, Option, Some, None, is_some, option_map, take_while, MatchBool, codes}
 use Rattle.std.specs.Str.{bytes_eq}
 use Rattle.std.specs.List.{prefix_len}
-use Rattle.rip_markup.specs.Units.{is_space, is_name_unit, lowered, begins}
+use Rattle.rip_values.specs.Units.{small_text, begins}
+use Rattle.rip_markup.specs.Units.{is_space, is_name_unit}
 use Rattle.rip_markup.specs.Words.{begins_with}
 use Rattle.rip_markup.specs.Steps.{decoded, bad_reference}
 use Rattle.rip_markup.specs.Scans.{behind}
@@ -62,7 +63,7 @@ comment_count text = if begins_with (codes "-->") (behind_comment text) then len
 -- the end tag whose `</` these units follow: a name, space or none, and `>`
 abbrev pub end_tag : List ℕ → EndTag
 end_tag named = record {
-  name = lowered (take_while is_name_unit named);
+  name = small_text (take_while is_name_unit named);
   whole = begins (λ c. c == 62) (behind is_space (behind is_name_unit named));
 }
 

@@ -1,16 +1,16 @@
 ghost use Rattle.std.specs.Prelude.{◌≡◌, ◌==◌, ◌≤◌, ◌<◌, ◌^◌, ◌+◌, ℕ, not, option_map, IfSome, IfOk, MatchOption, length};
 ghost use Rattle.std.specs.Option.{ForSome};
-ghost use Rattle.rip_markup.specs.Units.{lowered};
 ghost use Rattle.std.specs.List.{prefix_len};
+ghost use Rattle.rip_values.specs.Units.{small_text};
 ghost use Rattle.rip_markup.specs.Scans.{attribute_at, named_at, value_at, given_at, quoted_at, unquoted_at, shown, shown_value, NoneLeads, ShowsAttribute};
 ghost use Rattle.rip_markup.specs.Reads.{read_parts};
 
 use crate::ascii::EQUALS;
 use crate::text::decode;
 use crate::units::{
-    attribute_name_count, begins_with_letter, is_quote, lower, space_count, unquoted_count,
+    attribute_name_count, begins_with_letter, is_quote, space_count, unquoted_count,
 };
-use rip_values::{List, NoMemory, Units};
+use rip_values::{List, NoMemory, Units, small_unit};
 use std::alloc::Global;
 
 /// How many units an attribute has before its value, in it and behind it.
@@ -114,9 +114,9 @@ fn shifted_place(by: usize, place: Option<usize>) -> Option<usize>
 
 /// The units with small letters.
 pub(crate) fn lowered(alloc: Global, units: &[u16]) -> Result<Units, NoMemory>
-    ensures { IfOk result (λ made. made ≡ lowered units.now) }
+    ensures { IfOk result (λ made. made ≡ small_text units.now) }
 {
-    let small: Vec<u16> = units.iter().map(|unit| lower(*unit)).collect(alloc)?;
+    let small: Vec<u16> = units.iter().map(|unit| small_unit(*unit)).collect(alloc)?;
     Ok(List::from_vec(small))
 }
 

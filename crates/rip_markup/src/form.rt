@@ -1,12 +1,14 @@
 ghost use Rattle.std.specs.Prelude.{◌≡◌, ◌≤◌, ◌==◌, ◌+◌, drop, length};
 ghost use Rattle.std.specs.Bool.{OnTrue};
-ghost use Rattle.rip_markup.specs.Units.{begins, is_letter};
+ghost use Rattle.rip_values.specs.Units.{begins};
+ghost use Rattle.rip_markup.specs.Units.{is_letter};
 ghost use Rattle.rip_markup.specs.Words.{begins_with};
 ghost use Rattle.rip_markup.specs.Forms.{begins_small, is_doctype, begins_end_tag, markup_form, form_of, is_end_tag, stops, before};
 
 use crate::ascii::{GREATER, LESS, SLASH};
 use crate::attribute::count_to;
-use crate::units::{begins_with_letter, is_letter, lower, space_count};
+use crate::units::{begins_with_letter, is_letter, space_count};
+use rip_values::small_unit;
 
 /// What a page begins with at a place.
 #[derive(Clone, Copy, Debug, PartialEq, Eq)]
@@ -102,7 +104,7 @@ fn begins_small(text: &[u16], front: &[u8]) -> bool
     let mut rest = text;
     for byte in front {
         match rest {
-            [unit, after @ ..] if lower(*unit) == u16::from(*byte) => rest = after,
+            [unit, after @ ..] if small_unit(*unit) == u16::from(*byte) => rest = after,
             _ => return false,
         }
     }

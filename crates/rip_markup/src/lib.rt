@@ -41,4 +41,4 @@ pub use tag::StartTag;
 pub use text::texts_are_items;
 pub use token::{EndTag, Placed, TextRun, Token};
 pub use tokenizer::{texts_have_tokens, tokens, tokens_are_one, tokens_are_within};
-pub use words::{is_refused, is_void, same};
+pub use words::{is_refused, is_void};

@@ -1,11 +1,13 @@
 ghost use Rattle.std.specs.Prelude.{◌≡◌, ◌<◌, ◌≤◌, ◌+◌, Some, None, IfSome, IfNone, length};
 ghost use Rattle.std.specs.List.{prefix_len, list_all};
-ghost use Rattle.rip_markup.specs.Units.{begins, is_digit, is_hex_digit};
+ghost use Rattle.rip_values.specs.Units.{begins, is_hex_digit};
+ghost use Rattle.rip_markup.specs.Units.{is_digit};
 ghost use Rattle.rip_markup.specs.References.{named_code, number_of, is_refused_code, allowed_code, digits_code, number_code, code_of, is_reference_unit, starts_reference};
 ghost use Rattle.rip_markup.specs.Steps.{reference_at, first_step, StepWithin};
 
 use crate::ascii::{AMPERSAND, HASH, SEMICOLON, SMALL_X};
-use crate::units::{digit_value, is_digit, is_hex_digit, is_letter};
+use crate::units::{is_digit, is_letter};
+use rip_values::{hex_value, is_hex_digit};
 
 /// The greatest code point of Unicode.
 const LAST_CODE: u32 = 0x10_FFFF;
@@ -194,7 +196,7 @@ fn number_of(base: u32, digits: &[u16]) -> Option<u32>
 {
     let mut value = 0;
     for digit in digits {
-        value = value * base + u32::from(digit_value(*digit));
+        value = value * base + u32::from(hex_value(*digit));
         if value > LAST_CODE {
             return None;
         }

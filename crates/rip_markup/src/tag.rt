@@ -1,8 +1,9 @@
 ghost use Rattle.std.specs.Prelude.{◌≡◌, ◌+◌, ◌<◌, ◌≤◌, ◌^◌, ◌||◌, ℕ, None, Some, List as Items, option_map, IfOk, IfSome, IsTrue, length};
 ghost use Rattle.std.specs.Option.{ForSome};
+ghost use Rattle.rip_values.specs.Units.{begins};
 ghost use Rattle.rip_markup.specs.Fault.{fault, shifted, option_or};
 ghost use Rattle.rip_markup.specs.Tags.{tag_end, attribute_fault, own_fault, type_fault, is_against, is_radio, is_multiple, tag_fault, AreRead, IsStartTag};
-ghost use Rattle.rip_markup.specs.Units.{begins, is_letter};
+ghost use Rattle.rip_markup.specs.Units.{is_letter};
 ghost use Rattle.rip_markup.specs.Ends.{has_solidus, end_count, end_space};
 
 use crate::ascii::{GREATER, SLASH};
@@ -10,8 +11,10 @@ use crate::attribute::{ReadAttribute, leading_attribute, lowered, read_attribute
 use crate::fault::Fault;
 use crate::names::{add_name, no_names};
 use crate::units::{name_count, space_count};
-use crate::words::{begins_with_on, is_script_type, is_void, same, same_small};
-use rip_values::{Attribute, List, NoMemory, PageKind, PairList, Units};
+use crate::words::{begins_with_on, is_script_type, is_void};
+use rip_values::{
+    Attribute, List, NoMemory, PageKind, PairList, Units, is_ascii, is_ascii_in_small,
+};
 use std::alloc::Global;
 
 /// How a start tag ends behind its attributes.
@@ -242,7 +245,7 @@ fn own_fault(tag: &[u16], read: &ReadAttribute) -> Option<Fault>
     ensures value { result ≡ own_fault tag.now read.now }
     ensures bound { (most : ℕ) → IfSome read.now.bad (λ n. n ≤ most) → IfSome result (λ f. f.offset ≤ most) }
 {
-    if same(tag, b"script") && same(read.name.as_slice(), b"src") {
+    if is_ascii(tag, b"script") && is_ascii(read.name.as_slice(), b"src") {
         return refused(PageKind::ExternalScript);
     }
     if begins_with_on(read.name.as_slice()) {
@@ -265,8 +268,8 @@ fn type_fault(tag: &[u16], read: &ReadAttribute) -> Option<Fault>
     ensures value { result ≡ type_fault tag.now read.now }
     ensures bound { IfSome result (λ f. f.offset ≡ 0) }
 {
-    if same(tag, b"script")
-        && same(read.name.as_slice(), b"type")
+    if is_ascii(tag, b"script")
+        && is_ascii(read.name.as_slice(), b"type")
         && (read.bad.is_some() || !is_script_type(read.value.as_slice()))
     {
         refused(PageKind::NotInSubset)
@@ -286,15 +289,15 @@ fn is_against(tag: &[u16], double: bool, read: &ReadAttribute) -> bool
 fn is_radio(tag: &[u16], read: &ReadAttribute) -> bool
     ensures { result ≡ is_radio tag.now read.now }
 {
-    same(tag, b"input")
-        && same(read.name.as_slice(), b"type")
+    is_ascii(tag, b"input")
+        && is_ascii(read.name.as_slice(), b"type")
         && read.bad.is_none()
-        && same_small(read.value.as_slice(), b"radio")
+        && is_ascii_in_small(read.value.as_slice(), b"radio")
 }
 
 /// Whether a `select` takes more than one option by this attribute.
 fn is_multiple(tag: &[u16], read: &ReadAttribute) -> bool
     ensures { result ≡ is_multiple tag.now read.now }
 {
-    same(tag, b"select") && same(read.name.as_slice(), b"multiple")
+    is_ascii(tag, b"select") && is_ascii(read.name.as_slice(), b"multiple")
 }

@@ -3,8 +3,7 @@ ghost use Rattle.rip_markup.specs.Tokens.{is_last, content_of, content_after, dr
 
 use crate::fault::Fault;
 use crate::tag::StartTag;
-use crate::words::same;
-use rip_values::Units;
+use rip_values::{Units, is_ascii};
 
 /// A text between tags, or the text of an element that holds nothing else.
 #[derive(Debug, Drop)]
@@ -93,15 +92,15 @@ impl Token {
 fn content_of(name: &[u16]) -> Content
     ensures { result ≡ content_of name.now }
 {
-    if same(name, b"script") {
+    if is_ascii(name, b"script") {
         Content::Script
-    } else if same(name, b"style") {
+    } else if is_ascii(name, b"style") {
         Content::Style
-    } else if same(name, b"title") {
+    } else if is_ascii(name, b"title") {
         Content::Title
-    } else if same(name, b"textarea") {
+    } else if is_ascii(name, b"textarea") {
         Content::Textarea
-    } else if same(name, b"pre") {
+    } else if is_ascii(name, b"pre") {
         Content::Preformatted
     } else {
         Content::Markup

@@ -1,6 +1,7 @@
-ghost use Rattle.std.specs.Prelude.{◌≡◌, ◌≢◌, ◌<◌, ◌≤◌, length};
+ghost use Rattle.std.specs.Prelude.{◌≡◌, ◌≤◌, length};
 ghost use Rattle.std.specs.List.{prefix_len};
-ghost use Rattle.rip_markup.specs.Units.{is_space, is_letter, is_digit, is_hex_digit, digit_value, is_name_unit, is_attribute_unit, is_quote, is_unquoted, lower, begins};
+ghost use Rattle.rip_values.specs.Units.{begins};
+ghost use Rattle.rip_markup.specs.Units.{is_space, is_letter, is_digit, is_name_unit, is_attribute_unit, is_quote, is_unquoted};
 
 /// Whether the unit is TAB, LF, FF or SP.
 #[tactic(auto, unfolding(crate::specs::Units::is_space))]
@@ -24,28 +25,6 @@ pub(crate) fn is_digit(unit: u16) -> bool
     ensures { result ≡ is_digit unit }
 {
     matches!(unit, 0x30..=0x39)
-}
-
-/// Whether the unit is a hexadecimal digit.
-#[tactic(auto, unfolding(crate::specs::Units::is_hex_digit))]
-pub(crate) fn is_hex_digit(unit: u16) -> bool
-    ensures { result ≡ is_hex_digit unit }
-{
-    matches!(unit, 0x30..=0x39 | 0x61..=0x66 | 0x41..=0x46)
-}
-
-/// The number that a digit stands for, and 0 for any other unit.
-#[tactic(auto, unfolding(crate::specs::Units::digit_value))]
-pub(crate) fn digit_value(unit: u16) -> u16
-    ensures value { result ≡ digit_value unit }
-    ensures small { result < 16 }
-{
-    match unit {
-        0x30..=0x39 => unit - 0x30,
-        0x61..=0x66 => unit - 0x57,
-        0x41..=0x46 => unit - 0x37,
-        _ => 0,
-    }
 }
 
 /// Whether an element's name may hold the unit.
@@ -78,17 +57,6 @@ pub(crate) fn is_unquoted(unit: u16) -> bool
     ensures { result ≡ is_unquoted unit }
 {
     !(is_space(unit) || is_quote(unit) || matches!(unit, 0x3D | 0x3C | 0x3E | 0x60))
-}
-
-/// The unit with a capital of ASCII made small.
-#[tactic(auto, unfolding(crate::specs::Units::lower))]
-pub(crate) fn lower(unit: u16) -> u16
-    ensures { result ≡ lower unit }
-{
-    match unit {
-        0x41..=0x5A => unit + 32,
-        _ => unit,
-    }
 }
 
 /// How many units of space the units begin with.
