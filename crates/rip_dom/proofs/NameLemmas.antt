@@ -5,6 +5,7 @@ use Rattle.std.proofs.lemmas.Bool.{eq-eqb, ne_eqb}
 use Rattle.std.proofs.lemmas.List.{drop_more, drop_all}
 use Rattle.rip_values.specs.declared.value.Span.{Span}
 use Rattle.rip_values.specs.Pool.{Texts}
+use Rattle.rip_values.specs.Units.{small_unit}
 use Rattle.rip_dom.specs.declared.dom.NodeRecord.{NodeRecord}
 use Rattle.rip_dom.specs.declared.lists.Ends.{Ends}
 use Rattle.rip_dom.specs.declared.lists.Item.{Item}
@@ -12,7 +13,7 @@ use Rattle.rip_dom.specs.Lists.{Lists, list_at}
 use Rattle.rip_dom.specs.Linked.{ends_at, item_at, walk, lists_of}
 use Rattle.rip_dom.specs.Tree.{Node}
 use Rattle.rip_dom.specs.Document.{pair_at, tree_of}
-use Rattle.rip_dom.specs.Names.{small_unit, is_small, has_name, attribute_of, is_named}
+use Rattle.rip_dom.specs.Names.{is_small, has_name, attribute_of, is_named}
 use Rattle.rip_dom.proofs.TreeLemmas.{Fits, node-at}
 use Rattle.rip_dom.proofs.WalkLemmas.{walk-list}
 

@@ -1,14 +1,15 @@
 -- Elements and attributes that are made, with names in small letters (DOM Level 2 Core 1.2).
-use Rattle.std.specs.Prelude.{◌≡◌, ℕ, ◌+◌, ◌==◌, ◌&&◌, ◌||◌, not, nat_le, nat_lt, Bool, false, if◌then◌else◌, Option, None, Some, List, [], ◌∷◌, length, map, Result, Ok, Err}
+use Rattle.std.specs.Prelude.{◌≡◌, ℕ, ◌+◌, ◌==◌, ◌&&◌, ◌||◌, not, nat_le, nat_lt, Bool, false, if◌then◌else◌, Option, None, Some, List, [], ◌∷◌, length, Result, Ok, Err}
 use Rattle.std.specs.List.{list_all}
 use Rattle.rip_values.specs.declared.page.NodeKind.TheVariants.{Element}
 use Rattle.rip_values.specs.declared.value.Limit.TheVariants.{Nodes, Units}
 use Rattle.rip_values.specs.declared.value.Refused.TheVariants.{Limit as At}
 use Rattle.rip_values.specs.declared.value.Span.{Span}
 use Rattle.rip_values.specs.Pool.{Texts, text_at, span_behind, with_text}
+use Rattle.rip_values.specs.Units.{small_unit, small_text}
 use Rattle.rip_dom.specs.declared.creation.DomRefused.{DomRefused}
 use Rattle.rip_dom.specs.declared.creation.DomRefused.TheVariants.{Code, Refused}
-use Rattle.rip_dom.specs.Names.{small_unit, is_small}
+use Rattle.rip_dom.specs.Names.{is_small}
 use Rattle.rip_dom.specs.Opening.{Opening}
 use Rattle.rip_dom.specs.Tree.{with_node}
 
@@ -24,10 +25,6 @@ is_name_unit u = is_letter u || ((nat_le 48 u && nat_le u 57) || u == 45)
 abbrev pub is_element_name : List ℕ → Bool
 is_element_name [] = false
 is_element_name (u ∷ us) = is_letter u && list_all is_name_unit us
-
--- the text in small letters
-abbrev pub small_text : List ℕ → List ℕ
-small_text text = map small_unit text
 
 -- the text has no capitals
 abbrev pub is_all_small : List ℕ → Bool

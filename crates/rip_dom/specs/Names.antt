@@ -1,13 +1,10 @@
 -- Names of attributes, which are compared in small letters.
-use Rattle.std.specs.Prelude.{ℕ, Bool, true, false, ◌+◌, ◌==◌, ◌&&◌, nat_le, if◌then◌else◌, Option, List, [], ◌∷◌, option_map, find}
+use Rattle.std.specs.Prelude.{ℕ, Bool, true, false, ◌==◌, ◌&&◌, if◌then◌else◌, Option, List, [], ◌∷◌, option_map, find}
 use Rattle.rip_values.specs.declared.value.Span.{Span}
 use Rattle.rip_values.specs.Pool.{Texts, text_at}
+use Rattle.rip_values.specs.Units.{small_unit}
 use Rattle.rip_dom.specs.Document.{pair_at}
 use Rattle.rip_dom.specs.Tree.{Tree, node_at, each}
-
--- a unit in small letters: of a capital from A to Z its small letter
-abbrev pub small_unit : ℕ → ℕ
-small_unit u = if nat_le 65 u && nat_le u 90 then u + 32 else u
 
 -- the text is the name in small letters
 abbrev pub is_small : List ℕ → List ℕ → Bool

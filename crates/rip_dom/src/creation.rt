@@ -1,12 +1,13 @@
 ghost use Rattle.std.specs.Prelude.{◌≡◌, ◌+◌, ◌≤◌, OnErr, OnOk, IfErr, IfOk, length, nat_lt, true, false};
 ghost use Rattle.std.specs.List.{list_all};
 ghost use Rattle.rip_values.specs.Pool.{span_behind, text_at, with_text};
-ghost use Rattle.rip_dom.specs.Creation.{Creates, cost_of_name, element_made, element_refusal, is_element_name, is_letter, is_name_unit, kept_name, small_text, with_kept};
+ghost use Rattle.rip_values.specs.Units.{small_text};
+ghost use Rattle.rip_dom.specs.Creation.{Creates, cost_of_name, element_made, element_refusal, is_element_name, is_letter, is_name_unit, kept_name, with_kept};
 
 use crate::dom::{Dom, NodeRecord};
-use crate::names::{is_small, small_unit};
+use crate::names::is_small;
 use crate::units::{end_of, push_unit, unit_at};
-use rip_values::{Limit, NodeKind, Pool, Refused, Span};
+use rip_values::{Limit, NodeKind, Pool, Refused, Span, small_unit};
 use std::alloc::Global;
 
 /// The code of a refusal where a name is not legal (DOM Level 2 Core, INVALID_CHARACTER_ERR).

@@ -54,7 +54,7 @@ pub use attributes::is_attribute_name;
 pub use creation::{DomRefused, INVALID_CHARACTER, is_element_name};
 pub use dom::{Dom, HIERARCHY_REQUEST, NOT_FOUND};
 pub use laws::{numbers_are_new, puts_are_read, puts_leave_others};
-pub use names::{is_small, small_unit};
+pub use names::is_small;
 pub use order::{Step, is_end};
 pub use reading::TextRefused;
 pub use units::{end_of, push_unit, unit_at};

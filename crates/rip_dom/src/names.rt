@@ -1,11 +1,11 @@
 ghost use Rattle.std.specs.Prelude.{◌≡◌, find};
 ghost use Rattle.rip_dom.specs.Lists.{list_at};
-ghost use Rattle.rip_dom.specs.Names.{attribute_of, is_named, is_small, small_unit, without_attribute};
+ghost use Rattle.rip_dom.specs.Names.{attribute_of, is_named, is_small, without_attribute};
 
 use crate::dom::Dom;
 use crate::lists::{LinkedLists, ends_at, item_at};
 use crate::walks::pair_at;
-use rip_values::{Pool, Span};
+use rip_values::{Pool, Span, small_unit};
 
 impl Dom {
     /// The value of the node's attribute of this name, which counts in small letters.
@@ -77,15 +77,4 @@ pub fn is_small(text: &[u16], name: &[u16]) -> bool
         }
     }
     true
-}
-
-/// The unit in small letters.
-pub fn small_unit(unit: u16) -> u16
-    ensures { result ≡ small_unit unit }
-{
-    if 65 <= unit && unit <= 90 {
-        unit + 32
-    } else {
-        unit
-    }
 }
