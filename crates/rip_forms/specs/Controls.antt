@@ -4,7 +4,7 @@ use Rattle.std.specs.List.{list_any}
 use Rattle.std.specs.Str.{bytes_eq}
 use Rattle.rip_values.specs.declared.value.Span.{Span}
 use Rattle.rip_values.specs.Pool.{Texts, text_at}
-use Rattle.rip_dom.specs.Creation.{small_text}
+use Rattle.rip_values.specs.Units.{small_text}
 use Rattle.rip_dom.specs.Names.{attribute_of}
 use Rattle.rip_dom.specs.Tree.{Tree, node_at}
 use Rattle.rip_forms.specs.declared.control.FormPart.{FormPart}

@@ -1,10 +1,10 @@
 ghost use Rattle.std.specs.Prelude.{◌≡◌};
-ghost use Rattle.rip_dom.specs.Creation.{small_text};
+ghost use Rattle.rip_values.specs.Units.{small_text};
 ghost use Rattle.rip_forms.specs.Controls.{has_attribute, input_at, input_of_type, is_control, is_text_control, is_text_type, part_named, part_of};
 
-use crate::words::{TYPE, is_keyword, is_word};
+use crate::words::TYPE;
 use rip_dom::Dom;
-use rip_values::{Pool, Span};
+use rip_values::{Pool, Span, is_ascii, is_ascii_in_small};
 
 /// What a node is to a form: one of the controls (HTML 4.01 17.2.1), or what else the rules of forms speak of.
 #[derive(Clone, Copy, Debug, PartialEq, Eq)]
@@ -74,19 +74,19 @@ pub fn part_of(dom: &Dom, pool: &Pool, n: u32) -> FormPart
 fn part_named(dom: &Dom, pool: &Pool, n: u32, name: &[u16]) -> FormPart
     ensures { result ≡ part_named pool.now dom.now n name.now }
 {
-    if is_word(name, b"input") {
+    if is_ascii(name, b"input") {
         input_part(pool, dom.attribute(pool, n, &TYPE))
-    } else if is_word(name, b"button") {
+    } else if is_ascii(name, b"button") {
         FormPart::Button
-    } else if is_word(name, b"select") {
+    } else if is_ascii(name, b"select") {
         FormPart::Select
-    } else if is_word(name, b"textarea") {
+    } else if is_ascii(name, b"textarea") {
         FormPart::TextArea
-    } else if is_word(name, b"option") {
+    } else if is_ascii(name, b"option") {
         FormPart::Choice
-    } else if is_word(name, b"form") {
+    } else if is_ascii(name, b"form") {
         FormPart::Form
-    } else if is_word(name, b"a") {
+    } else if is_ascii(name, b"a") {
         FormPart::Link
     } else {
         FormPart::Other
@@ -107,9 +107,9 @@ fn part_of_type(spelled: &[u16]) -> FormPart
 {
     if is_text_type(spelled) {
         FormPart::TextInput
-    } else if is_keyword(spelled, b"number") {
+    } else if is_ascii_in_small(spelled, b"number") {
         FormPart::NumberInput
-    } else if is_keyword(spelled, b"checkbox") {
+    } else if is_ascii_in_small(spelled, b"checkbox") {
         FormPart::Checkbox
     } else {
         FormPart::OtherInput
@@ -120,12 +120,12 @@ fn part_of_type(spelled: &[u16]) -> FormPart
 fn is_text_type(spelled: &[u16]) -> bool
     ensures { result ≡ is_text_type (small_text spelled.now) }
 {
-    is_keyword(spelled, b"text")
-        || is_keyword(spelled, b"password")
-        || is_keyword(spelled, b"search")
-        || is_keyword(spelled, b"tel")
-        || is_keyword(spelled, b"url")
-        || is_keyword(spelled, b"email")
+    is_ascii_in_small(spelled, b"text")
+        || is_ascii_in_small(spelled, b"password")
+        || is_ascii_in_small(spelled, b"search")
+        || is_ascii_in_small(spelled, b"tel")
+        || is_ascii_in_small(spelled, b"url")
+        || is_ascii_in_small(spelled, b"email")
 }
 
 /// Whether the node has an attribute of this name.
