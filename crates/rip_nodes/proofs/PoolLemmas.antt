@@ -6,12 +6,13 @@ use Rattle.rip_values.specs.declared.value.Limit.TheVariants.{Fuel, Cells, Units
 use Rattle.rip_values.specs.declared.value.Refused.TheVariants.{Limit as At, Memory}
 use Rattle.rip_values.specs.declared.value.Span.{Span}
 use Rattle.rip_values.specs.Pool.{Texts, text_at, with_text}
+use Rattle.rip_values.specs.Units.{small_text}
 use Rattle.rip_heap.specs.Lending.{PoolGrows}
 use Rattle.rip_dom.specs.declared.creation.DomRefused.{DomRefused}
 use Rattle.rip_dom.specs.declared.reading.TextRefused.{TextRefused}
 use Rattle.rip_dom.specs.declared.reading.TextRefused.TheVariants.{TooLong, Refused}
 use Rattle.rip_dom.specs.Attributes.{Sets, attribute_refusal, attribute_set, has_attribute}
-use Rattle.rip_dom.specs.Creation.{Creates, element_made, element_refusal, is_all_small, small_text, with_kept}
+use Rattle.rip_dom.specs.Creation.{Creates, element_made, element_refusal, is_all_small, with_kept}
 use Rattle.rip_dom.specs.Opening.{Opening}
 use Rattle.rip_dom.specs.Reading.{Reads}
 use Rattle.rip_dom.specs.Tree.{Tree}

@@ -1,6 +1,7 @@
 -- Names in capitals, and names that the profile leaves out.
 use Rattle.std.specs.Prelude.{ℕ, ◌-◌, ◌==◌, ◌&&◌, Bool, false, codes, nat_le, if◌then◌else◌, List, [], ◌∷◌, map}
-use Rattle.rip_dom.specs.Names.{small_unit, is_small}
+use Rattle.rip_values.specs.Units.{small_unit}
+use Rattle.rip_dom.specs.Names.{is_small}
 
 -- a unit in capitals: of a small letter from a to z its capital
 abbrev pub capital_unit : ℕ → ℕ
