@@ -11,7 +11,7 @@
 //! | [`Units::from_utf8`], [`Units::to_utf8`] | `Text.IsSameText`, `Text.IsUtf16` |
 //! | [`is_white_space`], [`is_line_end`] | `Blank.white_space`, `Blank.line_ends` |
 //! | [`number_of_text`] | `Numbers.IsNumberOf`, of the text that `Blank.trimmed` leaves |
-//! | [`whole_of`], [`digit_value`], [`split_sign`], [`trim_start`] | std's `digits_value` and `digit_value`, `Blank.trimmed_start` |
+//! | [`whole_of`], [`digits_value`], [`digit_value`], [`split_sign`], [`trim_start`] | std's `digits_value` and `digit_value`, `Blank.trimmed_start` |
 //! | [`is_hex_digit`], [`hex_value`], [`small_unit`], [`is_ascii`], [`is_ascii_in_small`] | `Units`, one definition each |
 //! | [`text_of_whole`] | std's `signed_decimal` |
 //! | [`Value`] of a number | `Values.value_of_number` |
@@ -55,7 +55,9 @@ pub use global::{GLOBALS, Global};
 pub use limits::{LONGEST_INPUT, LONGEST_TEXT, Limits, MOST_REPLIES};
 pub use list::{Bytes, List, NumberList, Units};
 pub use memory::NoMemory;
-pub use number::{digit_value, number_of_text, split_sign, text_of_whole, whole_of};
+pub use number::{
+    PAST_RANGE, digit_value, digits_value, number_of_text, split_sign, text_of_whole, whole_of,
+};
 pub use operator::{BinaryOperator, LogicalOperator, StepOperator, UnaryOperator};
 pub use page::{Attribute, NodeKind, Page, PageKind, PageNode, PairList};
 pub use pool::Pool;

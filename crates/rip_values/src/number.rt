@@ -16,8 +16,8 @@ use crate::blank::trim;
 use crate::value::{Fault, Numeral};
 use crate::whole::Whole;
 
-// One more than the greatest whole number: larger values count as it.
-const PAST_RANGE: u64 = 9_007_199_254_740_992;
+/// One more than the greatest whole number: larger values of digits count as it.
+pub const PAST_RANGE: u64 = 9_007_199_254_740_992;
 
 const ZERO: u16 = 0x30;
 
@@ -117,15 +117,15 @@ pub fn whole_of(negative: bool, base: u16, digits: &[u16]) -> Result<Numeral, Fa
     requires { base ≤ 36 }
     ensures { IsRanged (signed_value negative (digits_value base digits.now)) result }
 {
-    let magnitude = value_of(base, digits) as i64;
+    let magnitude = digits_value(base, digits) as i64;
     match Whole::new(if negative { -magnitude } else { magnitude }) {
         Some(number) => Ok(Numeral::Num(number)),
         None => Err(Fault::OutOfRange),
     }
 }
 
-// The value of the digits, or `PAST_RANGE` where it is larger.
-fn value_of(base: u16, digits: &[u16]) -> u64
+/// The number that digits stand for in that base, or [`PAST_RANGE`] where it is larger.
+pub fn digits_value(base: u16, digits: &[u16]) -> u64
     requires { base ≤ 36 }
     ensures { result ≡ min (digits_value base digits.now) PAST_RANGE }
 {

@@ -3,7 +3,7 @@ use Rattle.std.specs.Char.{digit_value}
 use Rattle.std.specs.Str.Parse.{digits_value}
 use Rattle.std.proofs.lemmas.Int.Digits.{digits_value_more}
 use Rattle.rip_values.proofs.NumberLemmas.{capped_step}
-use Rattle.rip_values.proofs.number.value_of.Goals as goal
+use Rattle.rip_values.proofs.number.digits_value.Goals as goal
 
 pub loop-digit-preserved : goal.loop-digit-preserved
 loop-digit-preserved c =
