@@ -5,7 +5,6 @@ pub mod Existing
 pub mod Gaps
 pub mod Lexing
 pub mod Longest
-pub mod Numbers
 pub mod Rows
 pub mod Runs
 pub mod Spellings

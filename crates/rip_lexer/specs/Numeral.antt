@@ -1,8 +1,9 @@
 -- Numerals, the whole numbers that they stand for, and those that are refused (ECMA-262 7.8.3, B.1.1). Units by
 -- number: 48 is `0`, 120 and 88 are `x` and `X`, 46, 101 and 69 are `.`, `e` and `E`.
-use Rattle.std.specs.Prelude.{ℕ, ◌+◌, ◌*◌, Bool, false, not, ◌||◌, ◌&&◌, ◌==◌, nat_lt, if◌then◌else◌, List, [], ◌∷◌, length, drop, Option, Some, None, fold}
+use Rattle.std.specs.Prelude.{ℕ, Bool, false, not, ◌||◌, ◌&&◌, ◌==◌, nat_lt, if◌then◌else◌, List, [], ◌∷◌, length, drop, Option, Some, None}
 use Rattle.std.specs.List.{list_all, prefix_len}
-use Rattle.rip_values.specs.Units.{is_one_of, is_hex_digit, hex_value, begins}
+use Rattle.std.specs.Str.Parse.{digits_value}
+use Rattle.rip_values.specs.Units.{is_one_of, is_hex_digit, begins}
 use Rattle.rip_lexer.specs.Units.{is_digit, is_name_unit}
 use Rattle.rip_lexer.specs.Fault.{fault}
 use Rattle.rip_lexer.specs.declared.refusal.Fault.{Fault}
@@ -26,10 +27,6 @@ is_hexadecimal s = has_prefix s && list_all is_hex_digit (drop 2 s)
 -- a numeral, decimal or hexadecimal
 abbrev pub is_numeral : List ℕ → Bool
 is_numeral s = is_decimal s || is_hexadecimal s
-
--- the number that digits stand for
-abbrev pub digits_value : ℕ → List ℕ → ℕ
-digits_value base digits = fold (λ n c. n * base + hex_value c) 0 digits
 
 -- the value of a numeral
 unfoldable pub numeral_value : List ℕ → ℕ

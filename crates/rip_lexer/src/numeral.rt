@@ -1,16 +1,12 @@
-ghost use Rattle.std.specs.Prelude.{◌≡◌, ◌<◌, ◌≤◌, ◌↔◌, [], ◌∷◌, length, pos, Some, IsSome, IfSome, IfNone};
-ghost use Rattle.std.specs.Option.{ForSome};
+ghost use Rattle.std.specs.Prelude.{◌≡◌, ◌≤◌, ◌↔◌, [], ◌∷◌, length, pos, IsSome, IfSome};
 ghost use Rattle.rip_values.specs.Units.{begins, is_one_of};
-ghost use Rattle.rip_lexer.specs.Numeral.{numeral_fault, numeral_value, digits_value, has_prefix};
+ghost use Rattle.rip_lexer.specs.Numeral.{numeral_fault, numeral_value, has_prefix};
 ghost use Rattle.rip_lexer.specs.View.{numeral_count};
 
 use crate::ascii::{CAPITAL_E, CAPITAL_X, POINT, SMALL_E, SMALL_X, ZERO};
 use crate::refusal::{Fault, LexKind};
 use crate::units::{begins_with_digit, begins_with_name_unit, digit_count, hex_digit_count};
-use rip_values::{Whole, hex_value};
-
-/// The greatest value of a numeral, 2^53 - 1.
-const MAX_VALUE: u64 = 9_007_199_254_740_991;
+use rip_values::{Whole, digits_value};
 
 /// How many units the longest numeral has that the units begin with (ECMA-262 7.8.3).
 pub(crate) fn numeral_count(units: &[u16]) -> usize
@@ -79,39 +75,10 @@ pub fn numeral_value(spelling: &[u16]) -> Option<Whole>
     ensures some { IsSome result ↔ (numeral_value spelling.now ≤ 9007199254740991) }
     ensures value { IfSome result (λ whole. whole ≡ pos (numeral_value spelling.now)) }
 {
-    if is_hexadecimal(spelling) {
-        let (_, digits) = spelling.split_at(2);
-        whole_of(digits_value(16, digits))
+    let value = if is_hexadecimal(spelling) {
+        digits_value(16, &spelling[2..])
     } else {
-        whole_of(digits_value(10, spelling))
-    }
-}
-
-/// The whole number of this value.
-fn whole_of(value: Option<u64>) -> Option<Whole>
-    requires { ForSome value (λ n. n ≤ 9007199254740991) }
-    ensures some { IsSome result ↔ IsSome value }
-    ensures value { IfSome value (λ n. result ≡ Some (pos n)) }
-{
-    match value {
-        Some(number) => Whole::new(number as i64),
-        None => None,
-    }
-}
-
-/// The number that digits stand for, or none where it is above [`MAX_VALUE`].
-fn digits_value(base: u64, digits: &[u16]) -> Option<u64>
-    requires positive { 0 < base }
-    requires small { base ≤ 16 }
-    ensures none { IfNone result (9007199254740991 < digits_value base digits.now) }
-    ensures value { IfSome result (λ n. (n ≡ digits_value base digits.now) × (n ≤ 9007199254740991)) }
-{
-    let mut value = 0;
-    for digit in digits {
-        value = value * base + u64::from(hex_value(*digit));
-        if value > MAX_VALUE {
-            return None;
-        }
-    }
-    Some(value)
+        digits_value(10, spelling)
+    };
+    Whole::new(value as i64)
 }

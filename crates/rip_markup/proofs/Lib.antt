@@ -5,7 +5,6 @@ pub mod Decoding
 pub mod Fronts
 pub mod Having
 pub mod Items
-pub mod Numbers
 pub mod Parts
 pub mod Runs
 pub mod Standing

@@ -1,10 +1,11 @@
 -- Texts with references (HTML 13.1.4, narrowed to the names and numbers of the subset), and the units that they stand
 -- for. Units by number: 38 is `&`, 35 `#`, 120 `x`, 59 `;`.
-use Rattle.std.specs.Prelude.{◌≡◌, ℕ, ◌+◌, ◌*◌, Bool, true, false, not, ◌||◌, ◌&&◌, ◌==◌, nat_le, if◌then◌else◌, List, [], ◌∷◌, ◌++◌, length, Option, Some, None, IsSome, unwrap_or, fold, codes}
+use Rattle.std.specs.Prelude.{◌≡◌, ℕ, Bool, true, false, not, ◌||◌, ◌&&◌, ◌==◌, nat_le, if◌then◌else◌, List, [], ◌∷◌, ◌++◌, length, Option, Some, None, IsSome, unwrap_or, codes}
 use Rattle.std.specs.Str.{bytes_eq}
 use Rattle.std.specs.List.{list_all}
 use Rattle.std.specs.Char.Escape.{encode_utf16}
-use Rattle.rip_values.specs.Units.{is_between, is_hex_digit, hex_value, begins}
+use Rattle.std.specs.Str.Parse.{digits_value}
+use Rattle.rip_values.specs.Units.{is_between, is_hex_digit, begins}
 use Rattle.rip_markup.specs.Units.{is_letter, is_digit}
 
 -- the code point of a reference by name
@@ -18,10 +19,6 @@ named_code name =
     else (if bytes_eq name (codes "nbsp") then Some 160
     else None)))))
 
--- the number that digits stand for
-abbrev pub number_of : ℕ → List ℕ → ℕ
-number_of base digits = fold (λ n c. n * base + hex_value c) 0 digits
-
 -- a code point that no reference may name: 0, a control of Latin-1, a surrogate, or past Unicode
 abbrev pub is_refused_code : ℕ → Bool
 is_refused_code code = (code == 0) || is_between 128 159 code || is_between 0xD800 0xDFFF code || not (nat_le code 0x10FFFF)
@@ -33,7 +30,7 @@ allowed_code code = if is_refused_code code then None else Some code
 -- the code point of one digit or more, each of which passes
 abbrev pub digits_code : (ℕ → Bool) → ℕ → List ℕ → Option ℕ
 digits_code passes base [] = None
-digits_code passes base (c ∷ digits) = if list_all passes (c ∷ digits) then allowed_code (number_of base (c ∷ digits)) else None
+digits_code passes base (c ∷ digits) = if list_all passes (c ∷ digits) then allowed_code (digits_value base (c ∷ digits)) else None
 
 -- the code point that the units behind `&#` name: decimal digits, or `x` and hexadecimal digits
 abbrev pub number_code : List ℕ → Option ℕ

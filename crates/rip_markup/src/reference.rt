@@ -1,16 +1,17 @@
-ghost use Rattle.std.specs.Prelude.{◌≡◌, ◌<◌, ◌≤◌, ◌+◌, Some, None, IfSome, IfNone, length};
+ghost use Rattle.std.specs.Prelude.{◌≡◌, ◌<◌, ◌≤◌, IfSome, length};
 ghost use Rattle.std.specs.List.{prefix_len, list_all};
+ghost use Rattle.std.specs.Str.Parse.{digits_value};
 ghost use Rattle.rip_values.specs.Units.{begins, is_hex_digit};
 ghost use Rattle.rip_markup.specs.Units.{is_digit};
-ghost use Rattle.rip_markup.specs.References.{named_code, number_of, is_refused_code, allowed_code, digits_code, number_code, code_of, is_reference_unit, starts_reference};
+ghost use Rattle.rip_markup.specs.References.{named_code, is_refused_code, allowed_code, digits_code, number_code, code_of, is_reference_unit, starts_reference};
 ghost use Rattle.rip_markup.specs.Steps.{reference_at, first_step, StepWithin};
 
 use crate::ascii::{AMPERSAND, HASH, SEMICOLON, SMALL_X};
 use crate::units::{is_digit, is_letter};
-use rip_values::{hex_value, is_hex_digit};
+use rip_values::{digits_value, is_hex_digit};
 
 /// The greatest code point of Unicode.
-const LAST_CODE: u32 = 0x10_FFFF;
+const LAST_CODE: u64 = 0x10_FFFF;
 
 /// A reference.
 #[derive(Clone, Copy, Debug, PartialEq, Eq)]
@@ -168,38 +169,22 @@ fn are_decimal(units: &[u16]) -> bool
 }
 
 /// The code point that digits stand for, if a reference may name it.
-fn allowed_code(base: u32, digits: &[u16]) -> Option<u32>
-    requires positive { 0 < base }
-    requires small { base ≤ 16 }
-    ensures value { result ≡ allowed_code (number_of base digits.now) }
+fn allowed_code(base: u16, digits: &[u16]) -> Option<u32>
+    requires { base ≤ 16 }
+    ensures value { result ≡ allowed_code (digits_value base digits.now) }
     ensures bound { IfSome result (λ code. code < 1114112) }
 {
-    match number_of(base, digits) {
-        Some(code) if !is_refused_code(code) => Some(code),
-        _ => None,
+    let code = digits_value(base, digits);
+    if is_refused_code(code) {
+        None
+    } else {
+        Some(code as u32)
     }
 }
 
 /// Whether no reference may name the code point.
-fn is_refused_code(code: u32) -> bool
+fn is_refused_code(code: u64) -> bool
     ensures { result ≡ is_refused_code code }
 {
     matches!(code, 0 | 128..=159 | 0xD800..=0xDFFF) || code > LAST_CODE
-}
-
-/// The number that digits stand for, or none where it is past [`LAST_CODE`].
-fn number_of(base: u32, digits: &[u16]) -> Option<u32>
-    requires positive { 0 < base }
-    requires small { base ≤ 16 }
-    ensures none { IfNone result (1114111 < number_of base digits.now) }
-    ensures value { IfSome result (λ n. (n ≡ number_of base digits.now) × (n ≤ 1114111)) }
-{
-    let mut value = 0;
-    for digit in digits {
-        value = value * base + u32::from(hex_value(*digit));
-        if value > LAST_CODE {
-            return None;
-        }
-    }
-    Some(value)
 }
