@@ -4,6 +4,7 @@ pub mod CreationLemmas
 pub mod DepthLemmas
 pub mod DomLemmas
 pub mod LawLemmas
+pub mod LettersLemmas
 pub mod Links
 pub mod NameLemmas
 pub mod OpeningLemmas

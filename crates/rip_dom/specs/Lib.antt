@@ -3,6 +3,7 @@ pub mod Attributes
 pub mod Creation
 pub mod Document
 pub mod Laws
+pub mod Letters
 pub mod Linked
 pub mod Lists
 pub mod Names

@@ -1,12 +1,10 @@
 ghost use Rattle.std.specs.Prelude.{◌≡◌, ◌+◌, ◌≤◌, OnErr, OnOk, IfErr, IfOk, length, nat_lt, true, false};
 ghost use Rattle.std.specs.List.{list_all};
-ghost use Rattle.rip_values.specs.Pool.{span_behind, text_at, with_text};
-ghost use Rattle.rip_values.specs.Units.{small_text};
 ghost use Rattle.rip_dom.specs.Creation.{Creates, cost_of_name, element_made, element_refusal, is_element_name, is_letter, is_name_unit, kept_name, with_kept};
 
 use crate::dom::{Dom, NodeRecord};
+use crate::letters::{Letters, push_in};
 use crate::names::is_small;
-use crate::units::{end_of, push_unit, unit_at};
 use rip_values::{Limit, NodeKind, Pool, Refused, Span, small_unit};
 use std::alloc::Global;
 
@@ -77,26 +75,7 @@ pub(crate) fn keep_name(alloc: Global, pool: &mut Pool, name: Span) -> Result<Sp
     if text.len() > pool.free() as usize {
         return Err(Limit::Units);
     }
-    Ok(push_small(alloc, pool, name))
-}
-
-// The text in small letters behind all others, where the limit is known to leave room.
-fn push_small(alloc: Global, pool: &mut Pool, name: Span) -> Span
-    requires { pool.old.used + length (text_at pool.old name) ≤ pool.old.limit }
-    ensures span { result ≡ span_behind pool.old (small_text (text_at pool.old name)) }
-    ensures added { pool.new ≡ with_text pool.old (small_text (text_at pool.old name))
-        (length (text_at pool.old name)) }
-{
-    let held = pool.held(name);
-    let end = end_of(alloc, pool);
-    for i in 0..held.count {
-        let unit = small_unit(unit_at(pool, held, i));
-        push_unit(alloc, pool, unit);
-    }
-    Span {
-        start: end.start,
-        count: held.count,
-    }
+    Ok(push_in(alloc, pool, name, Letters::Small))
 }
 
 /// Whether the name of an element is legal, as pages have them.

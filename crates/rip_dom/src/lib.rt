@@ -21,7 +21,7 @@
 //! | [`Dom::read_text`], [`Dom::has_text`] | `Reading.text_below`, answered as `Reading.Reads` says |
 //! | [`Dom::write_text`] | `Writing.written`, refused as `Writing.is_past` says |
 //! | [`Dom::insert_before`], [`Dom::replace`], [`Dom::remove`] | `Tree.inserted`, `Tree.replaced`, `Tree.taken_out` |
-//! | [`end_of`], [`push_unit`], [`unit_at`]: a text that is copied unit by unit behind all others | `with_text`, of the pool (`rip_values`) |
+//! | [`push_in`] | `Letters.text_in`, behind all others |
 //! | the codes of refusals and their order | `Tree.insert_code`, `Tree.replace_code`, `Tree.remove_code`; what bars a node, `Tree.is_barred` |
 //! | what a call answers of its step | `Answers.Makes`, `Answers.Moves` |
 //!
@@ -39,6 +39,7 @@ mod creation;
 mod dom;
 mod kinds;
 mod laws;
+mod letters;
 mod lists;
 mod names;
 mod opening;
@@ -54,7 +55,7 @@ pub use attributes::is_attribute_name;
 pub use creation::{DomRefused, INVALID_CHARACTER, is_element_name};
 pub use dom::{Dom, HIERARCHY_REQUEST, NOT_FOUND};
 pub use laws::{numbers_are_new, puts_are_read, puts_leave_others};
+pub use letters::{Letters, push_in};
 pub use names::is_small;
 pub use order::{Step, is_end};
 pub use reading::TextRefused;
-pub use units::{end_of, push_unit, unit_at};

@@ -5,7 +5,7 @@ use rip_values::{Pool, Span};
 use std::alloc::Global;
 
 /// The empty text behind all others.
-pub fn end_of(alloc: Global, pool: &mut Pool) -> Span
+pub(crate) fn end_of(alloc: Global, pool: &mut Pool) -> Span
     requires { pool.old.used ≤ pool.old.limit }
     ensures span { result ≡ span_behind pool.old [] }
     ensures added { pool.new ≡ with_text pool.old [] 0 }
@@ -14,7 +14,7 @@ pub fn end_of(alloc: Global, pool: &mut Pool) -> Span
 }
 
 /// A unit behind all texts, where the limit is known to leave room.
-pub fn push_unit(alloc: Global, pool: &mut Pool, unit: u16)
+pub(crate) fn push_unit(alloc: Global, pool: &mut Pool, unit: u16)
     requires { pool.old.used + 1 ≤ pool.old.limit }
     ensures { pool.new ≡ with_text pool.old (unit ∷ []) 1 }
 {
@@ -22,7 +22,7 @@ pub fn push_unit(alloc: Global, pool: &mut Pool, unit: u16)
 }
 
 /// The unit at this place of the text; past its end it is 0.
-pub fn unit_at(pool: &Pool, text: Span, place: u32) -> u16
+pub(crate) fn unit_at(pool: &Pool, text: Span, place: u32) -> u16
     ensures { result ≡ slice_index_or (text_at pool.now text) place 0 }
 {
     match pool.get(text).get(place as usize) {

@@ -1,5 +1,4 @@
 pub mod AddsLemmas
-pub mod CapitalLemmas
 pub mod ChildLemmas
 pub mod LimitLemmas
 pub mod LinkLemmas

@@ -14,6 +14,8 @@ use Rattle.rip_values.specs.Pool.{text_at}
 use Rattle.rip_heap.specs.declared.host.HostDone.{HostDone}
 use Rattle.rip_heap.specs.Conversions.{span_of}
 use Rattle.rip_heap.specs.World.{World}
+use Rattle.rip_dom.specs.declared.letters.Letters.TheVariants.{Capital}
+use Rattle.rip_dom.specs.Letters.{text_in}
 use Rattle.rip_dom.specs.Lists.{first_of, last_or}
 use Rattle.rip_dom.specs.Names.{attribute_of}
 use Rattle.rip_dom.specs.Reading.{text_below}
@@ -21,7 +23,6 @@ use Rattle.rip_dom.specs.Tree.{Tree, node_at, parent_of, children_of, next_of, p
 use Rattle.rip_nodes.specs.declared.member.NodeMember.{NodeMember}
 use Rattle.rip_nodes.specs.declared.member.NodeMember.TheVariants as member
 use Rattle.rip_nodes.specs.Answers.{attribute_value, gives, is_document, new_text, node_or_null, outside, text_or_null, text_value}
-use Rattle.rip_nodes.specs.Names.{capital_text}
 
 -- a fixed text as a value
 abbrev pub fixed_value : World → FixedText → Value
@@ -40,7 +41,7 @@ element_name name = unwrap_or name (span_of Empty)
 
 -- 1.2, nodeName: of an element its name in capitals, which is a new text
 abbrev pub node_name : World → NodeKind → Option Span → HostDone × World
-node_name w Element name = new_text w (capital_text (text_at w.pool (element_name name)))
+node_name w Element name = new_text w (text_in Capital (text_at w.pool (element_name name)))
 node_name w Text name = gives (fixed_value w TextName) w
 node_name w Comment name = gives (fixed_value w CommentName) w
 node_name w Document name = gives (fixed_value w DocumentName) w
