@@ -6,7 +6,7 @@ use Rattle.std.proofs.lemmas.Option.{same_Some}
 use Rattle.rip_log.specs.Entries.{Recorded}
 use Rattle.rip_http.specs.declared.answer.HttpAnswer.{HttpAnswer}
 use Rattle.rip_values.specs.declared.memory.NoMemory.{NoMemory}
-use Rattle.rip_wire.specs.Answers.{served_of, answer_text}
+use Rattle.rip_wire.specs.Answers.{said, served_of, answer_text}
 use Rattle.rip_wire.specs.declared.answer.ServedCall.{ServedCall}
 use Rattle.rip_wire.specs.Reasons.{reason_of}
 use Rattle.rip_wire.specs.declared.ending.Ending.{Ending}
@@ -18,7 +18,6 @@ use Rattle.rip_course.specs.declared.sessions.Progress.TheVariants.{Finished}
 use Rattle.rip_roll.specs.Seats.{Leaves}
 use Rattle.rip_roll.specs.declared.seat.Legacy.{Legacy}
 use Rattle.rip_turn.specs.Advancing.{IsDoneSo}
-use Rattle.rip_turn.specs.Saying.{said}
 
 some-none : {A : Type 0} (x : A) (o : Option A) → o ≡ Some x → o ≡ None → ⊥
 some-none x o e f = false≢true (sym (ap (λ (p : Option _). is_some p) f) ∙ ap (λ (p : Option _). is_some p) e)

@@ -1,15 +1,9 @@
 -- What the bodies of answers say: private to this crate.
-use Rattle.std.specs.Prelude.{ℕ, List, [], map, codes, Option, option_map, is_some, if◌then◌else◌}
+use Rattle.std.specs.Prelude.{ℕ, List, [], codes, Option, option_map, is_some, if◌then◌else◌}
 use Rattle.serde_json.specs.Data.{Data, object, member, no_members, string}
-use Rattle.rip_wire.specs.Answers.{Said, served_of, answer_text}
+use Rattle.rip_wire.specs.Answers.{answer_text}
 use Rattle.rip_wire.specs.Reasons.{reason_of}
-use Rattle.rip_wire.specs.declared.answer.ServedCall.{ServedCall}
 use Rattle.rip_wire.specs.declared.ending.Ending.{Ending}
-use Rattle.rip_wire.specs.declared.ending.Reason.{Reason}
-
--- what is said of a batch: why the session ended, if it did, and the served calls
-abbrev pub said : ℕ → Option Reason → List ServedCall → Said
-said number ended served = record { number = number; ended = ended; served = map served_of served }
 
 -- `{"error":WORD}`
 abbrev pub error_value : List ℕ → Data

@@ -12,11 +12,11 @@ ghost use Rattle.rip_wire.specs.Answers.{served_of};
 ghost use Rattle.rip_wire.specs.Reasons.{reason_of};
 ghost use Rattle.rip_wire.specs.declared.ending.Ending.{Ending};
 
-use crate::said::{error_body, said_body};
+use crate::said::error_body;
 use rip_http::{Conn, HttpAnswer, Method, Opening};
 use rip_roll::{Legacy, Roll};
 use rip_values::{Bytes, NoMemory};
-use rip_wire::{Reason, ServedCall};
+use rip_wire::{Reason, ServedCall, answer_body};
 use std::alloc::Global;
 
 /// An answer of JSON.
@@ -104,7 +104,7 @@ fn opening_body(alloc: Global, page: &[u8], ended: Option<Reason>) -> Result<Byt
         → IfOk result (λ body. body ≡ opened_body page.now how) }
 {
     match ended {
-        Some(_) => said_body(alloc, 0, ended, &[]),
+        Some(_) => answer_body(alloc, 0, ended, &[]),
         None => Bytes::from_slice(alloc, page),
     }
 }
@@ -178,6 +178,6 @@ pub(crate) fn batch_answer<T: Drop>(
     if number == 0 {
         return opening_answer(alloc, page, opening_of(roll, session, legacy), ended);
     }
-    let body = said_body(alloc, number, ended, served_of(roll, session, legacy))?;
+    let body = answer_body(alloc, number, ended, served_of(roll, session, legacy))?;
     Ok(json_answer(200, body, false))
 }

@@ -17,14 +17,13 @@ ghost use Rattle.rip_wire.specs.Batches.{contents_of, IsBatch};
 use crate::answers::{fails, json_answer};
 use crate::draw::{Drawn, draw};
 use crate::reply::Reply;
-use crate::said::said_body;
 use rip_course::{BatchDecision, CloseDecision, Sessions, Standing};
 use rip_http::{HttpAnswer, Message, Route};
 use rip_log::{Entry, write_entry};
 use rip_outer::Words;
 use rip_roll::{Roll, Room};
 use rip_values::{Bytes, NoMemory};
-use rip_wire::{Batch, Reason, WireError, read_batch};
+use rip_wire::{Batch, Reason, WireError, answer_body, read_batch};
 use std::alloc::Global;
 use uuid::Uuid;
 
@@ -156,7 +155,7 @@ fn named<T: Drop>(roll: &Roll<T>, segment: &[u8]) -> Option<u32>
 fn gone(alloc: Global, standing: Standing, close: bool) -> Result<Decided, NoMemory>
     ensures { (turn time : ℕ) → IfOk result (Tells turn time close (gone standing)) }
 {
-    let body = said_body(alloc, standing.last, standing.ended, &[])?;
+    let body = answer_body(alloc, standing.last, standing.ended, &[])?;
     Ok(answered(410, body, close))
 }
 
@@ -267,7 +266,7 @@ fn repeat<T: Drop>(
         → IfOk result (Tells turn time close (answers 200 (answer_text
         (record { number = number; ended = None; served = served_in session number h })))) }
 {
-    let body = said_body(alloc, number, None, roll.served(session))?;
+    let body = answer_body(alloc, number, None, roll.served(session))?;
     Ok(answered(200, body, close))
 }
 
@@ -394,7 +393,7 @@ fn closing(alloc: Global, at: Moment, session: u32, last: u64) -> Result<(Bytes,
         session,
     };
     let line = write_entry(&entry, alloc)?;
-    let body = said_body(alloc, last, Some(Reason::Closed), &[])?;
+    let body = answer_body(alloc, last, Some(Reason::Closed), &[])?;
     Ok((line, body))
 }
 

@@ -25,8 +25,12 @@ pub record Said : Type 0 where
   pub ended : Option Reason
   pub served : List Served
 
+-- what is said of a batch by its number, a reason if the session has ended, and served calls
+abbrev pub said : ℕ → Option Reason → List ServedCall → Said
+said number ended served = record { number = number; ended = ended; served = map served_of served }
+
 abbrev pub said_of : Answer → Said
-said_of a = record { number = a.number; ended = option_map reason_of a.ended; served = map served_of a.served }
+said_of a = said a.number (option_map reason_of a.ended) a.served
 
 -- null, or the word of the reason
 abbrev pub ended_value : Option Reason → Data

@@ -1,10 +1,9 @@
-ghost use Rattle.std.specs.Prelude.{◌≡◌, ◌++◌, map, option_map, IfOk, OnOk, IsUtf8};
-ghost use Rattle.rip_wire.specs.Reasons.{reason_of};
-ghost use Rattle.rip_wire.specs.Answers.{served_of, said_of, ended_value, served_value, answer_value, answer_text};
+ghost use Rattle.std.specs.Prelude.{◌≡◌, ◌++◌, map, IfOk, OnOk, IsUtf8};
+ghost use Rattle.rip_wire.specs.Answers.{said, said_of, served_of, ended_value, served_value, answer_value, answer_text};
 ghost use Rattle.rip_wire.specs.Tokens.{tokens_of, closed};
 
 use crate::answer::{Answer, ServedCall};
-use crate::ending::Ending;
+use crate::ending::Reason;
 use json::Writer;
 use rip_data::write_value;
 use rip_values::{Bytes, NoMemory};
@@ -15,35 +14,58 @@ pub fn write_answer(a: &Answer, alloc: Global) -> Result<Bytes, NoMemory>
     ensures text { IfOk result (λ bytes. bytes ≡ answer_text (said_of a.now)) }
     ensures utf8 { IfOk result (λ bytes. IsUtf8 bytes) }
 {
+    let ended = match &a.ended {
+        Some(ending) => Some(ending.reason()),
+        None => None,
+    };
+    answer_body(alloc, a.number, ended, a.served.as_slice())
+}
+
+/// The body `{"batch":N,"ended":REASON,"served":[..]}`.
+pub fn answer_body(
+    alloc: Global,
+    number: u64,
+    ended: Option<Reason>,
+    served: &[ServedCall],
+) -> Result<Bytes, NoMemory>
+    ensures text { IfOk result (λ bytes. bytes ≡ answer_text (said number ended served.now)) }
+    ensures utf8 { IfOk result (λ bytes. IsUtf8 bytes) }
+{
     let mut out = Writer::new(Vec::with_capacity(alloc, 128)?);
-    write_members(a, &mut out, alloc)?;
+    write_members(number, ended, served, &mut out, alloc)?;
     Ok(Bytes::from_vec(out.into_inner()))
 }
 
-fn write_members(a: &Answer, out: &mut Writer, alloc: Global) -> Result<(), AllocError>
+fn write_members(
+    number: u64,
+    ended: Option<Reason>,
+    served: &[ServedCall],
+    out: &mut Writer,
+    alloc: Global,
+) -> Result<(), AllocError>
     ensures tokens { OnOk result
-        (out.new.tokens ≡ out.old.tokens ++ tokens_of (answer_value (said_of a.now))) }
+        (out.new.tokens
+        ≡ out.old.tokens ++ tokens_of (answer_value (said number ended served.now))) }
     ensures before { out.new.before ≡ out.old.before }
 {
     out.begin_object()?;
     out.key("batch")?;
-    out.u64(a.number)?;
+    out.u64(number)?;
     out.key("ended")?;
-    write_ended(&a.ended, out)?;
+    write_ended(ended, out)?;
     out.key("served")?;
     out.begin_array()?;
-    write_served(a.served.as_slice(), out, alloc)?;
+    write_served(served, out, alloc)?;
     out.end_object()
 }
 
-fn write_ended(ended: &Option<Ending>, out: &mut Writer) -> Result<(), AllocError>
+fn write_ended(ended: Option<Reason>, out: &mut Writer) -> Result<(), AllocError>
     ensures tokens { OnOk result
-        (out.new.tokens
-        ≡ out.old.tokens ++ tokens_of (ended_value (option_map reason_of ended.now))) }
+        (out.new.tokens ≡ out.old.tokens ++ tokens_of (ended_value ended)) }
     ensures before { out.new.before ≡ out.old.before }
 {
     match ended {
-        Some(ending) => out.string(ending.reason().word()),
+        Some(reason) => out.string(reason.word()),
         None => out.null(),
     }
 }

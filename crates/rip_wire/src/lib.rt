@@ -9,7 +9,7 @@
 //! | [`read_batch`] | `Batches.Spells`: which bodies spell which batch, by `Batches.batch_value` and `Items.item_value` |
 //! | [`write_batch`] | `Batches.batch_text`, that JSON with no white space |
 //! | [`Answer`] | `Answers.said_of`, what it says; `Answers.IsAnswer`, when it is in range |
-//! | [`write_answer`] | `Answers.answer_text`, its JSON with no white space |
+//! | [`write_answer`], [`answer_body`] | `Answers.answer_text`, its JSON with no white space |
 //! | [`Ending::reason`], [`Reason::word`] | the tables `Reasons.reason_of` and `Reasons.reason_word` |
 //! | [`write_item_list`], [`read_item_list`] | `Batches.items_text`, the items alone; `Batches.AreItems`, when they are in range |
 //! | [`write_call`], [`read_call`] | `Calls.call_text`, the canonical text of `[NAME,ARGS]` |
@@ -36,7 +36,7 @@ mod values;
 mod write;
 
 pub use answer::{Answer, ServedCall, ServedList};
-pub use body::write_answer;
+pub use body::{answer_body, write_answer};
 pub use ending::{Ending, Reason};
 pub use error::WireError;
 pub use gesture::Gesture;
