@@ -1,23 +1,17 @@
 -- What serving says of what was done for the input.
-use Rattle.std.proofs.Common.{◌≡◌, ◌<◌, ◌^◌, ℕ, List, Option, Some, None, inl, inr, refl, sym, ap, ◌∙◌, subst, arith}
+use Rattle.std.proofs.Common.{◌≡◌, ℕ, List, Option, Some, None, inl, inr, refl, sym, ap, ◌∙◌, subst, arith}
 use Rattle.std.specs.Prelude.{Result, Ok, Err, IfOk}
 use Rattle.rip_outer.specs.Moments.{ClockState, WordsState, new_clock, moment_at, new_words, word_at}
 use Rattle.rip_outer.specs.Outside.{Rose}
 use Rattle.rip_server.specs.Acts.{seen}
 use Rattle.rip_app.specs.App.{Loaded}
 use Rattle.rip_trace.specs.Traces.{Given}
-use Rattle.rip_course.specs.Parts.{Meaning}
-use Rattle.rip_course.specs.Services.{Service, service_of}
-use Rattle.rip_turn.specs.Turning.{Outer, outer, source, site_of}
+use Rattle.rip_turn.specs.Turning.{Outer, outer, source}
 use Rattle.rip_serve.specs.Serving.{Serves, NoFaults, OneFault}
-use Rattle.rip_serve.specs.Legal.{IsLegal}
-use Rattle.rip_serve.proofs.LegalLemmas.{puts_in_range}
-use Rattle.rip_meant.proofs.PartLemmas.{applications_in_range}
-use Rattle.rip_ranged.proofs.ServiceLemmas.{functions_reply_in_range}
 use Rattle.rip_serve.specs.declared.serving.Stop.{Stop}
-use Rattle.rip_session.specs.Application.{meaning_of_app}
 use Rattle.rip_cli.specs.Input.{IsApp, HasTrace}
-use Rattle.rip_cli.specs.Service.{IsStop, ServesApp, Replayed, site_of_app, brought}
+use Rattle.rip_site.specs.Sites.{ServesApp, site_of_app}
+use Rattle.rip_cli.specs.Service.{IsStop, Replayed, brought}
 use Rattle.rip_cli.specs.Settling.{Settles, Counts, with_sink}
 use Rattle.rip_cli.specs.Steps.{CountsStatus}
 use Rattle.rip_cli.specs.TraceDoor.{Bringing, left_of}
@@ -87,27 +81,6 @@ module _ (app : Loaded) (given : Given) (turns : ℕ) (how : Stop) (held held_ne
       inr (record { app = app; is_app = is; given = given; gives = gives; how = how; stops = stops; served = served })
   replay_settles NoMemory i rest is gives stops served =
       inr (inr (record { app = app; is_app = is; given = given; gives = gives; how = how; stops = stops; served = served }))
-
--- ---- the site of an application
-
-site_same : (app : Loaded) (m : Meaning) (meant : Service) (limit : ℕ) (page : List ℕ) → m ≡ meaning_of_app app → meant ≡ service_of app.manifest.functions
-    → limit ≡ app.manifest.limits.sessions → page ≡ app.bytes → site_of m meant limit page ≡ site_of_app app
-site_same app m meant limit page one two three four =
-    ap (λ x. site_of x meant limit page) one ∙ ap (λ x. site_of (meaning_of_app app) x limit page) two
-    ∙ ap (λ x. site_of (meaning_of_app app) (service_of app.manifest.functions) x page) three
-    ∙ ap (λ x. site_of (meaning_of_app app) (service_of app.manifest.functions) app.manifest.limits.sessions x) four
-
-pub serves_app : (app : Loaded) (m : Meaning) (meant : Service) (limit : ℕ) (page : List ℕ) (most : ℕ) (how : Stop) (old new : Outer) → m ≡ meaning_of_app app
-    → meant ≡ service_of app.manifest.functions → limit ≡ app.manifest.limits.sessions → page ≡ app.bytes
-    → most < 2 ^ 64 → Serves (site_of m meant limit page) most how old new → IsLegal (site_of m meant limit page) most how old new → ServesApp app most how old new
-serves_app app m meant limit page most how old new one two three four few serves legal =
-    let same = site_same app m meant limit page one two three four in
-    let course : IsLegal (site_of_app app) most how old new = subst (λ s. IsLegal s most how old new) same legal in
-    record {
-      serves = subst (λ s. Serves s most how old new) same serves;
-      legal = course;
-      in_range = puts_in_range (site_of_app app) most how old new course few (applications_in_range app) (functions_reply_in_range app.manifest.functions);
-    }
 
 -- ---- what a trace brings
 

@@ -6,17 +6,12 @@ use Rattle.rip_app.specs.App.{Loaded}
 use Rattle.rip_trace.specs.Traces.{Given}
 use Rattle.rip_trace.specs.declared.gestures.LinedGesture.{LinedGesture}
 use Rattle.rip_drive.specs.Driving as driving
-use Rattle.rip_log.specs.Histories.{IsHistory}
 use Rattle.rip_generate.specs.Generated.{IsGenerated}
-use Rattle.rip_course.specs.Run.{Site}
-use Rattle.rip_course.specs.Services.{service_of}
 use Rattle.rip_server.specs.Acts.{seen}
-use Rattle.rip_turn.specs.Turning.{Outer, outer, source, site_of}
-use Rattle.rip_serve.specs.Serving.{Serves}
-use Rattle.rip_serve.specs.Legal.{IsLegal, history_put}
+use Rattle.rip_turn.specs.Turning.{Outer, outer, source}
 use Rattle.rip_serve.specs.declared.serving.Stop.{Stop}
 use Rattle.rip_serve.specs.declared.serving.Stop.TheVariants as stop
-use Rattle.rip_session.specs.Application.{meaning_of_app}
+use Rattle.rip_site.specs.Sites.{ServesApp}
 use Rattle.rip_cli.specs.Input.{IsApp, HasTrace, HasGestures, IsCount}
 use Rattle.rip_cli.specs.declared.input.AppInput.{AppInput}
 use Rattle.rip_cli.specs.declared.input.ThreeFiles.{ThreeFiles}
@@ -26,18 +21,6 @@ use Rattle.rip_cli.specs.declared.status.Status.{Status}
 use Rattle.rip_cli.specs.declared.status.Status.TheVariants.{Read, BadWords, BadInput, TurnsSpent, Outside, NoMemory}
 
 -- ---- serving
-
--- what is served of an application: its sessions do what its scripts do, its functions reply, and so many may live as its
--- limits say
-abbrev pub site_of_app : Loaded → Site
-site_of_app app = site_of (meaning_of_app app) (service_of app.manifest.functions) app.manifest.limits.sessions app.bytes
-
--- it is served within so many turns, and what is put is the log of a legal course whose entries are in range, or a front of
--- one
-pub record ServesApp (app : Loaded) (most : ℕ) (how : Stop) (old new : Outer) : Type 0 where
-  pub serves : Serves (site_of_app app) most how old new
-  pub legal : IsLegal (site_of_app app) most how old new
-  pub in_range : IsHistory (history_put (site_of_app app) most how old new legal)
 
 -- how serving stops with a status
 abbrev pub IsStop : Status → Stop → Type 0

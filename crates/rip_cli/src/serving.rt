@@ -1,49 +1,15 @@
 ghost use Rattle.std.specs.Prelude.{◌≡◌, ℕ, List, IfOk, OnErr};
-ghost use Rattle.rip_server.specs.Acts.{seen};
 ghost use Rattle.rip_trace.specs.Traces.{IsTrace};
-ghost use Rattle.rip_turn.specs.Turning.{outer, source};
-ghost use Rattle.rip_cli.specs.Service.{Replayed, ServesApp};
+ghost use Rattle.rip_cli.specs.Service.{Replayed};
 
 use crate::trace_door::TraceDoor;
 use rip_app::App;
-use rip_outer::{Clock, Door, MemoryClock, MemoryWords, Sink, Words};
-use rip_serve::{Stop, serve};
-use rip_session::Application;
-use rip_store::Store;
+use rip_outer::{MemoryClock, MemoryWords, Sink};
+use rip_serve::Stop;
+use rip_site::serve_app;
 use rip_trace::Trace;
-use rip_turn::Site;
 use rip_values::NoMemory;
 use std::alloc::Global;
-
-/// Serves the application at the door, for at most so many turns. Want of memory before the first turn leaves all as it was.
-pub fn serve_app<D: Door, C: Clock, W: Words, S: Sink>(
-    alloc: Global,
-    app: &App,
-    turns: u64,
-    door: &mut D,
-    clock: &mut C,
-    random: &mut W,
-    out: &mut S,
-) -> Result<Stop, NoMemory>
-    ensures served { IfOk result (λ how. ServesApp app.now turns how
-        (outer (seen (D.sent door.old) (D.knocks door.old) (D.shuts door.old) (D.asked door.old)
-        (S.held out.old)) (source (C.told clock.old) (C.coming clock.old))
-        (source (W.told random.old) (W.coming random.old)) (D.count door.old) (S.count out.old))
-        (outer (seen (D.sent door.new) (D.knocks door.new) (D.shuts door.new) (D.asked door.new)
-        (S.held out.new)) (source (C.told clock.new) (C.coming clock.new))
-        (source (W.told random.new) (W.coming random.new)) (D.count door.new) (S.count out.new))) }
-    ensures memory { OnErr result ((door.new ≡ door.old) × (clock.new ≡ clock.old)
-        × (random.new ≡ random.old) × (out.new ≡ out.old)) }
-{
-    let mut store = Store::make(alloc, app.functions())?;
-    let sessions = Application::of(app);
-    let site = Site {
-        sessions: &sessions,
-        limit: app.limits().sessions,
-        page: app.bytes(),
-    };
-    Ok(serve(alloc, &site, &mut store, door, clock, random, out, turns))
-}
 
 /// Serves the application to what the trace brings, from memory. Want of memory before the first turn leaves the sink as it
 /// was.

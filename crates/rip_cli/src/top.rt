@@ -12,7 +12,7 @@ ghost use Rattle.rip_cli.specs.Words.{AskToServe};
 use crate::input::{AppInput, Input, ReadStop, ThreeFiles};
 use crate::lines::count_line;
 use crate::refusal::Refusal;
-use crate::serving::{replay, serve_app};
+use crate::serving::replay;
 use crate::status::Status;
 use rip_app::App;
 use rip_drive::{DriveRefusal, drive};

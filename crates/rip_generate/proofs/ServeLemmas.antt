@@ -7,24 +7,13 @@ use Rattle.rip_app.specs.App.{Loaded}
 use Rattle.rip_trace.specs.Traces.{Given, IsTrace}
 use Rattle.rip_log.specs.Entries.{Recorded}
 use Rattle.rip_log.specs.Histories.{IsHistory, history_text}
-use Rattle.rip_course.specs.Parts.{Meaning}
-use Rattle.rip_course.specs.Services.{Service, service_of}
 use Rattle.rip_server.specs.Acts.{seen}
-use Rattle.rip_turn.specs.Turning.{Outer, outer, site_of, source}
-use Rattle.rip_serve.specs.Legal.{IsLegal}
-use Rattle.rip_serve.specs.Serving.{Serves}
+use Rattle.rip_turn.specs.Turning.{Outer, outer, source}
 use Rattle.rip_serve.specs.declared.serving.Stop.{Stop}
 use Rattle.rip_serve.specs.declared.serving.Stop.TheVariants.{Idle}
-use Rattle.rip_session.specs.Application.{meaning_of_app}
-use Rattle.rip_generate.specs.Served.{IsLogOf, IsServed, ServesApp, brought, site_of_app}
+use Rattle.rip_site.specs.Sites.{ServesApp}
+use Rattle.rip_generate.specs.Served.{IsLogOf, IsServed, brought}
 use Rattle.rip_generate.specs.declared.serving.TheConstants.{TURNS}
-
-site_same : (app : Loaded) (m : Meaning) (meant : Service) (limit : ℕ) (page : List ℕ) → m ≡ meaning_of_app app → meant ≡ service_of app.manifest.functions
-    → limit ≡ app.manifest.limits.sessions → page ≡ app.bytes → site_of m meant limit page ≡ site_of_app app
-site_same app m meant limit page one two three four =
-    ap (λ x. site_of x meant limit page) one ∙ ap (λ x. site_of (meaning_of_app app) x limit page) two
-    ∙ ap (λ x. site_of (meaning_of_app app) (service_of app.manifest.functions) x page) three
-    ∙ ap (λ x. site_of (meaning_of_app app) (service_of app.manifest.functions) app.manifest.limits.sessions x) four
 
 -- what forms in memory tell
 abbrev pub told_by : DoorState → ClockState → WordsState → SinkState → Outer
@@ -41,17 +30,10 @@ told_same given door clock words sink one two three four =
 
 pub log_of : (app : Loaded) (given : Given) (door : DoorState) (clock : ClockState) (words : WordsState) (sink : SinkState) (how : Stop) (end : Outer) (log : List ℕ)
     → door ≡ new_door given.knocks [] [] → clock ≡ new_clock given.moments → words ≡ new_words given.words → sink ≡ new_sink [] → how ≡ Idle
-    → ServesApp app how (told_by door clock words sink) end → end.seen.held ≡ Some log → IsLogOf app given log
+    → ServesApp app TURNS how (told_by door clock words sink) end → end.seen.held ≡ Some log → IsLogOf app given log
 log_of app given door clock words sink how end log is_door is_clock are_words is_sink idle serves put =
     let old = told_same given door clock words sink is_door is_clock are_words is_sink in
-    record { end = end; serves = subst (λ (o : Outer). ServesApp app Idle o end) old (subst (λ (h : Stop). ServesApp app h (told_by door clock words sink) end) idle serves); put = put }
-
-pub serves_app : (app : Loaded) (m : Meaning) (meant : Service) (limit : ℕ) (page : List ℕ) (how : Stop) (old new : Outer) → m ≡ meaning_of_app app
-    → meant ≡ service_of app.manifest.functions → limit ≡ app.manifest.limits.sessions → page ≡ app.bytes
-    → Serves (site_of m meant limit page) TURNS how old new → IsLegal (site_of m meant limit page) TURNS how old new → ServesApp app how old new
-serves_app app m meant limit page how old new one two three four serves legal =
-    let same = site_same app m meant limit page one two three four in
-    record { serves = subst (λ s. Serves s TURNS how old new) same serves; legal = subst (λ s. IsLegal s TURNS how old new) same legal }
+    record { end = end; serves = subst (λ (o : Outer). ServesApp app TURNS Idle o end) old (subst (λ (h : Stop). ServesApp app TURNS h (told_by door clock words sink) end) idle serves); put = put }
 
 pub served_so : (app : Loaded) (text : List ℕ) (given : Given) (log : List ℕ) (history : List Recorded) → IsTrace text given → IsLogOf app given log → log ≡ history_text history → IsHistory history → IsServed app text history
 served_so app text given log history gives is_log is in_range = record { given = given; gives = gives; is_log = subst (λ t. IsLogOf app given t) is is_log; in_range = in_range }

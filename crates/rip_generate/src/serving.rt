@@ -1,19 +1,15 @@
 ghost use Rattle.std.specs.Prelude.{◌≡◌, ℕ, List, IfOk, map};
 ghost use Rattle.rip_log.specs.Entries.{recorded_of};
-ghost use Rattle.rip_server.specs.Acts.{seen};
 ghost use Rattle.rip_trace.specs.Traces.{IsTrace};
-ghost use Rattle.rip_turn.specs.Turning.{outer, source};
-ghost use Rattle.rip_generate.specs.Served.{IsLogOf, IsServed, IsServedForm, ServesApp};
+ghost use Rattle.rip_generate.specs.Served.{IsLogOf, IsServed, IsServedForm};
 
 use crate::page::load_form;
 use rip_app::App;
 use rip_log::{Entries, read_log};
-use rip_outer::{Clock, Door, MemoryClock, MemoryDoor, MemorySink, MemoryWords, Sink, Words};
-use rip_serve::{Stop, serve};
-use rip_session::Application;
-use rip_store::Store;
+use rip_outer::{MemoryClock, MemoryDoor, MemorySink, MemoryWords};
+use rip_serve::Stop;
+use rip_site::serve_app;
 use rip_trace::{Trace, read_trace};
-use rip_turn::Site;
 use rip_values::{NoMemory, NumberList};
 use std::alloc::Global;
 
@@ -53,36 +49,9 @@ fn serve_trace(alloc: Global, app: &App, trace: &Trace) -> Result<MemorySink, No
     let mut clock = MemoryClock::make(alloc, trace.moments())?;
     let mut words = MemoryWords::make(alloc, trace.words())?;
     let mut sink = MemorySink::make(alloc, &none)?;
-    let how = serve_app(alloc, app, &mut door, &mut clock, &mut words, &mut sink)?;
+    let how = serve_app(alloc, app, TURNS, &mut door, &mut clock, &mut words, &mut sink)?;
     match how {
         Stop::Idle => Ok(sink),
         Stop::TurnsSpent | Stop::Outside | Stop::Memory => Err(NoMemory),
     }
-}
-
-/// Serves the application at a door.
-fn serve_app<D: Door, C: Clock, W: Words, S: Sink>(
-    alloc: Global,
-    app: &App,
-    door: &mut D,
-    clock: &mut C,
-    random: &mut W,
-    out: &mut S,
-) -> Result<Stop, NoMemory>
-    ensures { IfOk result (λ how. ServesApp app.now how
-        (outer (seen (D.sent door.old) (D.knocks door.old) (D.shuts door.old) (D.asked door.old)
-        (S.held out.old)) (source (C.told clock.old) (C.coming clock.old))
-        (source (W.told random.old) (W.coming random.old)) (D.count door.old) (S.count out.old))
-        (outer (seen (D.sent door.new) (D.knocks door.new) (D.shuts door.new) (D.asked door.new)
-        (S.held out.new)) (source (C.told clock.new) (C.coming clock.new))
-        (source (W.told random.new) (W.coming random.new)) (D.count door.new) (S.count out.new))) }
-{
-    let mut store = Store::make(alloc, app.functions())?;
-    let sessions = Application::of(app);
-    let site = Site {
-        sessions: &sessions,
-        limit: app.limits().sessions,
-        page: app.bytes(),
-    };
-    Ok(serve(alloc, &site, &mut store, door, clock, random, out, TURNS))
 }

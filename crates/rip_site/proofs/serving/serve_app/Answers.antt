@@ -3,8 +3,8 @@ use Rattle.rip_values.specs.declared.limits.Limits.{Limits}
 use Rattle.rip_course.specs.Services.{RepliesAs, service_of}
 use Rattle.rip_store.specs.Held.{functions_of}
 use Rattle.rip_session.specs.Application.{meaning_of_app}
-use Rattle.rip_cli.proofs.ServeLemmas.{serves_app}
-use Rattle.rip_cli.proofs.serving.serve_app.Goals as goal
+use Rattle.rip_site.proofs.SiteLemmas.{serves_app}
+use Rattle.rip_site.proofs.serving.serve_app.Goals as goal
 
 pub returns-clause-served : goal.returns-clause-served
 returns-clause-served g c =
