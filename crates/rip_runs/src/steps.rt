@@ -380,7 +380,10 @@ fn give<R: Rows, H: Host>(
     };
     let at = frame.at;
     let values = stack.values();
-    ahead.next = rows.finish(heap, host, &at, &frame.wait, values, c)?;
+    match rows.finish(heap, host, &at, &frame.wait, values, c) {
+        Ok(then) => ahead.next = then,
+        Err(NoMemory) => return Err(NoMemory),
+    }
     if values.is_empty() {
         take_parts(rows, heap, host, &at, &mut ahead.next, &mut ahead.left)?;
     }
