@@ -1,7 +1,5 @@
 ghost use Rattle.std.specs.Prelude.{◌≡◌, ◌+◌, ◌≤◌, [], max, IfOk, OnErr, OnOk};
 ghost use Rattle.rip_heap.specs.Growth.{Grows};
-ghost use Rattle.rip_heap.specs.World.{World};
-ghost use Rattle.rip_machine.specs.Back.{CutsTo};
 ghost use Rattle.rip_runs.specs.Nesting.{IsInside};
 ghost use Rattle.rip_machine.specs.Law.{Resumes, Starts, loaded, open_depth};
 ghost use Rattle.rip_machine.specs.Loading.{Loads, TextsStand, spans_loaded, world_loaded};
@@ -38,30 +36,7 @@ impl Model for Machine {
     ghost view = { λ m. standing m.run m.literals.items };
 }
 
-/// Adds the texts of a program, and takes the room of so many values. For want of memory some texts are added, and can be cut
-/// back.
-fn load_in_room(
-    run: &mut Run,
-    alloc: Global,
-    program: &Program,
-    heap: &mut Heap,
-    values: u32,
-) -> Result<Vec<Span>, NoMemory>
-    ensures spans { IfOk result (λ spans. spans.items ≡ spans_loaded program.now heap.old) }
-    ensures loaded { OnOk result (heap.new ≡ world_loaded program.now heap.old) }
-    ensures room { OnOk result (run.new ≡ record run.old
-        { value_room = max run.old.value_room values }) }
-    ensures kept { OnErr result (run.new ≡ run.old) }
-    ensures back { (w : World) → CutsTo w heap.old → CutsTo w heap.new }
-    ensures cells { heap.new.cells ≡ heap.old.cells }
-    ensures grows { Grows heap.old heap.new }
-{
-    let literals = load_texts(alloc, program, heap)?;
-    run.reserve(values)?;
-    Ok(literals)
-}
-
-/// The same, where for want of memory all is as before.
+/// Adds the texts of a program, and takes the room of so many values. For want of memory all is as before.
 fn load_whole(
     run: &mut Run,
     alloc: Global,
@@ -78,13 +53,13 @@ fn load_whole(
     ensures grows { Grows heap.old heap.new }
 {
     let mark = heap.mark();
-    match load_in_room(run, alloc, program, heap, values) {
-        Ok(literals) => Ok(literals),
-        Err(NoMemory) => {
-            heap.cut_back(mark);
-            Err(NoMemory)
-        },
+    if let Ok(literals) = load_texts(alloc, program, heap) {
+        if let Ok(()) = run.reserve(values) {
+            return Ok(literals);
+        }
     }
+    heap.cut_back(mark);
+    Err(NoMemory)
 }
 
 impl Machine {
