@@ -1,9 +1,7 @@
-ghost use Rattle.std.specs.Prelude.{◌≡◌, [], pos, None, Some};
+ghost use Rattle.std.specs.Prelude.{◌≡◌, [], pos, IfOk};
 ghost use Rattle.rip_heap.specs.Growth.{Grows};
-ghost use Rattle.rip_machine.specs.Does.{Does, DoesPurely, DoesWithHost};
-ghost use Rattle.rip_machine.specs.Reading.{part_at};
-ghost use Rattle.rip_runs.specs.Row.{Asks};
-ghost use Rattle.rip_machine.specs.Rows.Expressions.{assign_row, compound_row, compound_value, numbers_of_step, read_target, step_by, step_row, stepped, target_found, writes};
+ghost use Rattle.rip_machine.specs.Does.{DoesPurely, DoesWithHost, GivesValue};
+ghost use Rattle.rip_machine.specs.Rows.Expressions.{assign_row, compound_row, numbers_of_step, read_target, step_by, step_row, stepped, target_found, writes};
 ghost use Rattle.rip_machine.specs.Table.{own_rest, hosted_rest};
 
 use crate::rows::answers::{Answer, ask, ask_hosted, end, give, halt, value_of};
@@ -12,14 +10,38 @@ use crate::rows::names::{abrupt, found, throw, write};
 use crate::source::Source;
 use rip_heap::{Class, Heap, Host, Reference, to_number};
 use rip_ops::{binary, difference, sum};
-use rip_runs::{Completion, HostedWait, OwnWait, Part, Stop};
-use rip_values::{Fault, Numeral, StepOperator, Value, Whole};
+use rip_runs::{Completion, HostedWait, Next, OwnWait, Part, Stop};
+use rip_values::{Fault, NoMemory, Numeral, StepOperator, Value, Whole};
 
 /// What the target of a node means.
 pub(crate) fn target_found(p: &Source, heap: &Heap, at: &Part) -> Option<Value>
     ensures { result ≡ target_found p.now at.now heap.now }
 {
     found(heap, at.scope, p.scoping(p.child(at.node, 0)).resolved)
+}
+
+/// The value of a target, for which the host may be asked, or what the row does instead.
+#[tactic(auto, using(rip_runs::proofs::Settles::settled))]
+fn read_target<H: Host>(
+    p: &Source,
+    heap: &mut Heap,
+    host: &mut H,
+    at: &Part,
+    target: &Option<Reference>,
+) -> Result<Result<Value, Next>, NoMemory>
+    requires { H.fits host.old heap.old }
+    ensures read { IfOk result (λ answer. GivesValue H.answers answer heap.new host.new
+        (read_target p.now at.now target.now heap.old) host.old) }
+    ensures fits { H.fits host.new heap.new }
+    ensures grows { Grows heap.old heap.new }
+{
+    match target {
+        Some(member) => read_value(p.alloc(), heap, host, &member.base, member.key),
+        None => match target_found(p, heap, at) {
+            Some(v) => Ok(Ok(v)),
+            None => Ok(Err(throw(p.alloc(), heap, Class::ThrownReferenceError)?)),
+        },
+    }
 }
 
 /// Writes a value to a target, for which the host may be asked, and gives another or the same.
@@ -40,42 +62,14 @@ fn writes<H: Host>(
     ensures grows { Grows heap.old heap.new }
 {
     match target {
-        Some(member) => writes_member(p, heap, host, at, member, v, given),
-        None => writes_name(p, heap, at, v, given),
-    }
-}
-
-/// The same where the target is a member.
-fn writes_member<H: Host>(
-    p: &Source,
-    heap: &mut Heap,
-    host: &mut H,
-    at: &Part,
-    member: &Reference,
-    v: &Value,
-    given: &Value,
-) -> Answer
-    requires { H.fits host.old heap.old }
-    ensures row { DoesWithHost H.answers p.now at.now result heap.new host.new
-        (writes p.now at.now (Some member.now) v.now given.now heap.old) host.old }
-    ensures fits { H.fits host.new heap.new }
-    ensures grows { Grows heap.old heap.new }
-{
-    match write_value(p.alloc(), heap, host, &member.base, member.key, v)? {
-        Ok(()) => give(*given),
-        Err(next) => Ok(next),
-    }
-}
-
-/// The same where the target is a name.
-fn writes_name(p: &Source, heap: &mut Heap, at: &Part, v: &Value, given: &Value) -> Answer
-    ensures row { Does p.now at.now result heap.new
-        (writes p.now at.now None v.now given.now heap.old) }
-    ensures grows { Grows heap.old heap.new }
-{
-    match write(heap, at.scope, p.scoping(p.child(at.node, 0)), *v) {
-        Ok(()) => give(*given),
-        Err(class) => throw(p.alloc(), heap, class),
+        Some(member) => match write_value(p.alloc(), heap, host, &member.base, member.key, v)? {
+            Ok(()) => give(*given),
+            Err(next) => Ok(next),
+        },
+        None => match write(heap, at.scope, p.scoping(p.child(at.node, 0)), *v) {
+            Ok(()) => give(*given),
+            Err(class) => throw(p.alloc(), heap, class),
+        },
     }
 }
 
@@ -137,71 +131,12 @@ pub(crate) fn after_compound_target<H: Host>(
     ensures grows { Grows heap.old heap.new }
 {
     match target_of(c) {
-        Ok(target) => compound_read(p, heap, host, at, &target),
+        Ok(target) => match read_target(p, heap, host, at, &target)? {
+            Ok(old) => ask_hosted(p.part_at(at, 1), HostedWait::CompoundValue { target, old }),
+            Err(next) => Ok(next),
+        },
         Err(other) => end(&other),
     }
-}
-
-/// The target is read before the right side.
-#[tactic(auto, using(rip_runs::proofs::Settles::settled))]
-fn compound_read<H: Host>(
-    p: &Source,
-    heap: &mut Heap,
-    host: &mut H,
-    at: &Part,
-    target: &Option<Reference>,
-) -> Answer
-    requires { H.fits host.old heap.old }
-    ensures row { DoesWithHost H.answers p.now at.now result heap.new host.new
-        (read_target p.now at.now target.now heap.old
-        (λ old x. Asks (part_at p.now at.now 1) x (compound_value p.now at.now target.now old)))
-        host.old }
-    ensures fits { H.fits host.new heap.new }
-    ensures grows { Grows heap.old heap.new }
-{
-    match target {
-        Some(member) => compound_member(p, heap, host, at, member),
-        None => match target_found(p, heap, at) {
-            Some(old) => compound_right(p, at, target, old),
-            None => throw(p.alloc(), heap, Class::ThrownReferenceError),
-        },
-    }
-}
-
-/// The same where the target is a member.
-fn compound_member<H: Host>(
-    p: &Source,
-    heap: &mut Heap,
-    host: &mut H,
-    at: &Part,
-    member: &Reference,
-) -> Answer
-    requires { H.fits host.old heap.old }
-    ensures row { DoesWithHost H.answers p.now at.now result heap.new host.new
-        (read_target p.now at.now (Some member.now) heap.old
-        (λ old x. Asks (part_at p.now at.now 1) x (compound_value p.now at.now (Some member.now)
-        old))) host.old }
-    ensures fits { H.fits host.new heap.new }
-    ensures grows { Grows heap.old heap.new }
-{
-    match read_value(p.alloc(), heap, host, &member.base, member.key)? {
-        Ok(old) => compound_right(p, at, &Some(*member), old),
-        Err(next) => Ok(next),
-    }
-}
-
-/// The right side, beside which the target and its value stand.
-fn compound_right(p: &Source, at: &Part, target: &Option<Reference>, old: Value) -> Answer
-    ensures row { DoesPurely p.now at.now result
-        (λ w. Asks (part_at p.now at.now 1) w (compound_value p.now at.now target.now old)) }
-{
-    ask_hosted(
-        p.part_at(at, 1),
-        HostedWait::CompoundValue {
-            target: *target,
-            old,
-        },
-    )
 }
 
 #[tactic(auto, using(rip_runs::proofs::Settles::settled))]
@@ -251,54 +186,11 @@ pub(crate) fn after_step_target<H: Host>(
     ensures grows { Grows heap.old heap.new }
 {
     match target_of(c) {
-        Ok(target) => step_read(p, heap, host, at, &target),
-        Err(other) => end(&other),
-    }
-}
-
-/// The target is read, and goes one up or down.
-#[tactic(auto, using(rip_runs::proofs::Settles::settled))]
-fn step_read<H: Host>(
-    p: &Source,
-    heap: &mut Heap,
-    host: &mut H,
-    at: &Part,
-    target: &Option<Reference>,
-) -> Answer
-    requires { H.fits host.old heap.old }
-    ensures row { DoesWithHost H.answers p.now at.now result heap.new host.new
-        (read_target p.now at.now target.now heap.old (λ v x. stepped p.now at.now target.now v x))
-        host.old }
-    ensures fits { H.fits host.new heap.new }
-    ensures grows { Grows heap.old heap.new }
-{
-    match target {
-        Some(member) => step_member(p, heap, host, at, member),
-        None => match target_found(p, heap, at) {
-            Some(v) => stepped(p, heap, host, at, target, v),
-            None => throw(p.alloc(), heap, Class::ThrownReferenceError),
+        Ok(target) => match read_target(p, heap, host, at, &target)? {
+            Ok(v) => stepped(p, heap, host, at, &target, v),
+            Err(next) => Ok(next),
         },
-    }
-}
-
-/// The same where the target is a member.
-fn step_member<H: Host>(
-    p: &Source,
-    heap: &mut Heap,
-    host: &mut H,
-    at: &Part,
-    member: &Reference,
-) -> Answer
-    requires { H.fits host.old heap.old }
-    ensures row { DoesWithHost H.answers p.now at.now result heap.new host.new
-        (read_target p.now at.now (Some member.now) heap.old
-        (λ v x. stepped p.now at.now (Some member.now) v x)) host.old }
-    ensures fits { H.fits host.new heap.new }
-    ensures grows { Grows heap.old heap.new }
-{
-    match read_value(p.alloc(), heap, host, &member.base, member.key)? {
-        Ok(v) => stepped(p, heap, host, at, &Some(*member), v),
-        Err(next) => Ok(next),
+        Err(other) => end(&other),
     }
 }
 
