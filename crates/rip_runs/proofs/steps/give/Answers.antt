@@ -16,11 +16,11 @@ returns-clause-rest g c k =
     let frame = c.in-Some.frame.now in
     let values : List Value = c.values-values.result.now in
     let row = t.rest (framed frame values) c.args.c.now c.args.heap.now in
-    let first = c.in_ok-ahead.field-0 in
+    let first = c.in-Ok.then in
     let v : ℕ = c.args.ahead.now.left + k in
     let then = c.if-is_empty in
     let settled : run h t (room_in frame) (as_row t frame.at first values c.finish.new.heap) v c.finish.new.host ≡ run h t (room_in frame) row v c.args.host.now =
-    settled_run h t frame.at first values row (room_in frame) v c.finish.new.heap c.args.host.now c.finish.new.host c.in_ok-ahead.ensures.row in
+    settled_run h t frame.at first values row (room_in frame) v c.finish.new.heap c.args.host.now c.finish.new.host c.in-Ok.ensures.row in
     let ran : run h t (room_in frame) (as_row t frame.at then.ahead.next values then.heap) (then.ahead.left + k) then.host ≡ run h t (room_in frame) row v c.args.host.now =
     elim c.if-is_empty.branch [
       | then-is_empty+in_ok-take_parts w ↦
