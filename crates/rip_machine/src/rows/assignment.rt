@@ -1,7 +1,9 @@
 ghost use Rattle.std.specs.Prelude.{◌≡◌, [], pos, IfOk};
 ghost use Rattle.rip_heap.specs.Growth.{Grows};
 ghost use Rattle.rip_machine.specs.Does.{DoesPurely, DoesWithHost, GivesValue};
-ghost use Rattle.rip_machine.specs.Rows.Expressions.{assign_row, compound_row, numbers_of_step, read_target, step_by, step_row, stepped, target_found, writes};
+ghost use Rattle.rip_machine.specs.Reading.{part_at};
+ghost use Rattle.rip_runs.specs.Row.{Asks};
+ghost use Rattle.rip_machine.specs.Rows.Expressions.{assign_row, compound_row, compound_value, numbers_of_step, read_target, step_by, step_row, stepped, target_found, writes};
 ghost use Rattle.rip_machine.specs.Table.{own_rest, hosted_rest};
 
 use crate::rows::answers::{Answer, ask, ask_hosted, end, give, halt, value_of};
@@ -132,11 +134,19 @@ pub(crate) fn after_compound_target<H: Host>(
 {
     match target_of(c) {
         Ok(target) => match read_target(p, heap, host, at, &target)? {
-            Ok(old) => ask_hosted(p.part_at(at, 1), HostedWait::CompoundValue { target, old }),
+            Ok(old) => compound_right(p, at, target, old),
             Err(next) => Ok(next),
         },
         Err(other) => end(&other),
     }
+}
+
+/// The right side, beside which the target and its value stand.
+fn compound_right(p: &Source, at: &Part, target: Option<Reference>, old: Value) -> Answer
+    ensures row { DoesPurely p.now at.now result
+        (λ w. Asks (part_at p.now at.now 1) w (compound_value p.now at.now target old)) }
+{
+    ask_hosted(p.part_at(at, 1), HostedWait::CompoundValue { target, old })
 }
 
 #[tactic(auto, using(rip_runs::proofs::Settles::settled))]
