@@ -9,4 +9,4 @@ returns-then-number-eq0 g c = λ limit h how kept so ended.
 pub returns : goal.returns
 returns g c = λ limit h how kept so ended.
     answered_batch c.args.page.now c.args.session c.args.number how h c.args.ended c.served_of.result.now c.in_ok-body.body c.json_answer.result
-    c.if-number-eq0.false ended (c.served_of.ensures limit c.args.number h how kept so) c.in_ok-body.ensures c.json_answer.ensures
+    c.if-number-eq0.false ended (c.served_of.ensures limit c.args.number h how kept so) c.in_ok-body.ensures.text c.json_answer.ensures

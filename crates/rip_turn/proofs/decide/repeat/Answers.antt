@@ -7,5 +7,5 @@ use Rattle.rip_turn.proofs.decide.repeat.Goals as goal
 pub returns : goal.returns
 returns g c = λ limit turn time h s kept stands live done.
     body_is turn time 200 c.args.close c.in_ok-body.body (answer_text (record { number = c.args.number; ended = None; served = served_in c.args.session c.args.number h })) c.answered.result
-    (c.in_ok-body.ensures ∙ ap (λ (xs : List Served). answer_text (record { number = c.args.number; ended = None; served = xs })) (c.served.ensures limit c.args.number h s kept stands live done))
+    (c.in_ok-body.ensures.text ∙ ap (λ (xs : List Served). answer_text (record { number = c.args.number; ended = None; served = xs })) (c.served.ensures limit c.args.number h s kept stands live done))
     (c.answered.ensures turn time)
