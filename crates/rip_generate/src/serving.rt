@@ -49,7 +49,9 @@ fn serve_trace(alloc: Global, app: &App, trace: &Trace) -> Result<MemorySink, No
     let mut clock = MemoryClock::make(alloc, trace.moments())?;
     let mut words = MemoryWords::make(alloc, trace.words())?;
     let mut sink = MemorySink::make(alloc, &none)?;
-    let how = serve_app(alloc, app, TURNS, &mut door, &mut clock, &mut words, &mut sink)?;
+    let how = serve_app(
+        alloc, app, TURNS, &mut door, &mut clock, &mut words, &mut sink,
+    )?;
     match how {
         Stop::Idle => Ok(sink),
         Stop::TurnsSpent | Stop::Outside | Stop::Memory => Err(NoMemory),
