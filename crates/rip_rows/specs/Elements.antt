@@ -1,0 +1,21 @@
+-- What contracts see of the elements of all arrays: the lists alone, and not where they lie.
+use Rattle.std.specs.Prelude.{ℕ, ◌+◌, List, [], ◌++◌, length, slice_index_or, slice_set}
+use Rattle.rip_values.specs.declared.value.Value.{Value}
+
+-- the lists in the order of making, how many lists were made and elements put so far, and for how many there is room
+pub record Elements : Type 0 where
+  pub lists : List (List Value)
+  pub spent : ℕ
+  pub room : ℕ
+
+-- the list of that number; one that was not made is empty
+abbrev pub list_at : Elements → ℕ → List Value
+list_at rows list = slice_index_or rows.lists list []
+
+-- the lists with this one in place of that of the number; where none has it nothing is changed
+abbrev pub with_list : Elements → ℕ → List Value → Elements
+with_list rows list items = record rows { lists = slice_set rows.lists list items }
+
+-- the lists with these elements behind those of the list of the number, and one spent for each
+abbrev pub with_more : Elements → ℕ → List Value → Elements
+with_more rows list items = record rows { lists = slice_set rows.lists list (list_at rows list ++ items); spent = rows.spent + length items }

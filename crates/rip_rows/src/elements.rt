@@ -1,0 +1,204 @@
+ghost use Rattle.std.specs.Prelude.{◌≡◌, ◌↔◌, ◌+◌, ◌-◌, ◌<◌, ◌≤◌, ◌++◌, ◌∷◌, [], IfOk, IsErr, OnErr, OnOk, length, slice_get, slice_range, slice_set, take};
+ghost use Rattle.rip_rows.specs.Elements.{list_at, with_list, with_more};
+
+use crate::growth::{make_room, put};
+use crate::segment::{ListHead, Segment, place_of};
+use rip_values::{NoMemory, Value};
+use std::alloc::Global;
+use std::marker::Model;
+
+/// The most room that rows are made for: twice as many values are counted by a `u32`.
+const MOST_ROOM: u32 = 0x7fff_ffff;
+
+/// The elements of all arrays of a session, list by list.
+///
+/// What is spent is one for each list that was made and each element that was put, and is never given back.
+#[derive(Debug, Drop)]
+pub struct ElementRows {
+    heads: Vec<ListHead>,
+    segments: Vec<Segment>,
+    values: Vec<Value>,
+    spent: u32,
+    room: u32,
+}
+
+impl Model for ElementRows {
+    ghost use Rattle.std.specs.Prelude.{length, vec_capacity};
+    ghost use Rattle.rip_rows.specs.Elements.{Elements};
+
+    ghost Value = { Elements };
+
+    ghost use Rattle.rip_rows.specs.Segments.{AreKept, AreReserved, lists_of};
+
+    ghost view = { λ rows. record { lists = lists_of rows.heads.items rows.segments.items rows.values.items; spent = rows.spent; room = rows.room } };
+
+    ghost invariant = { λ rows. record {
+        kept : AreKept rows.heads.items rows.segments.items (length rows.values.items) rows.spent rows.room;
+        reserved : AreReserved rows.room (vec_capacity rows.heads) (vec_capacity rows.segments) (vec_capacity rows.values)
+    } };
+}
+
+impl ElementRows {
+    /// No lists, with room for so many lists and elements together.
+    pub fn make(alloc: Global, room: u32) -> Result<ElementRows, NoMemory>
+        ensures { IfOk result (λ rows. rows ≡ record { lists = []; spent = 0; room = room }) }
+    {
+        if room > MOST_ROOM {
+            return Err(NoMemory);
+        }
+        Ok(ElementRows {
+            heads: Vec::with_capacity(alloc, room as usize)?,
+            segments: Vec::with_capacity(alloc, room as usize)?,
+            values: Vec::with_capacity(alloc, 2 * room as usize)?,
+            spent: 0,
+            room,
+        })
+    }
+
+    /// How many lists there are.
+    pub fn lists(&self) -> usize
+        ensures { result ≡ length self.now.lists }
+    {
+        self.heads.len()
+    }
+
+    /// How many elements the list of that number has.
+    pub fn len(&self, list: usize) -> u32
+        ensures { result ≡ length (list_at self.now list) }
+    {
+        match self.heads.get(list) {
+            Some(head) => head.count,
+            None => 0,
+        }
+    }
+
+    /// The element at this place of the list of that number.
+    pub fn get(&self, list: usize, place: u32) -> Option<Value>
+        ensures { result ≡ slice_get (list_at self.now list) place }
+    {
+        let head = self.heads.get(list)?;
+        if place >= head.count {
+            return None;
+        }
+        Some(self.values[place_of(&self.segments, head.top, place)])
+    }
+
+    /// Gives the element at this place the value. Past the end, and where there is no such list, nothing is changed.
+    pub fn set(&mut self, list: usize, place: u32, v: Value)
+        ensures { self.new ≡ with_list self.old list (slice_set (list_at self.old list) place v) }
+    {
+        let Some(head) = self.heads.get(list) else {
+            return;
+        };
+        if place < head.count {
+            let at = place_of(&self.segments, head.top, place);
+            self.values[at] = v;
+        }
+    }
+
+    /// Keeps the first elements of the list of that number, at most so many.
+    pub fn cut(&mut self, list: usize, count: u32)
+        ensures { self.new ≡ with_list self.old list (take count (list_at self.old list)) }
+    {
+        let Some(head) = self.heads.get(list) else {
+            return;
+        };
+        if count < head.count {
+            self.heads[list].count = count;
+        }
+    }
+
+    /// Takes the last element of the list of that number away.
+    pub fn pop(&mut self, list: usize) -> Option<Value>
+        ensures last { result ≡ slice_get (list_at self.old list) (length (list_at self.old list) - 1) }
+        ensures left { self.new ≡ with_list self.old list (take (length (list_at self.old list) - 1) (list_at self.old list)) }
+    {
+        let left = self.len(list).saturating_sub(1);
+        let last = self.get(list, left);
+        self.cut(list, left);
+        last
+    }
+
+    /// Keeps the first lists, at most so many. What the others took is not given back.
+    pub fn truncate(&mut self, lists: usize)
+        ensures { self.new ≡ record self.old { lists = take lists self.old.lists } }
+    {
+        self.heads.truncate(lists);
+    }
+
+    /// Makes a list with no elements, behind the others.
+    pub fn add_list(&mut self) -> Result<(), NoMemory>
+        ensures ok { OnOk result (self.new ≡ record self.old { lists = self.old.lists ++ [] ∷ []; spent = self.old.spent + 1 }) }
+        ensures err { OnErr result (self.new ≡ self.old) }
+        ensures room { IsErr result ↔ (self.old.room ≤ self.old.spent) }
+    {
+        if self.spent >= self.room {
+            return Err(NoMemory);
+        }
+        self.heads.push_reserved(ListHead {
+            owner: self.spent,
+            count: 0,
+            places: 0,
+            top: 0,
+        });
+        self.spent += 1;
+        Ok(())
+    }
+
+    /// Puts an element behind the others of the list of that number.
+    pub fn push(&mut self, list: usize, v: Value) -> Result<(), NoMemory>
+        requires { list < length self.old.lists }
+        ensures ok { OnOk result (self.new ≡ with_more self.old list (v ∷ [])) }
+        ensures err { OnErr result (self.new ≡ self.old) }
+        ensures room { IsErr result ↔ (self.old.room ≤ self.old.spent) }
+    {
+        if self.spent >= self.room {
+            return Err(NoMemory);
+        }
+        make_room(&mut self.heads, &mut self.segments, &mut self.values, list);
+        put(&mut self.heads, &self.segments, &mut self.values, list, v);
+        self.spent += 1;
+        Ok(())
+    }
+
+    /// Puts copies of these items behind the elements of the list of that number, all of them or none.
+    pub fn push_all(&mut self, list: usize, items: &[Value]) -> Result<(), NoMemory>
+        requires { list < length self.old.lists }
+        ensures ok { OnOk result (self.new ≡ with_more self.old list items.now) }
+        ensures err { OnErr result (self.new ≡ self.old) }
+        ensures room { IsErr result ↔ (self.old.room < self.old.spent + length items.now) }
+    {
+        if items.len() > (self.room - self.spent) as usize {
+            return Err(NoMemory);
+        }
+        for item in items {
+            self.push(list, *item).unwrap();
+        }
+        Ok(())
+    }
+
+    /// Puts copies of the elements of one list, from one place up to another, behind those of a list, all of them or none.
+    pub fn push_piece(
+        &mut self,
+        to: usize,
+        list: usize,
+        from: u32,
+        end: u32,
+    ) -> Result<(), NoMemory>
+        requires { to < length self.old.lists }
+        ensures ok { OnOk result (self.new ≡ with_more self.old to (slice_range (list_at self.old list) from end)) }
+        ensures err { OnErr result (self.new ≡ self.old) }
+        ensures room { IsErr result ↔ (self.old.room < self.old.spent + length (slice_range (list_at self.old list) from end)) }
+    {
+        let last = end.min(self.len(list));
+        let first = from.min(last);
+        if last - first > self.room - self.spent {
+            return Err(NoMemory);
+        }
+        for place in first..last {
+            let item = self.get(list, place).unwrap();
+            self.push(to, item).unwrap();
+        }
+        Ok(())
+    }
+}
