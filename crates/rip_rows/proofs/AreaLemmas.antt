@@ -1,5 +1,5 @@
 -- The places of a list and what they hold: one read, one written, and a segment more.
-use Rattle.std.proofs.Common.{◌≡◌, ◌≢◌, ℕ, zero, suc, ◌+◌, ◌-◌, ◌*◌, ◌<◌, ◌≤◌, max, Bool, ◌==◌, true, false, cond, eqb, ltb, ◌⊎◌, inl, inr, List, [], ◌∷◌, ◌++◌, length, refl, sym, ap, ◌∙◌, subst, arith, get_or, set, take, drop}
+use Rattle.std.proofs.Common.{◌≡◌, ◌≢◌, ℕ, zero, suc, ◌+◌, ◌-◌, ◌<◌, ◌≤◌, Bool, ◌==◌, true, false, cond, eqb, ◌⊎◌, inl, inr, List, [], ◌∷◌, ◌++◌, length, refl, sym, ap, ◌∙◌, subst, arith, get_or, set, take, drop}
 use Rattle.std.specs.Prelude.{slice_range}
 use Rattle.std.proofs.lemmas.Bool.{cases_lt, eq-eqb, eqb-true, ne_eqb, le-ltb, lt-ltb}
 use Rattle.std.proofs.Math.Seq.{take-set-lt}
@@ -143,7 +143,7 @@ area-length owner from values [] lie = refl
 area-length owner from values (s ∷ segments) lie =
     length-append (part_if (eqb s.owner owner) values s) (area owner values segments)
     ∙ (λ t. length-part (eqb s.owner owner) values s (lie-ends (s.start + size_of s.first) (length values) segments lie.1) t
-        + area-length owner (s.start + size_of s.first) values segments lie.1 t)
+    + area-length owner (s.start + size_of s.first) values segments lie.1 t)
 
 -- a place of a list is read
 pub area-get : (owner place from : ℕ) (values : List Value) (segments : List Segment) (d : Value) → LieWithin from (length values) segments → place < places_of owner segments
@@ -211,14 +211,14 @@ area-set owner place from values (s ∷ segments) v lie h =
     by rest (inl lt) =
         ap (λ p. area owner (set values p v) (s ∷ segments)) (at-place owner place s segments lt)
         ∙ (λ t. set-part b values s place v lt t
-            ++ area-behind owner (s.start + size_of s.first) (length values) (s.start + place) values segments v lie.1 (omega (arith, lt, most)) t)
+        ++ area-behind owner (s.start + size_of s.first) (length values) (s.start + place) values segments v lie.1 (omega (arith, lt, most)) t)
         ∙ sym (set-append_left part (area owner values segments) place v (omega (arith, lt, size)))
     by rest (inr ge) =
         let within : place - mine < places_of owner segments = omega (arith, ge, h) in
         let lies = place-lies owner (place - mine) (s.start + size_of s.first) (length values) segments lie.1 within in
         ap (λ p. area owner (set values p v) (s ∷ segments)) (past-place owner place s segments ge)
         ∙ (λ t. set-part-below b values s (place_of owner segments (place - mine)) v lies.0 t
-            ++ rest ge t)
+        ++ rest ge t)
         ∙ sym (set-append_right part (area owner values segments) mine place v size ge)
 
 -- and no place of another list
@@ -242,14 +242,14 @@ area-set_other other owner place from values (s ∷ segments) v apart lie h =
         let none : eqb s.owner other ≡ false = ne_eqb s.owner other (λ e. apart (sym e ∙ own)) in
         ap (λ p. area other (set values p v) (s ∷ segments)) (at-place owner place s segments lt)
         ∙ (λ t. part_if (none t) (set values (s.start + place) v) s
-            ++ area-behind other (s.start + size_of s.first) (length values) (s.start + place) values segments v lie.1 (omega (arith, lt, most)) t)
+        ++ area-behind other (s.start + size_of s.first) (length values) (s.start + place) values segments v lie.1 (omega (arith, lt, most)) t)
         ∙ sym (ap (λ b. part_if b values s ++ area other values segments) none)
     by rest (inr ge) =
         let within : place - mine < places_of owner segments = omega (arith, ge, h) in
         let lies = place-lies owner (place - mine) (s.start + size_of s.first) (length values) segments lie.1 within in
         ap (λ p. area other (set values p v) (s ∷ segments)) (past-place owner place s segments ge)
         ∙ (λ t. set-part-below (eqb s.owner other) values s (place_of owner segments (place - mine)) v lies.0 t
-            ++ rest ge t)
+        ++ rest ge t)
 
 -- A SEGMENT MORE
 
@@ -262,7 +262,7 @@ area-added : (owner from : ℕ) (values more : List Value) (segments : List Segm
 area-added owner from values more [] s lie = append-nil (part_if (eqb s.owner owner) (values ++ more) s)
 area-added owner from values more (x ∷ segments) s lie =
     (λ t. append-part (eqb x.owner owner) values more x (lie-ends (x.start + size_of x.first) (length values) segments lie.1) t
-        ++ area-added owner (x.start + size_of x.first) values more segments s lie.1 t)
+    ++ area-added owner (x.start + size_of x.first) values more segments s lie.1 t)
     ∙ sym (append_assoc (part_if (eqb x.owner owner) values x) (area owner values segments) (part_if (eqb s.owner owner) (values ++ more) s))
 
 -- of the list itself

@@ -1,3 +1,4 @@
 pub mod AreaLemmas
 pub mod RowLemmas
 pub mod ListLemmas
+pub mod MoreLemmas

@@ -1,15 +1,15 @@
 -- What each call gives, of the lists that heads, segments and values show.
-use Rattle.std.proofs.Common.{◌≡◌, ◌≢◌, ℕ, zero, suc, ◌+◌, ◌-◌, ◌*◌, ◌<◌, ◌≤◌, ◌⊎◌, inl, inr, List, [], ◌∷◌, ◌++◌, Option, None, Some, length, map, refl, sym, ap, ◌∙◌, subst, arith, get_or, set, take, replicate, slice_get, eqb}
+use Rattle.std.proofs.Common.{◌≡◌, ℕ, zero, suc, ◌+◌, ◌<◌, ◌≤◌, ◌⊎◌, inl, inr, List, [], ◌∷◌, ◌++◌, None, Some, length, refl, sym, ap, ◌∙◌, subst, arith, get_or, set, take, replicate, slice_get, eqb}
 use Rattle.std.specs.List.{sum_by}
 use Rattle.std.proofs.Math.Seq.{take-set-lt}
 use Rattle.std.proofs.lemmas.Bool.{ne_eqb}
-use Rattle.std.proofs.lemmas.List.{get_or-map, get_or-take, get_or_append_left, get_or_at, get_or_past, get_or_read, length-append, length-map, length-replicate, length-set, length-take-le, map_push, set-get_or, set_past, take-map, take-take, take_more_set}
+use Rattle.std.proofs.lemmas.List.{get_or-map, get_or-take, get_or_append_left, get_or_at, get_or_past, get_or_read, length-append, length-map, length-replicate, length-set, length-take-le, set-get_or, set_past, take-take, take_more_set}
 use Rattle.std.proofs.lemmas.List.Sums.{get_or-le-sum_by, sum_by-set, sum_by_push}
 use Rattle.std.proofs.lemmas.Option.{get_or_from_slice_get, slice_get-get_or, slice_get_past, slice_get_within}
 use Rattle.rip_values.specs.declared.value.Value.{Value}
 use Rattle.rip_rows.specs.declared.segment.Segment.{Segment}
 use Rattle.rip_rows.specs.declared.segment.ListHead.{ListHead}
-use Rattle.rip_rows.specs.Segments.{AreKept, AreKnown, ArePaid, AreSound, IsHead, LieWithin, area, head_at, list_of, lists_of, place_of, places_of, saved, segment_at, size_if, size_of}
+use Rattle.rip_rows.specs.Segments.{AreKept, AreSound, IsHead, LieWithin, area, head_at, list_of, lists_of, place_of, places_of, saved, segment_at, size_if, size_of}
 use Rattle.rip_rows.proofs.AreaLemmas.{area-get, area-length, place-lies, size-most}
 use Rattle.rip_rows.proofs.RowLemmas.{head_counts, known_set, lists_grown, lists_written, map-set_other, sound_grown}
 
@@ -34,7 +34,7 @@ pub list-length : (heads : List ListHead) (segments : List Segment) (values : Li
 list-length heads segments values list h within =
     ap length (list-here heads segments values list within)
     ∙ length-take-le (head_at heads list).count (area (head_at heads list).owner values segments)
-      (omega (arith, (h.each list within).fits, area-size heads segments values list h within))
+    (omega (arith, (h.each list within).fits, area-size heads segments values list h within))
 
 -- a place of a list lies in the row
 pub place-within : (heads : List ListHead) (segments : List Segment) (size list place : ℕ) → AreSound heads segments size → list < length heads → place < (head_at heads list).places
@@ -85,7 +85,7 @@ pub lists_put : (heads : List ListHead) (segments : List Segment) (values : List
 lists_put heads segments values list v h within room =
     lists_written heads segments values list (head_at heads list).count ((head_at heads list).count + 1) v h within room
     ∙ ap (set (lists_of heads segments values) list)
-      (take_more_set (area (head_at heads list).owner values segments) (head_at heads list).count v (omega (arith, room, area-size heads segments values list h within)))
+    (take_more_set (area (head_at heads list).owner values segments) (head_at heads list).count v (omega (arith, room, area-size heads segments values list h within)))
     ∙ ap (λ xs. set (lists_of heads segments values) list (xs ++ v ∷ [])) (sym (list-here heads segments values list within))
 
 -- the first elements alone
@@ -132,7 +132,7 @@ place_call heads segments size list place at head h found below is =
     let here = head-found heads list head found in
     let places : place < (head_at heads list).places = subst (λ (x : ListHead). place < x.places) (sym here.1) below in
     let same : at ≡ place_of (head_at heads list).owner segments place =
-        is ∙ ap (λ (x : ListHead). place_of (segment_at segments x.top).owner segments place) (sym here.1) ∙ top-place heads segments size list place h here.0 places in
+    is ∙ ap (λ (x : ListHead). place_of (segment_at segments x.top).owner segments place) (sym here.1) ∙ top-place heads segments size list place h here.0 places in
     (same, omega (arith, same, place-within heads segments size list place h here.0 places))
 
 pub fits_call : (heads : List ListHead) (segments : List Segment) (size list place : ℕ) (head : ListHead) → AreSound heads segments size → slice_get heads list ≡ Some head → place < head.count → place < head.places
@@ -204,9 +204,9 @@ pub put_place : (heads : List ListHead) (segments : List Segment) (size list at 
     → (at ≡ place_of (head_at heads list).owner segments (head_at heads list).count) × (at < size)
 put_place heads segments size list at head h within room head-is is =
     let same : at ≡ place_of (head_at heads list).owner segments (head_at heads list).count =
-        is
-        ∙ ap (λ (x : ListHead). place_of (segment_at segments x.top).owner segments x.count) head-is
-        ∙ top-place heads segments size list (head_at heads list).count h within room in
+    is
+    ∙ ap (λ (x : ListHead). place_of (segment_at segments x.top).owner segments x.count) head-is
+    ∙ top-place heads segments size list (head_at heads list).count h within room in
     (same, omega (arith, same, place-within heads segments size list (head_at heads list).count h within room))
 
 pub put_call : (heads : List ListHead) (segments : List Segment) (values : List Value) (list at : ℕ) (head old : ListHead) (v : Value) → AreSound heads segments (length values) → list < length heads
@@ -304,9 +304,15 @@ places-most owner from to (s ∷ segments) lie =
 pub grown-fits : (heads : List ListHead) (segments : List Segment) (size list most : ℕ) → AreSound heads segments size → list < length heads
     → (head_at heads list).places ≤ (head_at heads list).count → size + sum_by saved heads < most → (head_at heads list).places + size_of (head_at heads list).places < most
 grown-fits heads segments size list most h within full below =
-    omega
-    (arith, below, full, (h.each list within).fits, (h.each list within).counted, places-most (head_at heads list).owner 0 size segments h.lie,
-    get_or-le-sum_by saved heads list (record { owner = 0; count = 0; places = 0; top = 0 }) within)
+    omega (
+      arith,
+      below,
+      full,
+      (h.each list within).fits,
+      (h.each list within).counted,
+      places-most (head_at heads list).owner 0 size segments h.lie,
+      get_or-le-sum_by saved heads list (record { owner = 0; count = 0; places = 0; top = 0 }) within,
+    )
 
 pub sound_call : (heads heads' : List ListHead) (segments segments' : List Segment) (values values' : List Value) (list : ℕ) (u : Value) → AreSound heads segments (length values) → list < length heads
     → heads' ≡ set heads list (record (head_at heads list) { places = (head_at heads list).places + size_of (head_at heads list).places; top = length segments })
@@ -318,12 +324,11 @@ sound_call heads heads' segments segments' values values' list u h within heads-
     let s : Segment = record { owner = (head_at heads list).owner; start = length values; first = (head_at heads list).places; before = (head_at heads list).top } in
     let head : ListHead = record (head_at heads list) { places = (head_at heads list).places + size_of (head_at heads list).places; top = length segments } in
     let size : length values' ≡ length values + size_of (head_at heads list).places =
-        ap length values-is ∙ length-append values more ∙ ap (λ n. length values + n) (length-replicate (size_of (head_at heads list).places) u) in
-    let sound = sound_grown heads segments (length values) list s head h within refl refl in
-    (
+    ap length values-is ∙ length-append values more ∙ ap (λ n. length values + n) (length-replicate (size_of (head_at heads list).places) u) in
+    let sound = sound_grown heads segments (length values) list s head h within refl refl in (
       subst (λ n. AreSound heads' segments' n) (sym size)
-      (subst (λ hs. AreSound hs segments' (length values + size_of (head_at heads list).places)) (sym heads-is)
-      (subst (λ ss. AreSound (set heads list head) ss (length values + size_of (head_at heads list).places)) (sym segments-is) sound)),
+          (subst (λ hs. AreSound hs segments' (length values + size_of (head_at heads list).places)) (sym heads-is)
+          (subst (λ ss. AreSound (set heads list head) ss (length values + size_of (head_at heads list).places)) (sym segments-is) sound)),
       (λ t. lists_of (heads-is t) (segments-is t) (values-is t))
-      ∙ lists_grown heads segments values more list s head h within refl refl (sym (length-replicate (size_of (head_at heads list).places) u)),
+          ∙ lists_grown heads segments values more list s head h within refl refl (sym (length-replicate (size_of (head_at heads list).places) u)),
     )

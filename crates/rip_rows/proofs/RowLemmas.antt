@@ -1,12 +1,11 @@
 -- Lists as their heads, segments and values show them: an element written, a place more, a list more, and a front of them.
-use Rattle.std.proofs.Common.{◌≡◌, ◌≢◌, ℕ, zero, suc, ◌+◌, ◌-◌, ◌*◌, ◌<◌, ◌≤◌, Bool, true, false, eqb, ◌⊎◌, inl, inr, List, [], ◌∷◌, ◌++◌, length, map, refl, sym, ap, ◌∙◌, subst, arith, get_or, set, take, drop}
-use Rattle.std.proofs.Math.Seq.{take-set-lt}
+use Rattle.std.proofs.Common.{◌≡◌, ◌≢◌, ℕ, zero, suc, ◌+◌, ◌<◌, ◌≤◌, true, eqb, ◌⊎◌, inl, inr, List, [], ◌∷◌, ◌++◌, length, map, refl, sym, ap, ◌∙◌, subst, arith, get_or, set, take}
 use Rattle.std.proofs.lemmas.Bool.{cases_eq, eq-eqb, ne_eqb}
-use Rattle.std.proofs.lemmas.List.{get_or-set_other, get_or-set_same, get_or-take, get_or_append_left, get_or_at, length-append, length-set, length-take, set-get_or, take-append-le, take_all, take_at, take_more_set}
+use Rattle.std.proofs.lemmas.List.{get_or-set_other, get_or-set_same, get_or_append_left, get_or_at, length-append, length-set, take-append-le, take_at}
 use Rattle.rip_values.specs.declared.value.Value.{Value}
 use Rattle.rip_rows.specs.declared.segment.Segment.{Segment}
 use Rattle.rip_rows.specs.declared.segment.ListHead.{ListHead}
-use Rattle.rip_rows.specs.Segments.{AreKnown, AreLinked, ArePaid, AreSound, EndsAt, IsHead, LieWithin, area, head_at, list_of, lists_of, place_of, places_of, saved, segment_at, size_if, size_of}
+use Rattle.rip_rows.specs.Segments.{AreKnown, AreLinked, AreSound, EndsAt, IsHead, LieWithin, area, head_at, list_of, lists_of, place_of, places_of, segment_at, size_if, size_of}
 use Rattle.rip_rows.proofs.AreaLemmas.{area-added_other, area-added_own, area-length, area-set, area-set_other, lie_added, places-added}
 
 -- ONE OF A LIST

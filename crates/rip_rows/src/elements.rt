@@ -33,8 +33,8 @@ impl Model for ElementRows {
     ghost view = { λ rows. record { lists = lists_of rows.heads.items rows.segments.items rows.values.items; spent = rows.spent; room = rows.room } };
 
     ghost invariant = { λ rows. record {
-        kept : AreKept rows.heads.items rows.segments.items (length rows.values.items) rows.spent rows.room;
-        reserved : AreReserved rows.room (vec_capacity rows.heads) (vec_capacity rows.segments) (vec_capacity rows.values)
+      kept : AreKept rows.heads.items rows.segments.items (length rows.values.items) rows.spent rows.room;
+      reserved : AreReserved rows.room (vec_capacity rows.heads) (vec_capacity rows.segments) (vec_capacity rows.values);
     } };
 }
 

@@ -50,7 +50,7 @@ pub(crate) fn put(
     ensures known { (next : ℕ) → AreKnown heads.old.items segments.now.items next → AreKnown heads.new.items segments.now.items next }
     ensures lists { lists_of heads.new.items segments.now.items values.new.items
         ≡ slice_set (lists_of heads.old.items segments.now.items values.old.items) list
-          (slice_index_or (lists_of heads.old.items segments.now.items values.old.items) list [] ++ v ∷ []) }
+        (slice_index_or (lists_of heads.old.items segments.now.items values.old.items) list [] ++ v ∷ []) }
     ensures heads { length heads.new.items ≡ length heads.old.items }
     ensures values { length values.new.items ≡ length values.old.items }
     ensures paid { sum_by saved heads.new.items ≤ sum_by saved heads.old.items + 2 }
@@ -77,14 +77,14 @@ fn add_segment(
     requires placed { length values.old.items < 2 ^ 32 }
     requires counted { (head_at heads.old.items list).places + size_of (head_at heads.old.items list).places < 2 ^ 32 }
     ensures heads { heads.new.items ≡ slice_set heads.old.items list (record (head_at heads.old.items list) {
-        places = (head_at heads.old.items list).places + size_of (head_at heads.old.items list).places;
-        top = length segments.old.items
+      places = (head_at heads.old.items list).places + size_of (head_at heads.old.items list).places;
+      top = length segments.old.items;
     }) }
     ensures segments { segments.new.items ≡ segments.old.items ++ record {
-        owner = (head_at heads.old.items list).owner;
-        start = length values.old.items;
-        first = (head_at heads.old.items list).places;
-        before = (head_at heads.old.items list).top
+      owner = (head_at heads.old.items list).owner;
+      start = length values.old.items;
+      first = (head_at heads.old.items list).places;
+      before = (head_at heads.old.items list).top;
     } ∷ [] }
     ensures values { values.new.items ≡ values.old.items ++ replicate (size_of (head_at heads.old.items list).places) Undefined }
     ensures heads_room { vec_capacity heads.new ≡ vec_capacity heads.old }

@@ -5,5 +5,5 @@ use Rattle.rip_rows.proofs.growth.add_places.Given as goal
 abbrev pub invariant-loop-i : goal.invariant-loop-i
 invariant-loop-i l = record {
   values : l.values.items ≡ l.initial.values.items ++ replicate l._i Undefined;
-  room : vec_capacity l.values ≡ vec_capacity l.initial.values
+  room : vec_capacity l.values ≡ vec_capacity l.initial.values;
 }

@@ -1,4 +1,4 @@
-use Rattle.std.proofs.Common.{◌≤◌, ◌^◌, ap, arith, length}
+use Rattle.std.proofs.Common.{◌≤◌, ap, arith, length}
 use Rattle.rip_values.specs.declared.value.Value.TheVariants.{Undefined}
 use Rattle.rip_rows.specs.Segments.{head_at}
 use Rattle.rip_rows.specs.declared.segment.ListHead.{ListHead}
@@ -8,7 +8,7 @@ use Rattle.rip_rows.proofs.growth.make_room.Goals as goal
 pub add_segment-requires-clause-counted : goal.add_segment-requires-clause-counted
 add_segment-requires-clause-counted c =
     let full : (head_at c.args.heads.now.items c.args.list).places ≤ (head_at c.args.heads.now.items c.args.list).count =
-        omega (arith, c.if-head.false, ap (λ (h : ListHead). h.places) c.head_at-head.ensures, ap (λ (h : ListHead). h.count) c.head_at-head.ensures) in
+    omega (arith, c.if-head.false, ap (λ (h : ListHead). h.places) c.head_at-head.ensures, ap (λ (h : ListHead). h.count) c.head_at-head.ensures) in
     grown-fits c.args.heads.now.items c.args.segments.now.items (length c.args.values.now.items) c.args.list 4294967296 c.requires.sound c.requires.list full c.requires.room.placed
 
 pub returns-clause-sound : goal.returns-clause-sound

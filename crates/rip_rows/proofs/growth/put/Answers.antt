@@ -1,4 +1,4 @@
-use Rattle.std.proofs.Common.{◌<◌, arith, length}
+use Rattle.std.proofs.Common.{arith, length}
 use Rattle.rip_rows.proofs.ListLemmas.{put_call, put_place}
 use Rattle.rip_rows.proofs.growth.put.Goals as goal
 

@@ -1,7 +1,6 @@
-use Rattle.std.proofs.Common.{◌≡◌, ◌<◌, ℕ, ◌+◌, ◌-◌, sym, ap, ◌∙◌, subst, arith, take}
+use Rattle.std.proofs.Common.{◌≡◌, ◌<◌, ◌+◌, ◌-◌, sym, ap, ◌∙◌, arith, take}
 use Rattle.rip_rows.specs.Segments.{place_of, places_of, segment_at, size_of}
 use Rattle.rip_rows.specs.declared.segment.Segment.{Segment}
-use Rattle.rip_rows.proofs.ListLemmas.{lists_cut}
 use Rattle.rip_rows.proofs.AreaLemmas.{place-found}
 use Rattle.rip_rows.proofs.segment.place_of.Goals as goal
 

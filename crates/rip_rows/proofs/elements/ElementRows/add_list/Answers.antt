@@ -1,4 +1,4 @@
-use Rattle.std.proofs.Common.{rules, arith, length}
+use Rattle.std.proofs.Common.{arith, length}
 use Rattle.rip_rows.proofs.ListLemmas.{kept_added}
 use Rattle.rip_rows.proofs.elements.ElementRows.add_list.Goals as goal
 

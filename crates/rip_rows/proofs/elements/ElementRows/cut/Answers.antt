@@ -1,4 +1,4 @@
-use Rattle.std.proofs.Common.{rules, ◌≡◌, Some, ap, subst, arith, length, slice_get, take}
+use Rattle.std.proofs.Common.{◌≡◌, Some, ap, subst, arith, length, slice_get, take}
 use Rattle.std.specs.Prelude.{slice_set}
 use Rattle.std.proofs.lemmas.Grind.{common_steps}
 use Rattle.std.proofs.lemmas.Option.{gets}
@@ -21,8 +21,8 @@ returns-then-count-head c =
     let found : slice_get c.self.inside.heads.items c.args.list ≡ Some c.in-Some.head.now = grind (arith, common_steps, gets) in
     subst
     (λ old. ◌≡◌ {A = Elements}
-        (record { lists = lists_of (slice_set c.self.inside.heads.items c.args.list (record c.index_mut.result.now { count = c.args.count })) c.self.inside.segments.items c.self.inside.values.items; spent = c.self.inside.spent; room = c.self.inside.room })
-        (with_list old c.args.list (take c.args.count (list_at old c.args.list))))
+    (record { lists = lists_of (slice_set c.self.inside.heads.items c.args.list (record c.index_mut.result.now { count = c.args.count })) c.self.inside.segments.items c.self.inside.values.items; spent = c.self.inside.spent; room = c.self.inside.room })
+    (with_list old c.args.list (take c.args.count (list_at old c.args.list))))
     c.self.view_is
     (ap (λ lists. record { lists = lists; spent = c.self.inside.spent; room = c.self.inside.room })
     (cut_call c.self.inside.heads.items c.self.inside.segments.items c.self.inside.values.items c.args.list c.args.count c.in-Some.head.now c.index_mut.result.now

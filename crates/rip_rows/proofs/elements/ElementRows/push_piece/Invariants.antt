@@ -1,4 +1,4 @@
-use Rattle.std.proofs.Common.{◌≡◌, take, slice_range}
+use Rattle.std.proofs.Common.{◌≡◌, slice_range}
 use Rattle.rip_rows.specs.Elements.{list_at, with_more}
 use Rattle.rip_rows.proofs.elements.ElementRows.push_piece.Given as goal
 

@@ -24,8 +24,8 @@ returns-then-place-head c =
     let found : slice_get c.self.inside.heads.items c.args.list ≡ Some c.in-Some.head.now = grind (arith, common_steps, gets) in
     subst
     (λ old. ◌≡◌ {A = Elements}
-        (record { lists = lists_of c.self.inside.heads.items c.self.inside.segments.items (slice_set c.self.inside.values.items c.place_of-at.result c.args.v); spent = c.self.inside.spent; room = c.self.inside.room })
-        (with_list old c.args.list (slice_set (list_at old c.args.list) c.args.place c.args.v)))
+    (record { lists = lists_of c.self.inside.heads.items c.self.inside.segments.items (slice_set c.self.inside.values.items c.place_of-at.result c.args.v); spent = c.self.inside.spent; room = c.self.inside.room })
+    (with_list old c.args.list (slice_set (list_at old c.args.list) c.args.place c.args.v)))
     c.self.view_is
     (ap (λ lists. record { lists = lists; spent = c.self.inside.spent; room = c.self.inside.room })
     (set_call c.self.inside.heads.items c.self.inside.segments.items c.self.inside.values.items c.args.list c.args.place c.place_of-at.result c.in-Some.head.now c.args.v

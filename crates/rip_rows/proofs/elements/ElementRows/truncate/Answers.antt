@@ -8,8 +8,8 @@ pub returns : goal.returns
 returns c =
     subst
     (λ (old : Elements). ◌≡◌ {A = Elements}
-        (record { lists = lists_of c.truncate.new.self.items c.self.inside.segments.items c.self.inside.values.items; spent = c.self.inside.spent; room = c.self.inside.room })
-        (record old { lists = take c.args.lists old.lists }))
+    (record { lists = lists_of c.truncate.new.self.items c.self.inside.segments.items c.self.inside.values.items; spent = c.self.inside.spent; room = c.self.inside.room })
+    (record old { lists = take c.args.lists old.lists }))
     c.self.view_is
     (ap (λ lists. record { lists = lists; spent = c.self.inside.spent; room = c.self.inside.room })
     (ap (λ heads. lists_of heads c.self.inside.segments.items c.self.inside.values.items) c.truncate.ensures.items
