@@ -51,7 +51,7 @@ size-some : (b : Bool) (s : Segment) (i : ℕ) → i < size_if b s → b ≡ tru
 size-some true s i h = refl
 size-some false s i h = absurd (omega (arith, h))
 
-size-own : (b : Bool) (s : Segment) → b ≡ true → size_if b s ≡ size_of s.first
+pub size-own : (b : Bool) (s : Segment) → b ≡ true → size_if b s ≡ size_of s.first
 size-own true s e = refl
 size-own false s e = cc
 

@@ -9,7 +9,7 @@ use Rattle.std.proofs.lemmas.Option.{get_or_from_slice_get, slice_get-get_or, sl
 use Rattle.rip_values.specs.declared.value.Value.{Value}
 use Rattle.rip_rows.specs.declared.segment.Segment.{Segment}
 use Rattle.rip_rows.specs.declared.segment.ListHead.{ListHead}
-use Rattle.rip_rows.specs.Segments.{AreKept, AreSound, IsHead, LieWithin, area, head_at, list_of, lists_of, place_of, places_of, saved, segment_at, size_if, size_of}
+use Rattle.rip_rows.specs.Segments.{AreKept, AreSound, IsHead, LieWithin, area, grown, head_at, list_of, lists_of, next_segment, place_of, places_of, saved, segment_at, size_if, size_of}
 use Rattle.rip_rows.proofs.AreaLemmas.{area-get, area-length, place-lies, size-most}
 use Rattle.rip_rows.proofs.RowLemmas.{head_counts, known_set, lists_grown, lists_written, map-set_other, sound_grown}
 
@@ -18,11 +18,6 @@ use Rattle.rip_rows.proofs.RowLemmas.{head_counts, known_set, lists_grown, lists
 pub list-here : (heads : List ListHead) (segments : List Segment) (values : List Value) (list : ℕ) → list < length heads
     → get_or (lists_of heads segments values) list [] ≡ list_of values segments (head_at heads list)
 list-here heads segments values list within = get_or-map (list_of values segments) heads list (record { owner = 0; count = 0; places = 0; top = 0 }) [] within
-
-pub list-past : (heads : List ListHead) (segments : List Segment) (values : List Value) (list : ℕ) → length heads ≤ list
-    → get_or (lists_of heads segments values) list [] ≡ []
-list-past heads segments values list past =
-    get_or_past (lists_of heads segments values) list [] (omega (arith, past, length-map heads (list_of values segments)))
 
 -- the places of a list hold all its elements
 pub area-size : (heads : List ListHead) (segments : List Segment) (values : List Value) (list : ℕ) → AreSound heads segments (length values) → list < length heads
@@ -54,11 +49,6 @@ get_found heads segments values list place d h within below =
     ∙ ap (λ x. Some x) (get_or-take (head_at heads list).count (area (head_at heads list).owner values segments) place d below)
     ∙ ap (λ x. Some x) (area-get (head_at heads list).owner place 0 values segments d h.lie there)
 
-pub get_past : (heads : List ListHead) (segments : List Segment) (values : List Value) (list place : ℕ) → AreSound heads segments (length values) → list < length heads
-    → (head_at heads list).count ≤ place → slice_get (get_or (lists_of heads segments values) list []) place ≡ None
-get_past heads segments values list place h within past =
-    slice_get_past (get_or (lists_of heads segments values) list []) place (omega (arith, past, list-length heads segments values list h within))
-
 -- WHAT IS WRITTEN
 
 pub set_found : (heads : List ListHead) (segments : List Segment) (values : List Value) (list place : ℕ) (v : Value) → AreSound heads segments (length values) → list < length heads
@@ -72,10 +62,6 @@ set_found heads segments values list place v h within below =
     ∙ lists_written heads segments values list place (head_at heads list).count v h within places
     ∙ ap (set (lists_of heads segments values) list) (take-set-lt (head_at heads list).count (area (head_at heads list).owner values segments) place v below)
     ∙ ap (λ xs. set (lists_of heads segments values) list (set xs place v)) (sym (list-here heads segments values list within))
-
--- past the end of a list, or where there is no list, a write changes nothing
-pub set_past_end : (lists : List (List Value)) (list place : ℕ) (v : Value) → length (get_or lists list []) ≤ place → set lists list (set (get_or lists list []) place v) ≡ lists
-set_past_end lists list place v past = ap (set lists list) (set_past (get_or lists list []) place v past) ∙ set-get_or lists list []
 
 -- an element behind the others
 pub lists_put : (heads : List ListHead) (segments : List Segment) (values : List Value) (list : ℕ) (v : Value) → AreSound heads segments (length values) → list < length heads
@@ -151,12 +137,6 @@ get_call heads segments values list place at head x h found below is read =
     ap (λ y. Some y) read
     ∙ ap (λ p. Some (get_or values p x)) same
     ∙ sym (get_found heads segments values list place x h here.0 count)
-
-pub get_past_call : (heads : List ListHead) (segments : List Segment) (values : List Value) (list place : ℕ) (head : ListHead) → AreSound heads segments (length values)
-    → slice_get heads list ≡ Some head → head.count ≤ place → slice_get (get_or (lists_of heads segments values) list []) place ≡ None
-get_past_call heads segments values list place head h found past =
-    let here = head-found heads list head found in
-    get_past heads segments values list place h here.0 (subst (λ (y : ListHead). y.count ≤ place) (sym here.1) past)
 
 pub set_call : (heads : List ListHead) (segments : List Segment) (values : List Value) (list place at : ℕ) (head : ListHead) (v : Value) → AreSound heads segments (length values)
     → slice_get heads list ≡ Some head → place < head.count → at ≡ place_of (segment_at segments head.top).owner segments place
@@ -314,21 +294,18 @@ grown-fits heads segments size list most h within full below =
       get_or-le-sum_by saved heads list (record { owner = 0; count = 0; places = 0; top = 0 }) within,
     )
 
-pub sound_call : (heads heads' : List ListHead) (segments segments' : List Segment) (values values' : List Value) (list : ℕ) (u : Value) → AreSound heads segments (length values) → list < length heads
-    → heads' ≡ set heads list (record (head_at heads list) { places = (head_at heads list).places + size_of (head_at heads list).places; top = length segments })
-    → segments' ≡ segments ++ record { owner = (head_at heads list).owner; start = length values; first = (head_at heads list).places; before = (head_at heads list).top } ∷ []
+pub grown_call : (heads heads' : List ListHead) (segments segments' : List Segment) (values values' : List Value) (list : ℕ) (u : Value) → AreSound heads segments (length values) → list < length heads
+    → heads' ≡ set heads list (grown (head_at heads list) (length segments))
+    → segments' ≡ segments ++ next_segment (head_at heads list) (length values) ∷ []
     → values' ≡ values ++ replicate (size_of (head_at heads list).places) u
     → AreSound heads' segments' (length values') × (lists_of heads' segments' values' ≡ lists_of heads segments values)
-sound_call heads heads' segments segments' values values' list u h within heads-is segments-is values-is =
-    let more = replicate (size_of (head_at heads list).places) u in
-    let s : Segment = record { owner = (head_at heads list).owner; start = length values; first = (head_at heads list).places; before = (head_at heads list).top } in
-    let head : ListHead = record (head_at heads list) { places = (head_at heads list).places + size_of (head_at heads list).places; top = length segments } in
-    let size : length values' ≡ length values + size_of (head_at heads list).places =
-    ap length values-is ∙ length-append values more ∙ ap (λ n. length values + n) (length-replicate (size_of (head_at heads list).places) u) in
-    let sound = sound_grown heads segments (length values) list s head h within refl refl in (
+grown_call heads heads' segments segments' values values' list u h within heads-is segments-is values-is =
+    let places = size_of (head_at heads list).places in
+    let more = length-replicate places u in
+    let size : length values' ≡ length values + places = ap length values-is ∙ length-append values (replicate places u) ∙ ap (λ n. length values + n) more in (
       subst (λ n. AreSound heads' segments' n) (sym size)
-          (subst (λ hs. AreSound hs segments' (length values + size_of (head_at heads list).places)) (sym heads-is)
-          (subst (λ ss. AreSound (set heads list head) ss (length values + size_of (head_at heads list).places)) (sym segments-is) sound)),
-      (λ t. lists_of (heads-is t) (segments-is t) (values-is t))
-          ∙ lists_grown heads segments values more list s head h within refl refl (sym (length-replicate (size_of (head_at heads list).places) u)),
+          (subst (λ hs. AreSound hs segments' (length values + places)) (sym heads-is)
+          (subst (λ ss. AreSound (set heads list (grown (head_at heads list) (length segments))) ss (length values + places)) (sym segments-is)
+          (sound_grown heads segments (length values) list h within))),
+      (λ t. lists_of (heads-is t) (segments-is t) (values-is t)) ∙ lists_grown heads segments values (replicate places u) list h within (sym more),
     )

@@ -5,8 +5,8 @@ use Rattle.std.proofs.lemmas.List.{get_or-set_other, get_or-set_same, get_or_app
 use Rattle.rip_values.specs.declared.value.Value.{Value}
 use Rattle.rip_rows.specs.declared.segment.Segment.{Segment}
 use Rattle.rip_rows.specs.declared.segment.ListHead.{ListHead}
-use Rattle.rip_rows.specs.Segments.{AreKnown, AreLinked, AreSound, EndsAt, IsHead, LieWithin, area, head_at, list_of, lists_of, place_of, places_of, segment_at, size_if, size_of}
-use Rattle.rip_rows.proofs.AreaLemmas.{area-added_other, area-added_own, area-length, area-set, area-set_other, lie_added, places-added}
+use Rattle.rip_rows.specs.Segments.{AreKnown, AreLinked, AreSound, EndsAt, IsHead, LieWithin, area, grown, head_at, list_of, lists_of, next_segment, place_of, places_of, segment_at, size_if, size_of}
+use Rattle.rip_rows.proofs.AreaLemmas.{area-added_other, area-added_own, area-length, area-set, area-set_other, lie_added, places-added, size-own}
 
 -- ONE OF A LIST
 
@@ -174,63 +174,35 @@ head-kept segments s head apart h = record {
   topped = λ some. ends-kept segments (s ∷ []) head.owner head.top head.places (h.topped some);
 }
 
--- the segment that a list gets next, and its head with it
-pub sound_grown : (heads : List ListHead) (segments : List Segment) (size list : ℕ) (s : Segment) (head : ListHead) → AreSound heads segments size → list < length heads
-    → s ≡ record { owner = (head_at heads list).owner; start = size; first = (head_at heads list).places; before = (head_at heads list).top }
-    → head ≡ record (head_at heads list) { places = (head_at heads list).places + size_of (head_at heads list).places; top = length segments }
-    → AreSound (set heads list head) (segments ++ s ∷ []) (size + size_of (head_at heads list).places)
-sound_grown heads segments size list s head h within s-is head-is = record {
+-- a list gets its next segment
+pub sound_grown : (heads : List ListHead) (segments : List Segment) (size list : ℕ) → AreSound heads segments size → list < length heads
+    → AreSound (set heads list (grown (head_at heads list) (length segments))) (segments ++ next_segment (head_at heads list) size ∷ []) (size + size_of (head_at heads list).places)
+sound_grown heads segments size list h within = record {
   each = λ i lt. each i lt (cases_eq i list);
-  apart = apart-set heads list head within same h.apart;
-  linked = linked-added segments s h.linked first before;
-  lie = subst (λ to. LieWithin 0 to (segments ++ s ∷ [])) end (lie_added 0 size segments s h.lie (ap (λ (x : Segment). x.start) s-is));
+  apart = apart-set heads list head within refl h.apart;
+  linked = linked-added segments s h.linked old.counted old.topped;
+  lie = lie_added 0 size segments s h.lie refl;
 }
   where
     none : ListHead
     none = record { owner = 0; count = 0; places = 0; top = 0 }
 
+    s : Segment
+    s = next_segment (head_at heads list) size
+
+    head : ListHead
+    head = grown (head_at heads list) (length segments)
+
     old : IsHead segments (head_at heads list)
     old = h.each list within
 
-    same : head.owner ≡ (head_at heads list).owner
-    same = ap (λ (x : ListHead). x.owner) head-is
-
-    owner-is : s.owner ≡ (head_at heads list).owner
-    owner-is = ap (λ (x : Segment). x.owner) s-is
-
-    first-is : s.first ≡ (head_at heads list).places
-    first-is = ap (λ (x : Segment). x.first) s-is
-
-    first : s.first ≡ places_of s.owner segments
-    first = first-is ∙ old.counted ∙ ap (λ o. places_of o segments) (sym owner-is)
-
-    before : 0 < s.first → EndsAt segments s.owner s.before s.first
-    before some = subst (λ (x : Segment). EndsAt segments x.owner x.before x.first) (sym s-is) (old.topped (omega (arith, some, first-is)))
-
-    end : s.start + size_of s.first ≡ size + size_of (head_at heads list).places
-    end = ap (λ (x : Segment). x.start + size_of x.first) s-is
-
-    own : eqb s.owner head.owner ≡ true
-    own = eq-eqb s.owner head.owner (owner-is ∙ sym same)
-
     new : IsHead (segments ++ s ∷ []) head
     new =
-        let places : head.places ≡ (head_at heads list).places + size_of (head_at heads list).places = ap (λ (x : ListHead). x.places) head-is in
-        let count : head.count ≡ (head_at heads list).count = ap (λ (x : ListHead). x.count) head-is in
-        let top : head.top ≡ length segments = ap (λ (x : ListHead). x.top) head-is in
-        let older : places_of head.owner segments ≡ (head_at heads list).places = ap (λ o. places_of o segments) same ∙ sym old.counted in
-        let more : size_if (eqb s.owner head.owner) s ≡ size_of (head_at heads list).places = (λ t. size_if (own t) s) ∙ ap size_of first-is in
+        let own : size_if (eqb s.owner head.owner) s ≡ size_of s.first = size-own (eqb s.owner head.owner) s (eq-eqb s.owner head.owner refl) in
         record {
-          fits = omega (arith, old.fits, places, count);
-          counted = omega (arith, places, places-added head.owner segments s, older, more);
-          topped = λ some.
-              let ends = ends-added segments s in
-              record {
-                there = omega (arith, top, ends.there);
-                owned = ap (λ k. (segment_at (segments ++ s ∷ []) k).owner) top ∙ ends.owned ∙ owner-is ∙ sym same;
-                ends = ap (λ k. (segment_at (segments ++ s ∷ []) k).first + size_of (segment_at (segments ++ s ∷ []) k).first) top ∙ ends.ends
-                    ∙ ap (λ n. n + size_of n) first-is ∙ sym places;
-              };
+          fits = omega (arith, old.fits);
+          counted = omega (arith, old.counted, places-added head.owner segments s, own);
+          topped = λ some. ends-added segments s;
         }
 
     each : (i : ℕ) → i < length (set heads list head) → (i ≡ list) ⊎ (i ≢ list) → IsHead (segments ++ s ∷ []) (head_at (set heads list head) i)
@@ -240,34 +212,16 @@ sound_grown heads segments size list s head h within s-is head-is = record {
     each i lt (inr other) =
         let below : i < length heads = omega (arith, lt, length-set heads list head) in
         subst (IsHead (segments ++ s ∷ [])) (sym (get_or-set_other heads list i head none other))
-        (head-kept segments s (head_at heads i) (λ e. other (sym (h.apart list i within below (sym owner-is ∙ e)))) (h.each i below))
-
-pub known_grown : (heads : List ListHead) (segments : List Segment) (next list : ℕ) (s : Segment) (head : ListHead) → AreKnown heads segments next → list < length heads
-    → s.owner ≡ (head_at heads list).owner → head.owner ≡ (head_at heads list).owner → AreKnown (set heads list head) (segments ++ s ∷ []) next
-known_grown heads segments next list s head h within s-is head-is = record {
-  owners = λ i lt. omega (arith, owner-set heads list head within head-is i, h.owners i (omega (arith, lt, length-set heads list head)));
-  owned = λ k lt. owned k (by-place k lt);
-}
-  where
-    none : Segment
-    none = record { owner = 0; start = 0; first = 0; before = 0 }
-
-    by-place : (k : ℕ) → k < length (segments ++ s ∷ []) → (k < length segments) ⊎ (k ≡ length segments)
-    by-place k lt = let size = length-append segments (s ∷ []) in search (arith, size)
-
-    owned : (k : ℕ) → (k < length segments) ⊎ (k ≡ length segments) → (segment_at (segments ++ s ∷ []) k).owner < next
-    owned k (inl lt) = omega (arith, h.owned k lt, ap (λ (x : Segment). x.owner) (get_or_append_left segments (s ∷ []) none k lt))
-    owned k (inr e) = omega (arith, h.owners list within, s-is, ap (λ (x : Segment). x.owner) (get_or_at segments s [] none k (sym e)))
+        (head-kept segments s (head_at heads i) (λ e. other (sym (h.apart list i within below e))) (h.each i below))
 
 -- THE LISTS
 
 -- a list that gets a segment has the elements that it had, and so has each other
-pub lists_grown : (heads : List ListHead) (segments : List Segment) (values more : List Value) (list : ℕ) (s : Segment) (head : ListHead) → AreSound heads segments (length values) → list < length heads
-    → s ≡ record { owner = (head_at heads list).owner; start = length values; first = (head_at heads list).places; before = (head_at heads list).top }
-    → head ≡ record (head_at heads list) { places = (head_at heads list).places + size_of (head_at heads list).places; top = length segments }
+pub lists_grown : (heads : List ListHead) (segments : List Segment) (values more : List Value) (list : ℕ) → AreSound heads segments (length values) → list < length heads
     → size_of (head_at heads list).places ≡ length more
-    → lists_of (set heads list head) (segments ++ s ∷ []) (values ++ more) ≡ lists_of heads segments values
-lists_grown heads segments values more list s head h within s-is head-is size =
+    → lists_of (set heads list (grown (head_at heads list) (length segments))) (segments ++ next_segment (head_at heads list) (length values) ∷ []) (values ++ more)
+    ≡ lists_of heads segments values
+lists_grown heads segments values more list h within size =
     map-set_other (list_of values segments) (list_of (values ++ more) (segments ++ s ∷ [])) heads list head none other
     ∙ ap (set (lists_of heads segments values) list) own
     ∙ set-get_or-map (list_of values segments) heads list none within
@@ -275,30 +229,24 @@ lists_grown heads segments values more list s head h within s-is head-is size =
     none : ListHead
     none = record { owner = 0; count = 0; places = 0; top = 0 }
 
-    owner-is : s.owner ≡ (head_at heads list).owner
-    owner-is = ap (λ (x : Segment). x.owner) s-is
+    s : Segment
+    s = next_segment (head_at heads list) (length values)
 
-    start-is : s.start ≡ length values
-    start-is = ap (λ (x : Segment). x.start) s-is
-
-    size-is : size_of s.first ≡ length more
-    size-is = ap (λ (x : Segment). size_of x.first) s-is ∙ size
+    head : ListHead
+    head = grown (head_at heads list) (length segments)
 
     other : (i : ℕ) → i < length heads → i ≢ list → list_of (values ++ more) (segments ++ s ∷ []) (head_at heads i) ≡ list_of values segments (head_at heads i)
     other i lt apart =
-        let foreign : s.owner ≢ (head_at heads i).owner = λ e. apart (sym (h.apart list i within lt (sym owner-is ∙ e))) in
-        ap (take (head_at heads i).count) (area-added_other (head_at heads i).owner 0 values more segments s h.lie foreign)
+        ap (take (head_at heads i).count)
+        (area-added_other (head_at heads i).owner 0 values more segments s h.lie (λ e. apart (sym (h.apart list i within lt e))))
 
-    fits : (head_at heads list).count ≤ length (area (head_at heads list).owner values segments)
-    fits = omega (arith, (h.each list within).fits, (h.each list within).counted, area-length (head_at heads list).owner 0 values segments h.lie)
+    fits : head.count ≤ length (area head.owner values segments)
+    fits = omega (arith, (h.each list within).fits, (h.each list within).counted, area-length head.owner 0 values segments h.lie)
 
     own : list_of (values ++ more) (segments ++ s ∷ []) head ≡ list_of values segments (head_at heads list)
     own =
-        ap (λ (x : ListHead). take x.count (area x.owner (values ++ more) (segments ++ s ∷ []))) head-is
-        ∙ ap (λ o. take (head_at heads list).count (area o (values ++ more) (segments ++ s ∷ []))) (sym owner-is)
-        ∙ ap (take (head_at heads list).count) (area-added_own 0 values more segments s h.lie start-is size-is)
-        ∙ ap (λ o. take (head_at heads list).count (area o values segments ++ more)) owner-is
-        ∙ take-append-le (head_at heads list).count (area (head_at heads list).owner values segments) more fits
+        ap (take head.count) (area-added_own 0 values more segments s h.lie refl size)
+        ∙ take-append-le head.count (area head.owner values segments) more fits
 
 -- a place of a list is written, and its length set
 pub lists_written : (heads : List ListHead) (segments : List Segment) (values : List Value) (list place count : ℕ) (v : Value) → AreSound heads segments (length values) → list < length heads

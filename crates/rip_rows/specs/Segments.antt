@@ -67,6 +67,14 @@ LieWithin from to (s ∷ segments) = (s.start ≡ from) × LieWithin (s.start + 
 abbrev pub head_at : List ListHead → ℕ → ListHead
 head_at heads number = slice_index_or heads number (record { owner = 0; count = 0; places = 0; top = 0 })
 
+-- the segment that a list gets next, from that place of the row on: as long as all that it has
+abbrev pub next_segment : ListHead → ℕ → Segment
+next_segment head start = record { owner = head.owner; start = start; first = head.places; before = head.top }
+
+-- the head of a list that got its next segment, which has that number
+abbrev pub grown : ListHead → ℕ → ListHead
+grown head number = record head { places = head.places + size_of head.places; top = number }
+
 -- the elements of the list of a head: what the first places of the list hold
 abbrev pub list_of : List Value → List Segment → ListHead → List Value
 list_of values segments head = take head.count (area head.owner values segments)

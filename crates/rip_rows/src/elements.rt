@@ -1,5 +1,5 @@
 ghost use Rattle.std.specs.Prelude.{◌≡◌, ◌↔◌, ◌+◌, ◌-◌, ◌<◌, ◌≤◌, ◌++◌, ◌∷◌, [], IfOk, IsErr, OnErr, OnOk, length, slice_get, slice_range, slice_set, take};
-ghost use Rattle.rip_rows.specs.Elements.{list_at, with_list, with_more};
+ghost use Rattle.rip_rows.specs.Elements.{list_at, piece_of, with_empty_list, with_list, with_more};
 
 use crate::growth::{make_room, put};
 use crate::segment::{ListHead, Segment, place_of};
@@ -12,7 +12,8 @@ const MOST_ROOM: u32 = 0x7fff_ffff;
 
 /// The elements of all arrays of a session, list by list.
 ///
-/// What is spent is one for each list that was made and each element that was put, and is never given back.
+/// What is spent is one for each list that was made and each element that was put, and is never
+/// given back.
 #[derive(Debug, Drop)]
 pub struct ElementRows {
     heads: Vec<ListHead>,
@@ -30,11 +31,17 @@ impl Model for ElementRows {
 
     ghost use Rattle.rip_rows.specs.Segments.{AreKept, AreReserved, lists_of};
 
-    ghost view = { λ rows. record { lists = lists_of rows.heads.items rows.segments.items rows.values.items; spent = rows.spent; room = rows.room } };
+    ghost view = { λ rows. record {
+      lists = lists_of rows.heads.items rows.segments.items rows.values.items;
+      spent = rows.spent;
+      room = rows.room;
+    } };
 
     ghost invariant = { λ rows. record {
-      kept : AreKept rows.heads.items rows.segments.items (length rows.values.items) rows.spent rows.room;
-      reserved : AreReserved rows.room (vec_capacity rows.heads) (vec_capacity rows.segments) (vec_capacity rows.values);
+      kept : AreKept rows.heads.items rows.segments.items (length rows.values.items)
+          rows.spent rows.room;
+      reserved : AreReserved rows.room
+          (vec_capacity rows.heads) (vec_capacity rows.segments) (vec_capacity rows.values);
     } };
 }
 
@@ -83,7 +90,8 @@ impl ElementRows {
         Some(self.values[place_of(&self.segments, head.top, place)])
     }
 
-    /// Gives the element at this place the value. Past the end, and where there is no such list, nothing is changed.
+    /// Gives the element at this place the value. Past the end, and where there is no such list,
+    /// nothing is changed.
     pub fn set(&mut self, list: usize, place: u32, v: Value)
         ensures { self.new ≡ with_list self.old list (slice_set (list_at self.old list) place v) }
     {
@@ -111,7 +119,8 @@ impl ElementRows {
     /// Takes the last element of the list of that number away.
     pub fn pop(&mut self, list: usize) -> Option<Value>
         ensures last { result ≡ slice_get (list_at self.old list) (length (list_at self.old list) - 1) }
-        ensures left { self.new ≡ with_list self.old list (take (length (list_at self.old list) - 1) (list_at self.old list)) }
+        ensures left { self.new ≡ with_list self.old list
+            (take (length (list_at self.old list) - 1) (list_at self.old list)) }
     {
         let left = self.len(list).saturating_sub(1);
         let last = self.get(list, left);
@@ -128,7 +137,7 @@ impl ElementRows {
 
     /// Makes a list with no elements, behind the others.
     pub fn add_list(&mut self) -> Result<(), NoMemory>
-        ensures ok { OnOk result (self.new ≡ record self.old { lists = self.old.lists ++ [] ∷ []; spent = self.old.spent + 1 }) }
+        ensures ok { OnOk result (self.new ≡ with_empty_list self.old) }
         ensures err { OnErr result (self.new ≡ self.old) }
         ensures room { IsErr result ↔ (self.old.room ≤ self.old.spent) }
     {
@@ -177,7 +186,8 @@ impl ElementRows {
         Ok(())
     }
 
-    /// Puts copies of the elements of one list, from one place up to another, behind those of a list, all of them or none.
+    /// Puts copies of the elements of one list, from one place up to another, behind those of a
+    /// list, all of them or none.
     pub fn push_piece(
         &mut self,
         to: usize,
@@ -186,9 +196,9 @@ impl ElementRows {
         end: u32,
     ) -> Result<(), NoMemory>
         requires { to < length self.old.lists }
-        ensures ok { OnOk result (self.new ≡ with_more self.old to (slice_range (list_at self.old list) from end)) }
+        ensures ok { OnOk result (self.new ≡ with_more self.old to (piece_of self.old list from end)) }
         ensures err { OnErr result (self.new ≡ self.old) }
-        ensures room { IsErr result ↔ (self.old.room < self.old.spent + length (slice_range (list_at self.old list) from end)) }
+        ensures room { IsErr result ↔ (self.old.room < self.old.spent + length (piece_of self.old list from end)) }
     {
         let last = end.min(self.len(list));
         let first = from.min(last);

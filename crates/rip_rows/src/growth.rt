@@ -1,13 +1,13 @@
 ghost use Rattle.std.specs.Prelude.{◌≡◌, ℕ, ◌+◌, ◌^◌, ◌<◌, ◌≤◌, ◌++◌, ◌∷◌, [], length, replicate, slice_set, slice_index_or, vec_capacity};
 ghost use Rattle.std.specs.List.{sum_by};
 ghost use Rattle.rip_values.specs.declared.value.Value.TheVariants.{Undefined};
-ghost use Rattle.rip_rows.specs.Segments.{AreKnown, AreSound, HaveRoom, head_at, lists_of, saved, size_of};
+ghost use Rattle.rip_rows.specs.Segments.{AreKnown, AreSound, HaveRoom, grown, head_at, lists_of, next_segment, saved, size_of};
 
 use crate::segment::{ListHead, Segment, head_at, place_of, size_of};
 use rip_values::Value;
 
-/// Sees to it that the list has a place behind its elements: one that fills its places gets a segment as long as all that
-/// it has. The lists stay as they are.
+/// Sees to it that the list has a place behind its elements: one that fills its places gets a
+/// segment as long as all that it has. The lists stay as they are.
 pub(crate) fn make_room(
     heads: &mut Vec<ListHead>,
     segments: &mut Vec<Segment>,
@@ -16,14 +16,18 @@ pub(crate) fn make_room(
 )
     requires list { list < length heads.old.items }
     requires sound { AreSound heads.old.items segments.old.items (length values.old.items) }
-    requires room { HaveRoom heads.old.items segments.old.items (length values.old.items) (vec_capacity segments.old) (vec_capacity values.old) }
+    requires room { HaveRoom heads.old.items segments.old.items (length values.old.items)
+        (vec_capacity segments.old) (vec_capacity values.old) }
     ensures sound { AreSound heads.new.items segments.new.items (length values.new.items) }
-    ensures known { (next : ℕ) → AreKnown heads.old.items segments.old.items next → AreKnown heads.new.items segments.new.items next }
-    ensures lists { lists_of heads.new.items segments.new.items values.new.items ≡ lists_of heads.old.items segments.old.items values.old.items }
+    ensures known { (next : ℕ) → AreKnown heads.old.items segments.old.items next
+        → AreKnown heads.new.items segments.new.items next }
+    ensures lists { lists_of heads.new.items segments.new.items values.new.items
+        ≡ lists_of heads.old.items segments.old.items values.old.items }
     ensures place { (head_at heads.new.items list).count < (head_at heads.new.items list).places }
     ensures heads { length heads.new.items ≡ length heads.old.items }
     ensures segments { length segments.new.items ≤ length segments.old.items + 1 }
-    ensures paid { length values.new.items + sum_by saved heads.new.items ≤ length values.old.items + sum_by saved heads.old.items }
+    ensures paid { length values.new.items + sum_by saved heads.new.items
+        ≤ length values.old.items + sum_by saved heads.old.items }
     ensures heads_room { vec_capacity heads.new ≡ vec_capacity heads.old }
     ensures segments_room { vec_capacity segments.new ≡ vec_capacity segments.old }
     ensures values_room { vec_capacity values.new ≡ vec_capacity values.old }
@@ -47,7 +51,8 @@ pub(crate) fn put(
     requires sound { AreSound heads.old.items segments.now.items (length values.old.items) }
     requires place { (head_at heads.old.items list).count < (head_at heads.old.items list).places }
     ensures sound { AreSound heads.new.items segments.now.items (length values.new.items) }
-    ensures known { (next : ℕ) → AreKnown heads.old.items segments.now.items next → AreKnown heads.new.items segments.now.items next }
+    ensures known { (next : ℕ) → AreKnown heads.old.items segments.now.items next
+        → AreKnown heads.new.items segments.now.items next }
     ensures lists { lists_of heads.new.items segments.now.items values.new.items
         ≡ slice_set (lists_of heads.old.items segments.now.items values.old.items) list
         (slice_index_or (lists_of heads.old.items segments.now.items values.old.items) list [] ++ v ∷ []) }
@@ -73,20 +78,17 @@ fn add_segment(
     requires list { list < length heads.old.items }
     requires one { length segments.old.items < vec_capacity segments.old }
     requires numbered { length segments.old.items < 2 ^ 32 }
-    requires room { length values.old.items + size_of (head_at heads.old.items list).places ≤ vec_capacity values.old }
     requires placed { length values.old.items < 2 ^ 32 }
-    requires counted { (head_at heads.old.items list).places + size_of (head_at heads.old.items list).places < 2 ^ 32 }
-    ensures heads { heads.new.items ≡ slice_set heads.old.items list (record (head_at heads.old.items list) {
-      places = (head_at heads.old.items list).places + size_of (head_at heads.old.items list).places;
-      top = length segments.old.items;
-    }) }
-    ensures segments { segments.new.items ≡ segments.old.items ++ record {
-      owner = (head_at heads.old.items list).owner;
-      start = length values.old.items;
-      first = (head_at heads.old.items list).places;
-      before = (head_at heads.old.items list).top;
-    } ∷ [] }
-    ensures values { values.new.items ≡ values.old.items ++ replicate (size_of (head_at heads.old.items list).places) Undefined }
+    requires room { length values.old.items + size_of (head_at heads.old.items list).places
+        ≤ vec_capacity values.old }
+    requires counted { (head_at heads.old.items list).places
+        + size_of (head_at heads.old.items list).places < 2 ^ 32 }
+    ensures heads { heads.new.items ≡ slice_set heads.old.items list
+        (grown (head_at heads.old.items list) (length segments.old.items)) }
+    ensures segments { segments.new.items ≡ segments.old.items
+        ++ next_segment (head_at heads.old.items list) (length values.old.items) ∷ [] }
+    ensures values { values.new.items ≡ values.old.items
+        ++ replicate (size_of (head_at heads.old.items list).places) Undefined }
     ensures heads_room { vec_capacity heads.new ≡ vec_capacity heads.old }
     ensures segments_room { vec_capacity segments.new ≡ vec_capacity segments.old }
     ensures values_room { vec_capacity values.new ≡ vec_capacity values.old }

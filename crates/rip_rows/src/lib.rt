@@ -16,5 +16,7 @@
 mod elements;
 mod growth;
 mod segment;
+#[cfg(test)]
+mod tests;
 
 pub use elements::ElementRows;

@@ -1,8 +1,9 @@
 ghost use Rattle.std.specs.Prelude.{◌≡◌, ◌<◌, length};
 ghost use Rattle.rip_rows.specs.Segments.{AreLinked, IsWithin, head_at, place_of, segment_at, size_of};
 
-/// Places that lie side by side: of which list they are, where they begin, how many places of the list lie before them,
-/// and in which segment the last of those are. Nothing is before the first segment of a list.
+/// Places that lie side by side: of which list they are, where they begin, how many places of the
+/// list lie before them, and in which segment the last of those are. Nothing is before the first
+/// segment of a list.
 #[derive(Clone, Copy, Debug)]
 pub(crate) struct Segment {
     pub owner: u32,

@@ -2,7 +2,7 @@ use Rattle.std.proofs.Common.{◌≤◌, ap, arith, length}
 use Rattle.rip_values.specs.declared.value.Value.TheVariants.{Undefined}
 use Rattle.rip_rows.specs.Segments.{head_at}
 use Rattle.rip_rows.specs.declared.segment.ListHead.{ListHead}
-use Rattle.rip_rows.proofs.ListLemmas.{grown-fits, sound_call}
+use Rattle.rip_rows.proofs.ListLemmas.{grown-fits, grown_call}
 use Rattle.rip_rows.proofs.growth.make_room.Goals as goal
 
 pub add_segment-requires-clause-counted : goal.add_segment-requires-clause-counted
@@ -13,10 +13,10 @@ add_segment-requires-clause-counted c =
 
 pub returns-clause-sound : goal.returns-clause-sound
 returns-clause-sound c =
-    (sound_call c.args.heads.now.items c.add_segment.new.heads.items c.args.segments.now.items c.add_segment.new.segments.items c.args.values.now.items c.add_segment.new.values.items c.args.list
+    (grown_call c.args.heads.now.items c.add_segment.new.heads.items c.args.segments.now.items c.add_segment.new.segments.items c.args.values.now.items c.add_segment.new.values.items c.args.list
     Undefined c.requires.sound c.requires.list c.add_segment.ensures.heads c.add_segment.ensures.segments c.add_segment.ensures.values).0
 
 pub returns-clause-lists : goal.returns-clause-lists
 returns-clause-lists c =
-    (sound_call c.args.heads.now.items c.add_segment.new.heads.items c.args.segments.now.items c.add_segment.new.segments.items c.args.values.now.items c.add_segment.new.values.items c.args.list
+    (grown_call c.args.heads.now.items c.add_segment.new.heads.items c.args.segments.now.items c.add_segment.new.segments.items c.args.values.now.items c.add_segment.new.values.items c.args.list
     Undefined c.requires.sound c.requires.list c.add_segment.ensures.heads c.add_segment.ensures.segments c.add_segment.ensures.values).1
