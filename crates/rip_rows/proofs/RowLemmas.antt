@@ -1,11 +1,11 @@
 -- Lists as their heads, segments and values show them: an element written, a place more, a list more, and a front of them.
-use Rattle.std.proofs.Common.{◌≡◌, ◌≢◌, ℕ, zero, suc, ◌+◌, ◌<◌, ◌≤◌, true, eqb, ◌⊎◌, inl, inr, List, [], ◌∷◌, ◌++◌, length, map, refl, sym, ap, ◌∙◌, subst, arith, get_or, set, take}
+use Rattle.std.proofs.Common.{◌≡◌, ◌≢◌, ℕ, zero, suc, ◌+◌, ◌<◌, ◌≤◌, eqb, ◌⊎◌, inl, inr, List, [], ◌∷◌, ◌++◌, length, map, refl, sym, ap, ◌∙◌, subst, arith, get_or, set, take}
 use Rattle.std.proofs.lemmas.Bool.{cases_eq, eq-eqb, ne_eqb}
 use Rattle.std.proofs.lemmas.List.{get_or-set_other, get_or-set_same, get_or_append_left, get_or_at, length-append, length-set, take-append-le, take_at}
 use Rattle.rip_values.specs.declared.value.Value.{Value}
 use Rattle.rip_rows.specs.declared.segment.Segment.{Segment}
 use Rattle.rip_rows.specs.declared.segment.ListHead.{ListHead}
-use Rattle.rip_rows.specs.Segments.{AreKnown, AreLinked, AreSound, EndsAt, IsHead, LieWithin, area, grown, head_at, list_of, lists_of, next_segment, place_of, places_of, segment_at, size_if, size_of}
+use Rattle.rip_rows.specs.Segments.{AreKnown, AreLinked, AreSound, EndsAt, IsHead, area, grown, head_at, list_of, lists_of, next_segment, place_of, places_of, segment_at, size_if, size_of}
 use Rattle.rip_rows.proofs.AreaLemmas.{area-added_other, area-added_own, area-length, area-set, area-set_other, lie_added, places-added, size-own}
 
 -- ONE OF A LIST

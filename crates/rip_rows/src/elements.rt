@@ -118,7 +118,8 @@ impl ElementRows {
 
     /// Takes the last element of the list of that number away.
     pub fn pop(&mut self, list: usize) -> Option<Value>
-        ensures last { result ≡ slice_get (list_at self.old list) (length (list_at self.old list) - 1) }
+        ensures last { result ≡ slice_get (list_at self.old list)
+            (length (list_at self.old list) - 1) }
         ensures left { self.new ≡ with_list self.old list
             (take (length (list_at self.old list) - 1) (list_at self.old list)) }
     {
@@ -170,7 +171,8 @@ impl ElementRows {
         Ok(())
     }
 
-    /// Puts copies of these items behind the elements of the list of that number, all of them or none.
+    /// Puts copies of these items behind the elements of the list of that number, all of them or
+    /// none.
     pub fn push_all(&mut self, list: usize, items: &[Value]) -> Result<(), NoMemory>
         requires { list < length self.old.lists }
         ensures ok { OnOk result (self.new ≡ with_more self.old list items.now) }
@@ -198,7 +200,8 @@ impl ElementRows {
         requires { to < length self.old.lists }
         ensures ok { OnOk result (self.new ≡ with_more self.old to (piece_of self.old list from end)) }
         ensures err { OnErr result (self.new ≡ self.old) }
-        ensures room { IsErr result ↔ (self.old.room < self.old.spent + length (piece_of self.old list from end)) }
+        ensures room { IsErr result
+            ↔ (self.old.room < self.old.spent + length (piece_of self.old list from end)) }
     {
         let last = end.min(self.len(list));
         let first = from.min(last);

@@ -3,7 +3,7 @@ ghost use Rattle.rip_rows.specs.Segments.{AreLinked, IsWithin, head_at, place_of
 
 /// Places that lie side by side: of which list they are, where they begin, how many places of the
 /// list lie before them, and in which segment the last of those are. Nothing is before the first
-/// segment of a list.
+/// segment of a list. The owner is read by the proofs alone.
 #[derive(Clone, Copy, Debug)]
 pub(crate) struct Segment {
     pub owner: u32,
@@ -12,8 +12,8 @@ pub(crate) struct Segment {
     pub before: u32,
 }
 
-/// A list: its own number, which no other list ever has, how many elements it has, how many places, and which segment
-/// is its last. A list with no places has no segment.
+/// A list: its own number, which no other list ever has, how many elements it has, how many places,
+/// and which segment is its last. A list with no places has no segment.
 #[derive(Clone, Copy, Debug)]
 pub(crate) struct ListHead {
     pub owner: u32,
@@ -22,7 +22,8 @@ pub(crate) struct ListHead {
     pub top: u32,
 }
 
-/// How many places stand side by side behind so many of a list: as many again, and one where there are none.
+/// How many places stand side by side behind so many of a list: as many again, and one where there
+/// are none.
 pub(crate) fn size_of(first: u32) -> u32
     ensures { result ≡ size_of first }
 {
@@ -45,7 +46,8 @@ pub(crate) fn head_at(heads: &Vec<ListHead>, list: usize) -> ListHead
     heads[list]
 }
 
-/// Where in the row this place of a list lies, found from a segment of the list that ends behind it.
+/// Where in the row this place of a list lies, found from a segment of the list that ends behind
+/// it.
 pub(crate) fn place_of(segments: &Vec<Segment>, from: u32, place: u32) -> usize
     requires linked { AreLinked segments.now.items }
     requires within { IsWithin segments.now.items from place }
