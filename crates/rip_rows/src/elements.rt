@@ -198,7 +198,8 @@ impl ElementRows {
         end: u32,
     ) -> Result<(), NoMemory>
         requires { to < length self.old.lists }
-        ensures ok { OnOk result (self.new ≡ with_more self.old to (piece_of self.old list from end)) }
+        ensures ok { OnOk result
+            (self.new ≡ with_more self.old to (piece_of self.old list from end)) }
         ensures err { OnErr result (self.new ≡ self.old) }
         ensures room { IsErr result
             ↔ (self.old.room < self.old.spent + length (piece_of self.old list from end)) }

@@ -51,7 +51,8 @@ pub(crate) fn head_at(heads: &Vec<ListHead>, list: usize) -> ListHead
 pub(crate) fn place_of(segments: &Vec<Segment>, from: u32, place: u32) -> usize
     requires linked { AreLinked segments.now.items }
     requires within { IsWithin segments.now.items from place }
-    ensures { result ≡ place_of (segment_at segments.now.items from).owner segments.now.items place }
+    ensures { result
+        ≡ place_of (segment_at segments.now.items from).owner segments.now.items place }
 {
     let mut number = from;
     while segment_at(segments, number).first > place {
