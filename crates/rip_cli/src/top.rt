@@ -18,6 +18,7 @@ use rip_app::App;
 use rip_drive::{DriveRefusal, drive};
 use rip_generate::generate;
 use rip_outer::{Clock, Door, Files, Sink, SinkError, Words};
+use rip_site::serve_app;
 use rip_words::command_of;
 use std::alloc::Global;
 
