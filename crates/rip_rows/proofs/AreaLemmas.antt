@@ -4,7 +4,6 @@ use Rattle.std.specs.Prelude.{slice_range}
 use Rattle.std.proofs.lemmas.Bool.{cases_lt, eq-eqb, eqb-true, ne_eqb, le-ltb, lt-ltb}
 use Rattle.std.proofs.Math.Seq.{take-set-lt}
 use Rattle.std.proofs.lemmas.List.{append-nil, append_assoc, drop-append-le, drop-set-add, drop-set-lt, drop_at, get_or-append_right, get_or-drop, get_or-take, get_or_append_left, length-append, length-drop, length-take-le, set-append_left, set-append_right, take-append-le, take-set-le, take_all}
-use Rattle.rip_values.specs.declared.value.Value.{Value}
 use Rattle.rip_rows.specs.declared.segment.Segment.{Segment}
 use Rattle.rip_rows.specs.Segments.{LieWithin, area, part_if, place_of, places_of, segment_at, size_if, size_of}
 
@@ -55,27 +54,27 @@ pub size-own : (b : Bool) (s : Segment) → b ≡ true → size_if b s ≡ size_
 size-own true s e = refl
 size-own false s e = cc
 
-length-part : (b : Bool) (values : List Value) (s : Segment) → s.start + size_of s.first ≤ length values → length (part_if b values s) ≡ size_if b s
+length-part : {A : Type 0} (b : Bool) (values : List A) (s : Segment) → s.start + size_of s.first ≤ length values → length (part_if b values s) ≡ size_if b s
 length-part true values s h = part-length values s.start (size_of s.first) h
 length-part false values s h = refl
 
-get-part : (b : Bool) (values : List Value) (s : Segment) (i : ℕ) (d : Value) → i < size_if b s → get_or (part_if b values s) i d ≡ get_or values (s.start + i) d
+get-part : {A : Type 0} (b : Bool) (values : List A) (s : Segment) (i : ℕ) (d : A) → i < size_if b s → get_or (part_if b values s) i d ≡ get_or values (s.start + i) d
 get-part true values s i d h = part-get values s.start (size_of s.first) i d h
 get-part false values s i d h = absurd (omega (arith, h))
 
-set-part : (b : Bool) (values : List Value) (s : Segment) (i : ℕ) (v : Value) → i < size_if b s → part_if b (set values (s.start + i) v) s ≡ set (part_if b values s) i v
+set-part : {A : Type 0} (b : Bool) (values : List A) (s : Segment) (i : ℕ) (v : A) → i < size_if b s → part_if b (set values (s.start + i) v) s ≡ set (part_if b values s) i v
 set-part true values s i v h = part-set values s.start (size_of s.first) i v h
 set-part false values s i v h = absurd (omega (arith, h))
 
-set-part-below : (b : Bool) (values : List Value) (s : Segment) (k : ℕ) (v : Value) → s.start + size_of s.first ≤ k → part_if b (set values k v) s ≡ part_if b values s
+set-part-below : {A : Type 0} (b : Bool) (values : List A) (s : Segment) (k : ℕ) (v : A) → s.start + size_of s.first ≤ k → part_if b (set values k v) s ≡ part_if b values s
 set-part-below true values s k v h = part-set-below values s.start (size_of s.first) k v h
 set-part-below false values s k v h = refl
 
-set-part-above : (b : Bool) (values : List Value) (s : Segment) (k : ℕ) (v : Value) → k < s.start → part_if b (set values k v) s ≡ part_if b values s
+set-part-above : {A : Type 0} (b : Bool) (values : List A) (s : Segment) (k : ℕ) (v : A) → k < s.start → part_if b (set values k v) s ≡ part_if b values s
 set-part-above true values s k v h = part-set-above values s.start (size_of s.first) k v h
 set-part-above false values s k v h = refl
 
-append-part : (b : Bool) (values more : List Value) (s : Segment) → s.start + size_of s.first ≤ length values → part_if b (values ++ more) s ≡ part_if b values s
+append-part : {A : Type 0} (b : Bool) (values more : List A) (s : Segment) → s.start + size_of s.first ≤ length values → part_if b (values ++ more) s ≡ part_if b values s
 append-part true values more s h = part-append values more s.start (size_of s.first) h
 append-part false values more s h = refl
 
@@ -138,7 +137,7 @@ place-found owner (suc k) i (s ∷ segments) h e lt =
 
 -- WHAT THE PLACES HOLD
 
-pub area-length : (owner from : ℕ) (values : List Value) (segments : List Segment) → LieWithin from (length values) segments → length (area owner values segments) ≡ places_of owner segments
+pub area-length : {A : Type 0} (owner from : ℕ) (values : List A) (segments : List Segment) → LieWithin from (length values) segments → length (area owner values segments) ≡ places_of owner segments
 area-length owner from values [] lie = refl
 area-length owner from values (s ∷ segments) lie =
     length-append (part_if (eqb s.owner owner) values s) (area owner values segments)
@@ -146,17 +145,17 @@ area-length owner from values (s ∷ segments) lie =
     + area-length owner (s.start + size_of s.first) values segments lie.1 t)
 
 -- a place of a list is read
-pub area-get : (owner place from : ℕ) (values : List Value) (segments : List Segment) (d : Value) → LieWithin from (length values) segments → place < places_of owner segments
+pub area-get : {A : Type 0} (owner place from : ℕ) (values : List A) (segments : List Segment) (d : A) → LieWithin from (length values) segments → place < places_of owner segments
     → get_or (area owner values segments) place d ≡ get_or values (place_of owner segments place) d
 area-get owner place from values [] d lie h = absurd (omega (arith, h))
-area-get owner place from values (s ∷ segments) d lie h =
+area-get {A} owner place from values (s ∷ segments) d lie h =
     by (λ ge. area-get owner (place - size_if (eqb s.owner owner) s) (s.start + size_of s.first) values segments d lie.1 (omega (arith, ge, h)))
     (cases_lt place (size_if (eqb s.owner owner) s))
   where
     mine : ℕ
     mine = size_if (eqb s.owner owner) s
 
-    part : List Value
+    part : List A
     part = part_if (eqb s.owner owner) values s
 
     size : length part ≡ mine
@@ -174,7 +173,7 @@ area-get owner place from values (s ∷ segments) d lie h =
         ∙ ap (λ p. get_or values p d) (sym (past-place owner place s segments ge))
 
 -- a write before the segments changes none of their places
-area-behind : (owner from to k : ℕ) (values : List Value) (segments : List Segment) (v : Value) → LieWithin from to segments → k < from
+area-behind : {A : Type 0} (owner from to k : ℕ) (values : List A) (segments : List Segment) (v : A) → LieWithin from to segments → k < from
     → area owner (set values k v) segments ≡ area owner values segments
 area-behind owner from to k values [] v lie h = refl
 area-behind owner from to k values (s ∷ segments) v lie h =
@@ -183,10 +182,10 @@ area-behind owner from to k values (s ∷ segments) v lie h =
     λ t. set-part-above (eqb s.owner owner) values s k v above t ++ area-behind owner (s.start + size_of s.first) to k values segments v lie.1 further t
 
 -- a place of a list is written
-pub area-set : (owner place from : ℕ) (values : List Value) (segments : List Segment) (v : Value) → LieWithin from (length values) segments → place < places_of owner segments
+pub area-set : {A : Type 0} (owner place from : ℕ) (values : List A) (segments : List Segment) (v : A) → LieWithin from (length values) segments → place < places_of owner segments
     → area owner (set values (place_of owner segments place) v) segments ≡ set (area owner values segments) place v
 area-set owner place from values [] v lie h = absurd (omega (arith, h))
-area-set owner place from values (s ∷ segments) v lie h =
+area-set {A} owner place from values (s ∷ segments) v lie h =
     by (λ ge. area-set owner (place - size_if (eqb s.owner owner) s) (s.start + size_of s.first) values segments v lie.1 (omega (arith, ge, h)))
     (cases_lt place (size_if (eqb s.owner owner) s))
   where
@@ -199,7 +198,7 @@ area-set owner place from values (s ∷ segments) v lie h =
     most : mine ≤ size_of s.first
     most = size-most (eqb s.owner owner) s
 
-    part : List Value
+    part : List A
     part = part_if (eqb s.owner owner) values s
 
     size : length part ≡ mine
@@ -222,7 +221,7 @@ area-set owner place from values (s ∷ segments) v lie h =
         ∙ sym (set-append_right part (area owner values segments) mine place v size ge)
 
 -- and no place of another list
-pub area-set_other : (other owner place from : ℕ) (values : List Value) (segments : List Segment) (v : Value) → other ≢ owner → LieWithin from (length values) segments → place < places_of owner segments
+pub area-set_other : {A : Type 0} (other owner place from : ℕ) (values : List A) (segments : List Segment) (v : A) → other ≢ owner → LieWithin from (length values) segments → place < places_of owner segments
     → area other (set values (place_of owner segments place) v) segments ≡ area other values segments
 area-set_other other owner place from values [] v apart lie h = absurd (omega (arith, h))
 area-set_other other owner place from values (s ∷ segments) v apart lie h =
@@ -257,7 +256,7 @@ pub places-added : (owner : ℕ) (segments : List Segment) (s : Segment) → pla
 places-added owner [] s = omega arith
 places-added owner (x ∷ segments) s = omega (arith, places-added owner segments s)
 
-area-added : (owner from : ℕ) (values more : List Value) (segments : List Segment) (s : Segment) → LieWithin from (length values) segments
+area-added : {A : Type 0} (owner from : ℕ) (values more : List A) (segments : List Segment) (s : Segment) → LieWithin from (length values) segments
     → area owner (values ++ more) (segments ++ s ∷ []) ≡ area owner values segments ++ part_if (s.owner == owner) (values ++ more) s
 area-added owner from values more [] s lie = append-nil (part_if (eqb s.owner owner) (values ++ more) s)
 area-added owner from values more (x ∷ segments) s lie =
@@ -266,7 +265,7 @@ area-added owner from values more (x ∷ segments) s lie =
     ∙ sym (append_assoc (part_if (eqb x.owner owner) values x) (area owner values segments) (part_if (eqb s.owner owner) (values ++ more) s))
 
 -- of the list itself
-pub area-added_own : (from : ℕ) (values more : List Value) (segments : List Segment) (s : Segment) → LieWithin from (length values) segments → s.start ≡ length values → size_of s.first ≡ length more
+pub area-added_own : {A : Type 0} (from : ℕ) (values more : List A) (segments : List Segment) (s : Segment) → LieWithin from (length values) segments → s.start ≡ length values → size_of s.first ≡ length more
     → area s.owner (values ++ more) (segments ++ s ∷ []) ≡ area s.owner values segments ++ more
 area-added_own from values more segments s lie start size =
     area-added s.owner from values more segments s lie
@@ -277,7 +276,7 @@ area-added_own from values more segments s lie start size =
     new = (λ t. slice_range (values ++ more) (start t) (start t + size t)) ∙ part-end values more
 
 -- of another list
-pub area-added_other : (owner from : ℕ) (values more : List Value) (segments : List Segment) (s : Segment) → LieWithin from (length values) segments → s.owner ≢ owner
+pub area-added_other : {A : Type 0} (owner from : ℕ) (values more : List A) (segments : List Segment) (s : Segment) → LieWithin from (length values) segments → s.owner ≢ owner
     → area owner (values ++ more) (segments ++ s ∷ []) ≡ area owner values segments
 area-added_other owner from values more segments s lie apart =
     area-added owner from values more segments s lie

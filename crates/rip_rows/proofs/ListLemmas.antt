@@ -6,7 +6,6 @@ use Rattle.std.proofs.lemmas.Bool.{ne_eqb}
 use Rattle.std.proofs.lemmas.List.{get_or-map, get_or-take, get_or_append_left, get_or_at, get_or_read, length-append, length-replicate, length-set, length-take-le, set-get_or, take-take, take_more_set}
 use Rattle.std.proofs.lemmas.List.Sums.{get_or-le-sum_by, sum_by-set, sum_by_push}
 use Rattle.std.proofs.lemmas.Option.{get_or_from_slice_get, slice_get-get_or, slice_get_within}
-use Rattle.rip_values.specs.declared.value.Value.{Value}
 use Rattle.rip_rows.specs.declared.segment.Segment.{Segment}
 use Rattle.rip_rows.specs.declared.segment.ListHead.{ListHead}
 use Rattle.rip_rows.specs.Segments.{AreKept, AreSound, IsHead, LieWithin, area, grown, head_at, list_of, lists_of, next_segment, place_of, places_of, saved, segment_at, size_if, size_of}
@@ -15,16 +14,16 @@ use Rattle.rip_rows.proofs.RowLemmas.{head_counts, known_set, lists_grown, lists
 
 -- ONE LIST
 
-pub list-here : (heads : List ListHead) (segments : List Segment) (values : List Value) (list : ℕ) → list < length heads
+pub list-here : {A : Type 0} (heads : List ListHead) (segments : List Segment) (values : List A) (list : ℕ) → list < length heads
     → get_or (lists_of heads segments values) list [] ≡ list_of values segments (head_at heads list)
 list-here heads segments values list within = get_or-map (list_of values segments) heads list (record { owner = 0; count = 0; places = 0; top = 0 }) [] within
 
 -- the places of a list hold all its elements
-pub area-size : (heads : List ListHead) (segments : List Segment) (values : List Value) (list : ℕ) → AreSound heads segments (length values) → list < length heads
+pub area-size : {A : Type 0} (heads : List ListHead) (segments : List Segment) (values : List A) (list : ℕ) → AreSound heads segments (length values) → list < length heads
     → length (area (head_at heads list).owner values segments) ≡ (head_at heads list).places
 area-size heads segments values list h within = area-length (head_at heads list).owner 0 values segments h.lie ∙ sym (h.each list within).counted
 
-pub list-length : (heads : List ListHead) (segments : List Segment) (values : List Value) (list : ℕ) → AreSound heads segments (length values) → list < length heads
+pub list-length : {A : Type 0} (heads : List ListHead) (segments : List Segment) (values : List A) (list : ℕ) → AreSound heads segments (length values) → list < length heads
     → length (get_or (lists_of heads segments values) list []) ≡ (head_at heads list).count
 list-length heads segments values list h within =
     ap length (list-here heads segments values list within)
@@ -39,7 +38,7 @@ place-within heads segments size list place h within below =
 
 -- WHAT IS READ
 
-pub get_found : (heads : List ListHead) (segments : List Segment) (values : List Value) (list place : ℕ) (d : Value) → AreSound heads segments (length values) → list < length heads
+pub get_found : {A : Type 0} (heads : List ListHead) (segments : List Segment) (values : List A) (list place : ℕ) (d : A) → AreSound heads segments (length values) → list < length heads
     → place < (head_at heads list).count
     → slice_get (get_or (lists_of heads segments values) list []) place ≡ Some (get_or values (place_of (head_at heads list).owner segments place) d)
 get_found heads segments values list place d h within below =
@@ -51,7 +50,7 @@ get_found heads segments values list place d h within below =
 
 -- WHAT IS WRITTEN
 
-pub set_found : (heads : List ListHead) (segments : List Segment) (values : List Value) (list place : ℕ) (v : Value) → AreSound heads segments (length values) → list < length heads
+pub set_found : {A : Type 0} (heads : List ListHead) (segments : List Segment) (values : List A) (list place : ℕ) (v : A) → AreSound heads segments (length values) → list < length heads
     → place < (head_at heads list).count
     → lists_of heads segments (set values (place_of (head_at heads list).owner segments place) v)
     ≡ set (lists_of heads segments values) list (set (get_or (lists_of heads segments values) list []) place v)
@@ -64,7 +63,7 @@ set_found heads segments values list place v h within below =
     ∙ ap (λ xs. set (lists_of heads segments values) list (set xs place v)) (sym (list-here heads segments values list within))
 
 -- an element behind the others
-pub lists_put : (heads : List ListHead) (segments : List Segment) (values : List Value) (list : ℕ) (v : Value) → AreSound heads segments (length values) → list < length heads
+pub lists_put : {A : Type 0} (heads : List ListHead) (segments : List Segment) (values : List A) (list : ℕ) (v : A) → AreSound heads segments (length values) → list < length heads
     → (head_at heads list).count < (head_at heads list).places
     → lists_of (set heads list (record (head_at heads list) { count = (head_at heads list).count + 1 })) segments (set values (place_of (head_at heads list).owner segments (head_at heads list).count) v)
     ≡ set (lists_of heads segments values) list (get_or (lists_of heads segments values) list [] ++ v ∷ [])
@@ -75,7 +74,7 @@ lists_put heads segments values list v h within room =
     ∙ ap (λ xs. set (lists_of heads segments values) list (xs ++ v ∷ [])) (sym (list-here heads segments values list within))
 
 -- the first elements alone
-pub lists_cut : (heads : List ListHead) (segments : List Segment) (values : List Value) (list count : ℕ) → list < length heads → count ≤ (head_at heads list).count
+pub lists_cut : {A : Type 0} (heads : List ListHead) (segments : List Segment) (values : List A) (list count : ℕ) → list < length heads → count ≤ (head_at heads list).count
     → lists_of (set heads list (record (head_at heads list) { count = count })) segments values
     ≡ set (lists_of heads segments values) list (take count (get_or (lists_of heads segments values) list []))
 lists_cut heads segments values list count within fewer =
@@ -106,7 +105,7 @@ top-place heads segments size list place h within below =
     let some : 0 < (head_at heads list).places = omega (arith, below) in
     ap (λ o. place_of o segments place) ((h.each list within).topped some).owned
 
-pub len_call : (heads : List ListHead) (segments : List Segment) (values : List Value) (list : ℕ) (head : ListHead) → AreSound heads segments (length values) → slice_get heads list ≡ Some head
+pub len_call : {A : Type 0} (heads : List ListHead) (segments : List Segment) (values : List A) (list : ℕ) (head : ListHead) → AreSound heads segments (length values) → slice_get heads list ≡ Some head
     → head.count ≡ length (get_or (lists_of heads segments values) list [])
 len_call heads segments values list head h found =
     let here = head-found heads list head found in
@@ -127,7 +126,7 @@ fits_call heads segments size list place head h found below =
     let fits : head.count ≤ head.places = subst (λ (x : ListHead). x.count ≤ x.places) here.1 (h.each list here.0).fits in
     omega (arith, below, fits)
 
-pub get_call : (heads : List ListHead) (segments : List Segment) (values : List Value) (list place at : ℕ) (head : ListHead) (x : Value) → AreSound heads segments (length values)
+pub get_call : {A : Type 0} (heads : List ListHead) (segments : List Segment) (values : List A) (list place at : ℕ) (head : ListHead) (x : A) → AreSound heads segments (length values)
     → slice_get heads list ≡ Some head → place < head.count → at ≡ place_of (segment_at segments head.top).owner segments place → x ≡ get_or values at x
     → Some x ≡ slice_get (get_or (lists_of heads segments values) list []) place
 get_call heads segments values list place at head x h found below is read =
@@ -138,7 +137,7 @@ get_call heads segments values list place at head x h found below is read =
     ∙ ap (λ p. Some (get_or values p x)) same
     ∙ sym (get_found heads segments values list place x h here.0 count)
 
-pub set_call : (heads : List ListHead) (segments : List Segment) (values : List Value) (list place at : ℕ) (head : ListHead) (v : Value) → AreSound heads segments (length values)
+pub set_call : {A : Type 0} (heads : List ListHead) (segments : List Segment) (values : List A) (list place at : ℕ) (head : ListHead) (v : A) → AreSound heads segments (length values)
     → slice_get heads list ≡ Some head → place < head.count → at ≡ place_of (segment_at segments head.top).owner segments place
     → lists_of heads segments (set values at v) ≡ set (lists_of heads segments values) list (set (get_or (lists_of heads segments values) list []) place v)
 set_call heads segments values list place at head v h found below is =
@@ -151,7 +150,7 @@ set_call heads segments values list place at head v h found below is =
 pub head-read : (heads : List ListHead) (list : ℕ) (head : ListHead) → list < length heads → head ≡ get_or heads list head → head ≡ head_at heads list
 head-read heads list head within is = get_or_read heads list head within is (record { owner = 0; count = 0; places = 0; top = 0 })
 
-pub cut_call : (heads : List ListHead) (segments : List Segment) (values : List Value) (list count : ℕ) (head old : ListHead) → slice_get heads list ≡ Some head → count < head.count → old ≡ get_or heads list old
+pub cut_call : {A : Type 0} (heads : List ListHead) (segments : List Segment) (values : List A) (list count : ℕ) (head old : ListHead) → slice_get heads list ≡ Some head → count < head.count → old ≡ get_or heads list old
     → lists_of (set heads list (record old { count = count })) segments values ≡ set (lists_of heads segments values) list (take count (get_or (lists_of heads segments values) list []))
 cut_call heads segments values list count head old found fewer is =
     let here = head-found heads list head found in
@@ -189,7 +188,7 @@ put_place heads segments size list at head h within room head-is is =
     ∙ top-place heads segments size list (head_at heads list).count h within room in
     (same, omega (arith, same, place-within heads segments size list (head_at heads list).count h within room))
 
-pub put_call : (heads : List ListHead) (segments : List Segment) (values : List Value) (list at : ℕ) (head old : ListHead) (v : Value) → AreSound heads segments (length values) → list < length heads
+pub put_call : {A : Type 0} (heads : List ListHead) (segments : List Segment) (values : List A) (list at : ℕ) (head old : ListHead) (v : A) → AreSound heads segments (length values) → list < length heads
     → (head_at heads list).count < (head_at heads list).places → head ≡ head_at heads list → old ≡ get_or heads list old → at ≡ place_of (segment_at segments head.top).owner segments head.count
     → lists_of (set heads list (record old { count = head.count + 1 })) segments (set values at v)
     ≡ set (lists_of heads segments values) list (get_or (lists_of heads segments values) list [] ++ v ∷ [])
@@ -294,7 +293,7 @@ grown-fits heads segments size list most h within full below =
       get_or-le-sum_by saved heads list (record { owner = 0; count = 0; places = 0; top = 0 }) within,
     )
 
-pub grown_call : (heads heads' : List ListHead) (segments segments' : List Segment) (values values' : List Value) (list : ℕ) (u : Value) → AreSound heads segments (length values) → list < length heads
+pub grown_call : {A : Type 0} (heads heads' : List ListHead) (segments segments' : List Segment) (values values' : List A) (list : ℕ) (u : A) → AreSound heads segments (length values) → list < length heads
     → heads' ≡ set heads list (grown (head_at heads list) (length segments))
     → segments' ≡ segments ++ next_segment (head_at heads list) (length values) ∷ []
     → values' ≡ values ++ replicate (size_of (head_at heads list).places) u

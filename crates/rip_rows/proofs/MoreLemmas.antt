@@ -4,10 +4,9 @@ use Rattle.std.specs.Prelude.{slice_range}
 use Rattle.std.proofs.lemmas.Bool.{cases_eq}
 use Rattle.std.proofs.lemmas.List.{get_or-drop, get_or-set_other, get_or-set_same, get_or_append_left, length-append, length-drop, set-set, take_more}
 use Rattle.std.proofs.lemmas.Option.{get_or_from_slice_get}
-use Rattle.rip_values.specs.declared.value.Value.{Value}
-use Rattle.rip_rows.specs.Elements.{Elements, list_at, with_list, with_more}
+use Rattle.rip_rows.specs.Rows.{Rows, list_at, with_list, with_more}
 
-pub more_more : (rows : Elements) (list : ℕ) (xs ys : List Value) → list < length rows.lists → with_more (with_more rows list xs) list ys ≡ with_more rows list (xs ++ ys)
+pub more_more : {A : Type 0} (rows : Rows A) (list : ℕ) (xs ys : List A) → list < length rows.lists → with_more (with_more rows list xs) list ys ≡ with_more rows list (xs ++ ys)
 more_more rows list xs ys within =
     let old = list_at rows list in
     let there = get_or-set_same rows.lists list (old ++ xs) [] within in
@@ -17,7 +16,7 @@ more_more rows list xs ys within =
     λ t. record { lists = lists t; spent = spent t; room = rows.room }
 
 -- an item behind the first of some items
-pub more_items : (rows : Elements) (list i : ℕ) (items : List Value) (item : Value) → list < length rows.lists → i < length items → item ≡ get_or items i item
+pub more_items : {A : Type 0} (rows : Rows A) (list i : ℕ) (items : List A) (item : A) → list < length rows.lists → i < length items → item ≡ get_or items i item
     → with_more (with_more rows list (take i items)) list (item ∷ []) ≡ with_more rows list (take (i + 1) items)
 more_items rows list i items item within below is =
     more_more rows list (take i items) (item ∷ []) within
@@ -25,7 +24,7 @@ more_items rows list i items item within below is =
     ∙ ap (with_more rows list) (sym (take_more items i item below))
 
 -- an element behind the first of a part
-piece_more : (xs : List Value) (first place : ℕ) (item : Value) → first ≤ place → place < length xs → item ≡ get_or xs place item
+piece_more : {A : Type 0} (xs : List A) (first place : ℕ) (item : A) → first ≤ place → place < length xs → item ≡ get_or xs place item
     → slice_range xs first place ++ item ∷ [] ≡ slice_range xs first (place + 1)
 piece_more xs first place item from below is =
     let next : place + 1 - first ≡ place - first + 1 = omega (arith, from) in
@@ -38,7 +37,7 @@ piece_more xs first place item from below is =
     ∙ sym (ap (λ n. take n (drop first xs)) next)
 
 -- the elements that a list had stay where they are
-more_keeps : (rows : Elements) (to list place : ℕ) (ys : List Value) (d : Value) → to < length rows.lists → place < length (list_at rows list)
+more_keeps : {A : Type 0} (rows : Rows A) (to list place : ℕ) (ys : List A) (d : A) → to < length rows.lists → place < length (list_at rows list)
     → get_or (list_at (with_more rows to ys) list) place d ≡ get_or (list_at rows list) place d
 more_keeps rows to list place ys d within below = by (cases_eq list to)
   where
@@ -52,7 +51,7 @@ more_keeps rows to list place ys d within below = by (cases_eq list to)
     by (inr apart) = ap (λ zs. get_or zs place d) (get_or-set_other rows.lists to list (list_at rows to ++ ys) [] apart)
 
 -- the next element of a part of a list, behind the first of it
-pub more_piece : (rows now : Elements) (to list first place : ℕ) (item : Value) → to < length rows.lists → first ≤ place → place < length (list_at rows list)
+pub more_piece : {A : Type 0} (rows now : Rows A) (to list first place : ℕ) (item : A) → to < length rows.lists → first ≤ place → place < length (list_at rows list)
     → now ≡ with_more rows to (slice_range (list_at rows list) first place) → slice_get (list_at now list) place ≡ Some item
     → with_more now to (item ∷ []) ≡ with_more rows to (slice_range (list_at rows list) first (place + 1))
 more_piece rows now to list first place item within from below is found =

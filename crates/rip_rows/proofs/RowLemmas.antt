@@ -2,7 +2,6 @@
 use Rattle.std.proofs.Common.{◌≡◌, ◌≢◌, ℕ, zero, suc, ◌+◌, ◌<◌, ◌≤◌, eqb, ◌⊎◌, inl, inr, List, [], ◌∷◌, ◌++◌, length, map, refl, sym, ap, ◌∙◌, subst, arith, get_or, set, take}
 use Rattle.std.proofs.lemmas.Bool.{cases_eq, eq-eqb, ne_eqb}
 use Rattle.std.proofs.lemmas.List.{get_or-set_other, get_or-set_same, get_or_append_left, get_or_at, length-append, length-set, take-append-le, take_at}
-use Rattle.rip_values.specs.declared.value.Value.{Value}
 use Rattle.rip_rows.specs.declared.segment.Segment.{Segment}
 use Rattle.rip_rows.specs.declared.segment.ListHead.{ListHead}
 use Rattle.rip_rows.specs.Segments.{AreKnown, AreLinked, AreSound, EndsAt, IsHead, area, grown, head_at, list_of, lists_of, next_segment, place_of, places_of, segment_at, size_if, size_of}
@@ -217,7 +216,7 @@ sound_grown heads segments size list h within = record {
 -- THE LISTS
 
 -- a list that gets a segment has the elements that it had, and so has each other
-pub lists_grown : (heads : List ListHead) (segments : List Segment) (values more : List Value) (list : ℕ) → AreSound heads segments (length values) → list < length heads
+pub lists_grown : {A : Type 0} (heads : List ListHead) (segments : List Segment) (values more : List A) (list : ℕ) → AreSound heads segments (length values) → list < length heads
     → size_of (head_at heads list).places ≡ length more
     → lists_of (set heads list (grown (head_at heads list) (length segments))) (segments ++ next_segment (head_at heads list) (length values) ∷ []) (values ++ more)
     ≡ lists_of heads segments values
@@ -249,7 +248,7 @@ lists_grown heads segments values more list h within size =
         ∙ take-append-le head.count (area head.owner values segments) more fits
 
 -- a place of a list is written, and its length set
-pub lists_written : (heads : List ListHead) (segments : List Segment) (values : List Value) (list place count : ℕ) (v : Value) → AreSound heads segments (length values) → list < length heads
+pub lists_written : {A : Type 0} (heads : List ListHead) (segments : List Segment) (values : List A) (list place count : ℕ) (v : A) → AreSound heads segments (length values) → list < length heads
     → place < (head_at heads list).places
     → lists_of (set heads list (record (head_at heads list) { count = count })) segments (set values (place_of (head_at heads list).owner segments place) v)
     ≡ set (lists_of heads segments values) list (take count (set (area (head_at heads list).owner values segments) place v))

@@ -1,2 +1,2 @@
-pub mod Elements
+pub mod Rows
 pub mod Segments

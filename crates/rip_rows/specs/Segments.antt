@@ -1,7 +1,6 @@
 -- How the elements of all lists lie in one row: the segments of each list, and what each place holds. No public clause cites this.
 use Rattle.std.specs.Prelude.{◌≡◌, ℕ, ◌+◌, ◌-◌, ◌*◌, ◌^◌, ◌<◌, ◌≤◌, max, Bool, true, false, if◌then◌else◌, ◌==◌, nat_lt, List, [], ◌∷◌, ◌++◌, length, map, take, slice_index_or, slice_range}
 use Rattle.std.specs.List.{sum_by}
-use Rattle.rip_values.specs.declared.value.Value.{Value}
 use Rattle.rip_rows.specs.declared.segment.Segment.{Segment}
 use Rattle.rip_rows.specs.declared.segment.ListHead.{ListHead}
 
@@ -15,7 +14,7 @@ size_if true s = size_of s.first
 size_if false s = 0
 
 -- the values in its places, for the list of that owner
-abbrev pub part_if : Bool → List Value → Segment → List Value
+abbrev pub part_if : {A : Type 0} → Bool → List A → Segment → List A
 part_if true values s = slice_range values s.start (s.start + size_of s.first)
 part_if false values s = []
 
@@ -25,7 +24,7 @@ places_of owner [] = 0
 places_of owner (s ∷ segments) = size_if (s.owner == owner) s + places_of owner segments
 
 -- the values in all places of the list of that owner
-abbrev pub area : ℕ → List Value → List Segment → List Value
+abbrev pub area : {A : Type 0} → ℕ → List A → List Segment → List A
 area owner values [] = []
 area owner values (s ∷ segments) = part_if (s.owner == owner) values s ++ area owner values segments
 
@@ -76,11 +75,11 @@ abbrev pub grown : ListHead → ℕ → ListHead
 grown head number = record head { places = head.places + size_of head.places; top = number }
 
 -- the elements of the list of a head: what the first places of the list hold
-abbrev pub list_of : List Value → List Segment → ListHead → List Value
+abbrev pub list_of : {A : Type 0} → List A → List Segment → ListHead → List A
 list_of values segments head = take head.count (area head.owner values segments)
 
 -- the lists of the heads, in their order
-abbrev pub lists_of : List ListHead → List Segment → List Value → List (List Value)
+abbrev pub lists_of : {A : Type 0} → List ListHead → List Segment → List A → List (List A)
 lists_of heads segments values = map (list_of values segments) heads
 
 -- the elements of a head have places, and the head knows how many of these there are and the last segment of them

@@ -1,18 +1,17 @@
 ghost use Rattle.std.specs.Prelude.{◌≡◌, ℕ, ◌+◌, ◌^◌, ◌<◌, ◌≤◌, ◌++◌, ◌∷◌, [], length, replicate, slice_set, slice_index_or, vec_capacity};
 ghost use Rattle.std.specs.List.{sum_by};
-ghost use Rattle.rip_values.specs.declared.value.Value.TheVariants.{Undefined};
 ghost use Rattle.rip_rows.specs.Segments.{AreKnown, AreSound, HaveRoom, grown, head_at, lists_of, next_segment, saved, size_of};
 
 use crate::segment::{ListHead, Segment, head_at, place_of, size_of};
-use rip_values::Value;
 
 /// Sees to it that the list has a place behind its elements: one that fills its places gets a
 /// segment as long as all that it has. The lists stay as they are.
-pub(crate) fn make_room(
+pub(crate) fn make_room<T: Copy>(
     heads: &mut Vec<ListHead>,
     segments: &mut Vec<Segment>,
-    values: &mut Vec<Value>,
+    values: &mut Vec<T>,
     list: usize,
+    blank: T,
 )
     requires list { list < length heads.old.items }
     requires sound { AreSound heads.old.items segments.old.items (length values.old.items) }
@@ -36,16 +35,16 @@ pub(crate) fn make_room(
     if head.count < head.places {
         return;
     }
-    add_segment(heads, segments, values, list);
+    add_segment(heads, segments, values, list, blank);
 }
 
 /// Puts an element into the place behind those of the list.
-pub(crate) fn put(
+pub(crate) fn put<T: Copy>(
     heads: &mut Vec<ListHead>,
     segments: &Vec<Segment>,
-    values: &mut Vec<Value>,
+    values: &mut Vec<T>,
     list: usize,
-    v: Value,
+    v: T,
 )
     requires list { list < length heads.old.items }
     requires sound { AreSound heads.old.items segments.now.items (length values.old.items) }
@@ -69,11 +68,12 @@ pub(crate) fn put(
 }
 
 // Puts a segment behind all others, as long as all that the list has.
-fn add_segment(
+fn add_segment<T: Copy>(
     heads: &mut Vec<ListHead>,
     segments: &mut Vec<Segment>,
-    values: &mut Vec<Value>,
+    values: &mut Vec<T>,
     list: usize,
+    blank: T,
 )
     requires list { list < length heads.old.items }
     requires one { length segments.old.items < vec_capacity segments.old }
@@ -88,7 +88,7 @@ fn add_segment(
     ensures segments { segments.new.items ≡ segments.old.items
         ++ next_segment (head_at heads.old.items list) (length values.old.items) ∷ [] }
     ensures values { values.new.items ≡ values.old.items
-        ++ replicate (size_of (head_at heads.old.items list).places) Undefined }
+        ++ replicate (size_of (head_at heads.old.items list).places) blank }
     ensures heads_room { vec_capacity heads.new ≡ vec_capacity heads.old }
     ensures segments_room { vec_capacity segments.new ≡ vec_capacity segments.old }
     ensures values_room { vec_capacity values.new ≡ vec_capacity values.old }
@@ -107,16 +107,16 @@ fn add_segment(
         first: head.places,
         before: head.top,
     });
-    add_places(values, size);
+    add_places(values, size, blank);
 }
 
-// Puts so many places behind the others, with nothing in them.
-fn add_places(values: &mut Vec<Value>, count: u32)
+// Puts so many places behind the others, each filled with the same.
+fn add_places<T: Copy>(values: &mut Vec<T>, count: u32, blank: T)
     requires { length values.old.items + count ≤ vec_capacity values.old }
-    ensures values { values.new.items ≡ values.old.items ++ replicate count Undefined }
+    ensures values { values.new.items ≡ values.old.items ++ replicate count blank }
     ensures room { vec_capacity values.new ≡ vec_capacity values.old }
 {
     for _i in 0..count {
-        values.push_reserved(Value::Undefined);
+        values.push_reserved(blank);
     }
 }

@@ -1,5 +1,5 @@
-//! The elements of all arrays of a session: many lists in one row of values, which is reserved when
-//! it is made.
+//! The elements of many lists in one row of values, which is reserved when it is made: those of all
+//! arrays of a session, the properties of all its objects, and the like.
 //!
 //! The row holds segments of one list or another, one behind the other. A list fills segments of 1,
 //! 1, 2, 4, 8 .. places, so that one whose longest length was n has at most 2n places, no element is
@@ -8,18 +8,18 @@
 //!
 //! | what | its definition in `specs/` |
 //! |---|---|
-//! | [`ElementRows`] | contracts see `Elements.Elements`: lists, what was spent, and the room |
-//! | a list, and a part of it | `Elements.list_at`, `Elements.piece_of` |
-//! | the rows after a change | `Elements.with_list`, `Elements.with_more`, `with_empty_list` |
+//! | [`Rows`] | contracts see `Rows.Rows`: lists, what was spent, and the room |
+//! | a list, and a part of it | `Rows.list_at`, `Rows.piece_of` |
+//! | the rows after a change | `Rows.with_list`, `Rows.with_more`, `Rows.with_empty_list` |
 //!
 //! A layer above may rest on this: only `make` takes memory, and a list or an element is refused
 //! exactly where the room is spent.
 #![tactic(auto)]
 
-mod elements;
 mod growth;
+mod rows;
 mod segment;
 #[cfg(test)]
 mod tests;
 
-pub use elements::ElementRows;
+pub use rows::{ElementRows, Rows};

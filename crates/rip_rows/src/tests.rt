@@ -13,6 +13,7 @@ enum Call {
     Set(usize, u32),
     Cut(usize, u32),
     Pop(usize),
+    Remove(usize, u32),
     Truncate(usize),
 }
 
@@ -32,7 +33,7 @@ fn write(vector: &mut Vec<Value>, place: usize, mark: u32) {
 impl Both {
     fn make(alloc: Global, room: u32) -> Result<Both, Fail> {
         Ok(Both {
-            rows: ElementRows::make(alloc, room)?,
+            rows: ElementRows::make(alloc, room, Value::Undefined)?,
             vectors: Vec::new(alloc),
         })
     }
@@ -55,6 +56,7 @@ impl Both {
                 }
             }
             Call::Pop(list) => self.pop(list)?,
+            Call::Remove(list, place) => self.remove(list, place),
             Call::Truncate(lists) => {
                 self.rows.truncate(lists);
                 self.vectors.truncate(lists);
@@ -131,6 +133,15 @@ impl Both {
         Ok(())
     }
 
+    fn remove(&mut self, list: usize, place: u32) {
+        self.rows.remove(list, place);
+        if let Some(vector) = self.vectors.get_mut(list) {
+            if (place as usize) < vector.len() {
+                vector.remove(place as usize);
+            }
+        }
+    }
+
     /// Whether both sides hold the same lists, and nothing behind them.
     fn agree(&self) -> bool {
         if self.rows.lists() != self.vectors.len() || self.rows.len(self.vectors.len()) != 0 {
@@ -166,6 +177,12 @@ fn calls_of_a_table_do_what_they_do_to_vectors(rt: HostRuntime) -> Result<(), Fa
         Call::Set(0, 9),
         Call::Set(2, 0),
         Call::Pop(1),
+        Call::Remove(0, 8),
+        Call::Remove(0, 8),
+        Call::Remove(0, 0),
+        Call::Remove(0, 3),
+        Call::Remove(2, 0),
+        Call::Push(0),
         Call::PushPiece(1, 0, 1, 6),
         Call::PushPiece(0, 0, 0, 100),
         Call::PushPiece(0, 5, 0, 100),
@@ -198,14 +215,15 @@ fn next(number: u32) -> u32 {
 fn call_of(number: u32) -> Call {
     let list = (number >> 8) as usize % 5;
     let place = (number >> 12) % 40;
-    match (number >> 20) % 12 {
+    match (number >> 20) % 14 {
         0 => Call::AddList,
         1 => Call::PushAll(list, place),
         2 => Call::PushPiece(list, (number >> 24) as usize % 5, place, place + 9),
         3 | 4 => Call::Set(list, place),
         5 => Call::Cut(list, place),
         6 | 7 => Call::Pop(list),
-        8 => Call::Truncate(if place == 0 { 2 } else { 5 }),
+        8 | 9 => Call::Remove(list, place / 4),
+        10 => Call::Truncate(if place == 0 { 2 } else { 5 }),
         _ => Call::Push(list),
     }
 }
@@ -224,7 +242,7 @@ fn calls_by_chance_do_what_they_do_to_vectors(rt: HostRuntime) -> Result<(), Fai
 
 #[test]
 fn the_room_is_spent_one_by_one(rt: HostRuntime) -> Result<(), Fail> {
-    let mut rows = ElementRows::make(rt.alloc(), 5)?;
+    let mut rows = ElementRows::make(rt.alloc(), 5, Value::Undefined)?;
     rows.add_list()?;
     if rows.lists() == 1 {
         rows.push(0, Value::Null)?;
@@ -243,8 +261,33 @@ fn the_room_is_spent_one_by_one(rt: HostRuntime) -> Result<(), Fail> {
 
 #[test]
 fn more_room_than_a_number_counts_is_refused(rt: HostRuntime) -> Result<(), Fail> {
-    assert!(rt; ElementRows::make(rt.alloc(), 0x8000_0000).is_err());
-    let mut rows = ElementRows::make(rt.alloc(), 0)?;
+    assert!(rt; ElementRows::make(rt.alloc(), 0x8000_0000, Value::Undefined).is_err());
+    let mut rows = ElementRows::make(rt.alloc(), 0, Value::Undefined)?;
     assert_eq!(rt; rows.add_list(), Err(NoMemory));
+    Ok(())
+}
+
+#[test]
+fn rows_of_numbers_hold_numbers(rt: HostRuntime) -> Result<(), Fail> {
+    let mut rows = Rows::make(rt.alloc(), 12, 0)?;
+    rows.add_list()?;
+    rows.add_list()?;
+    assert_eq!(rt; (rows.spent(), rows.room()), (2, 12));
+    if rows.lists() == 2 {
+        rows.push_all(0, &[10, 11, 12, 13, 14])?;
+        rows.push(1, 20)?;
+        rows.set(0, 3, 33);
+        rows.remove(0, 1);
+        rows.push_piece(1, 0, 1, 3)?;
+        rows.remove(0, 4);
+    }
+    let expected: [&[u32]; 2] = [&[10, 12, 33, 14], &[20, 12, 33]];
+    for (list, numbers) in expected.iter().enumerate() {
+        assert_eq!(rt; rows.len(list) as usize, numbers.len());
+        for (place, number) in numbers.iter().enumerate() {
+            assert_eq!(rt; rows.get(list, place as u32), Some(*number));
+        }
+    }
+    assert_eq!(rt; (rows.spent(), rows.room()), (10, 12));
     Ok(())
 }

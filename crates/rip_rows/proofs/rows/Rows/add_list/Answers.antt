@@ -1,9 +1,9 @@
 use Rattle.std.proofs.Common.{arith, length}
 use Rattle.rip_rows.proofs.ListLemmas.{kept_added}
-use Rattle.rip_rows.proofs.elements.ElementRows.add_list.Goals as goal
+use Rattle.rip_rows.proofs.rows.Rows.add_list.Goals as goal
 
 pub invariant_of-self : goal.invariant_of-self
-invariant_of-self c = record {
+invariant_of-self g c = record {
   kept = kept_added c.self.inside.heads.items c.push_reserved.new.self.items c.self.inside.segments.items (length c.self.inside.values.items) c.self.inside.spent c.self.inside.room
       c.self.invariant.kept c.if-self.false c.push_reserved.ensures.items;
   reserved = record {

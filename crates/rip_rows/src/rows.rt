@@ -1,5 +1,5 @@
-ghost use Rattle.std.specs.Prelude.{◌≡◌, ◌↔◌, ◌+◌, ◌-◌, ◌<◌, ◌≤◌, ◌++◌, ◌∷◌, [], IfOk, IsErr, OnErr, OnOk, length, slice_get, slice_range, slice_set, take};
-ghost use Rattle.rip_rows.specs.Elements.{list_at, piece_of, with_empty_list, with_list, with_more};
+ghost use Rattle.std.specs.Prelude.{◌≡◌, ◌↔◌, ◌+◌, ◌-◌, ◌<◌, ◌≤◌, ◌++◌, ◌∷◌, [], IfOk, IsErr, OnErr, OnOk, length, remove, slice_get, slice_range, slice_set, take};
+ghost use Rattle.rip_rows.specs.Rows.{list_at, piece_of, with_empty_list, with_list, with_more};
 
 use crate::growth::{make_room, put};
 use crate::segment::{ListHead, Segment, place_of};
@@ -10,24 +10,28 @@ use std::marker::Model;
 /// The most room that rows are made for: twice as many values are counted by a `u32`.
 const MOST_ROOM: u32 = 0x7fff_ffff;
 
-/// The elements of all arrays of a session, list by list.
+/// The elements of many lists, list by list.
 ///
 /// What is spent is one for each list that was made and each element that was put, and is never
 /// given back.
 #[derive(Debug, Drop)]
-pub struct ElementRows {
+pub struct Rows<T> {
     heads: Vec<ListHead>,
     segments: Vec<Segment>,
-    values: Vec<Value>,
+    values: Vec<T>,
+    blank: T,
     spent: u32,
     room: u32,
 }
 
-impl Model for ElementRows {
-    ghost use Rattle.std.specs.Prelude.{length, vec_capacity};
-    ghost use Rattle.rip_rows.specs.Elements.{Elements};
+/// The elements of all arrays of a session.
+pub type ElementRows = Rows<Value>;
 
-    ghost Value = { Elements };
+impl<T> Model for Rows<T> {
+    ghost use Rattle.std.specs.Prelude.{length, vec_capacity};
+    ghost use Rattle.rip_rows.specs.Rows.{Rows};
+
+    ghost Value = { Rows T };
 
     ghost use Rattle.rip_rows.specs.Segments.{AreKept, AreReserved, lists_of};
 
@@ -45,18 +49,20 @@ impl Model for ElementRows {
     } };
 }
 
-impl ElementRows {
-    /// No lists, with room for so many lists and elements together.
-    pub fn make(alloc: Global, room: u32) -> Result<ElementRows, NoMemory>
+impl<T: Copy> Rows<T> {
+    /// No lists, with room for so many lists and elements together. Places that are not used yet
+    /// are filled with `blank`.
+    pub fn make(alloc: Global, room: u32, blank: T) -> Result<Rows<T>, NoMemory>
         ensures { IfOk result (λ rows. rows ≡ record { lists = []; spent = 0; room = room }) }
     {
         if room > MOST_ROOM {
             return Err(NoMemory);
         }
-        Ok(ElementRows {
+        Ok(Rows {
             heads: Vec::with_capacity(alloc, room as usize)?,
             segments: Vec::with_capacity(alloc, room as usize)?,
             values: Vec::with_capacity(alloc, 2 * room as usize)?,
+            blank,
             spent: 0,
             room,
         })
@@ -67,6 +73,20 @@ impl ElementRows {
         ensures { result ≡ length self.now.lists }
     {
         self.heads.len()
+    }
+
+    /// How many lists were made and elements put so far.
+    pub fn spent(&self) -> u32
+        ensures { result ≡ self.now.spent }
+    {
+        self.spent
+    }
+
+    /// For how many lists and elements together there is room.
+    pub fn room(&self) -> u32
+        ensures { result ≡ self.now.room }
+    {
+        self.room
     }
 
     /// How many elements the list of that number has.
@@ -80,7 +100,7 @@ impl ElementRows {
     }
 
     /// The element at this place of the list of that number.
-    pub fn get(&self, list: usize, place: u32) -> Option<Value>
+    pub fn get(&self, list: usize, place: u32) -> Option<T>
         ensures { result ≡ slice_get (list_at self.now list) place }
     {
         let head = self.heads.get(list)?;
@@ -92,7 +112,7 @@ impl ElementRows {
 
     /// Gives the element at this place the value. Past the end, and where there is no such list,
     /// nothing is changed.
-    pub fn set(&mut self, list: usize, place: u32, v: Value)
+    pub fn set(&mut self, list: usize, place: u32, v: T)
         ensures { self.new ≡ with_list self.old list (slice_set (list_at self.old list) place v) }
     {
         let Some(head) = self.heads.get(list) else {
@@ -117,7 +137,7 @@ impl ElementRows {
     }
 
     /// Takes the last element of the list of that number away.
-    pub fn pop(&mut self, list: usize) -> Option<Value>
+    pub fn pop(&mut self, list: usize) -> Option<T>
         ensures last { result ≡ slice_get (list_at self.old list)
             (length (list_at self.old list) - 1) }
         ensures left { self.new ≡ with_list self.old list
@@ -127,6 +147,22 @@ impl ElementRows {
         let last = self.get(list, left);
         self.cut(list, left);
         last
+    }
+
+    /// Takes the element at this place of the list of that number away, and those behind it go one
+    /// place down. Past the end, and where there is no such list, nothing is changed.
+    pub fn remove(&mut self, list: usize, place: u32)
+        ensures { self.new ≡ with_list self.old list (remove (list_at self.old list) place) }
+    {
+        let count = self.len(list);
+        if place >= count {
+            return;
+        }
+        for hole in place..count - 1 {
+            let next = self.get(list, hole + 1).unwrap();
+            self.set(list, hole, next);
+        }
+        self.cut(list, count - 1);
     }
 
     /// Keeps the first lists, at most so many. What the others took is not given back.
@@ -156,7 +192,7 @@ impl ElementRows {
     }
 
     /// Puts an element behind the others of the list of that number.
-    pub fn push(&mut self, list: usize, v: Value) -> Result<(), NoMemory>
+    pub fn push(&mut self, list: usize, v: T) -> Result<(), NoMemory>
         requires { list < length self.old.lists }
         ensures ok { OnOk result (self.new ≡ with_more self.old list (v ∷ [])) }
         ensures err { OnErr result (self.new ≡ self.old) }
@@ -165,7 +201,13 @@ impl ElementRows {
         if self.spent >= self.room {
             return Err(NoMemory);
         }
-        make_room(&mut self.heads, &mut self.segments, &mut self.values, list);
+        make_room(
+            &mut self.heads,
+            &mut self.segments,
+            &mut self.values,
+            list,
+            self.blank,
+        );
         put(&mut self.heads, &self.segments, &mut self.values, list, v);
         self.spent += 1;
         Ok(())
@@ -173,7 +215,7 @@ impl ElementRows {
 
     /// Puts copies of these items behind the elements of the list of that number, all of them or
     /// none.
-    pub fn push_all(&mut self, list: usize, items: &[Value]) -> Result<(), NoMemory>
+    pub fn push_all(&mut self, list: usize, items: &[T]) -> Result<(), NoMemory>
         requires { list < length self.old.lists }
         ensures ok { OnOk result (self.new ≡ with_more self.old list items.now) }
         ensures err { OnErr result (self.new ≡ self.old) }

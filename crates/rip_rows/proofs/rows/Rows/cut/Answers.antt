@@ -2,13 +2,13 @@ use Rattle.std.proofs.Common.{◌≡◌, Some, ap, subst, arith, length, slice_g
 use Rattle.std.specs.Prelude.{slice_set}
 use Rattle.std.proofs.lemmas.Grind.{common_steps}
 use Rattle.std.proofs.lemmas.Option.{gets}
-use Rattle.rip_rows.specs.Elements.{Elements, list_at, with_list}
+use Rattle.rip_rows.specs.Rows.{Rows, list_at, with_list}
 use Rattle.rip_rows.specs.Segments.{lists_of}
 use Rattle.rip_rows.proofs.ListLemmas.{cut_call, kept_cut}
-use Rattle.rip_rows.proofs.elements.ElementRows.cut.Goals as goal
+use Rattle.rip_rows.proofs.rows.Rows.cut.Goals as goal
 
 pub invariant_of-self : goal.invariant_of-self
-invariant_of-self c =
+invariant_of-self g c =
     let found : slice_get c.self.inside.heads.items c.args.list ≡ Some c.in-Some.head.now = grind (arith, common_steps, gets) in
     record {
       kept = kept_cut c.self.inside.heads.items c.self.inside.segments.items (length c.self.inside.values.items) c.self.inside.spent c.self.inside.room c.args.list c.args.count
@@ -17,10 +17,10 @@ invariant_of-self c =
     }
 
 pub returns-then-count-head : goal.returns-then-count-head
-returns-then-count-head c =
+returns-then-count-head g c =
     let found : slice_get c.self.inside.heads.items c.args.list ≡ Some c.in-Some.head.now = grind (arith, common_steps, gets) in
     subst
-    (λ old. ◌≡◌ {A = Elements}
+    (λ old. ◌≡◌ {A = Rows g.row.T.Denot}
     (record { lists = lists_of (slice_set c.self.inside.heads.items c.args.list (record c.index_mut.result.now { count = c.args.count })) c.self.inside.segments.items c.self.inside.values.items; spent = c.self.inside.spent; room = c.self.inside.room })
     (with_list old c.args.list (take c.args.count (list_at old c.args.list))))
     c.self.view_is

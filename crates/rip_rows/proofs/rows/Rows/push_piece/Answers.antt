@@ -1,10 +1,10 @@
 use Rattle.std.proofs.Common.{rules, ◌≡◌, ◌<◌, ◌∙◌, Some, [], ◌∷◌, arith, length, slice_get, sym}
-use Rattle.rip_rows.specs.Elements.{list_at, with_more}
+use Rattle.rip_rows.specs.Rows.{list_at, with_more}
 use Rattle.rip_rows.proofs.MoreLemmas.{more_piece}
-use Rattle.rip_rows.proofs.elements.ElementRows.push_piece.Goals as goal
+use Rattle.rip_rows.proofs.rows.Rows.push_piece.Goals as goal
 
 pub loop-place-preserved : goal.loop-place-preserved
-loop-place-preserved c =
+loop-place-preserved g c =
     let pushed : c.push.new.self ≡ with_more c.loop-place.self c.args.to (c.unwrap-item.result ∷ []) = search rules in
     let found : slice_get (list_at c.loop-place.self c.args.list) c.loop-place.place ≡ Some c.unwrap-item.result = sym c.get.ensures ∙ c.unwrap-item.ensures in
     let below : c.loop-place.place < length (list_at c.args.self.now c.args.list) = omega (arith, c.loop-place-test.true, c.min-last.ensures, c.len.ensures) in

@@ -1,13 +1,13 @@
 use Rattle.std.proofs.Common.{◌≡◌, ◌∙◌, sym, ap, subst, take}
 use Rattle.std.proofs.lemmas.List.{take-map}
-use Rattle.rip_rows.specs.Elements.{Elements}
+use Rattle.rip_rows.specs.Rows.{Rows}
 use Rattle.rip_rows.specs.Segments.{list_of, lists_of}
-use Rattle.rip_rows.proofs.elements.ElementRows.truncate.Goals as goal
+use Rattle.rip_rows.proofs.rows.Rows.truncate.Goals as goal
 
 pub returns : goal.returns
-returns c =
+returns g c =
     subst
-    (λ (old : Elements). ◌≡◌ {A = Elements}
+    (λ (old : Rows g.row.T.Denot). ◌≡◌ {A = Rows g.row.T.Denot}
     (record { lists = lists_of c.truncate.new.self.items c.self.inside.segments.items c.self.inside.values.items; spent = c.self.inside.spent; room = c.self.inside.room })
     (record old { lists = take c.args.lists old.lists }))
     c.self.view_is

@@ -1,12 +1,12 @@
 use Rattle.std.proofs.Common.{◌≡◌, ◌∙◌, Some, ap, arith, length, slice_get}
 use Rattle.std.proofs.lemmas.Grind.{common_steps}
 use Rattle.std.proofs.lemmas.Option.{gets}
-use Rattle.rip_rows.specs.Elements.{list_at}
+use Rattle.rip_rows.specs.Rows.{list_at}
 use Rattle.rip_rows.proofs.ListLemmas.{fits_call, get_call, place_call}
-use Rattle.rip_rows.proofs.elements.ElementRows.get.Goals as goal
+use Rattle.rip_rows.proofs.rows.Rows.get.Goals as goal
 
 pub index-requires : goal.index-requires
-index-requires c =
+index-requires g c =
     let heads = c.self.inside.heads.items in
     let segments = c.self.inside.segments.items in
     let size = length c.self.inside.values.items in
@@ -18,7 +18,7 @@ index-requires c =
     omega (arith, lies, c.self.inside.values.ok)
 
 pub returns : goal.returns
-returns c =
+returns g c =
     let heads = c.self.inside.heads.items in
     let segments = c.self.inside.segments.items in
     let values = c.self.inside.values.items in

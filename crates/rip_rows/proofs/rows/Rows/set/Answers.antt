@@ -2,13 +2,13 @@ use Rattle.std.proofs.Common.{◌≡◌, Some, ap, subst, arith, length, slice_g
 use Rattle.std.specs.Prelude.{slice_set}
 use Rattle.std.proofs.lemmas.Grind.{common_steps}
 use Rattle.std.proofs.lemmas.Option.{gets}
-use Rattle.rip_rows.specs.Elements.{Elements, list_at, with_list}
+use Rattle.rip_rows.specs.Rows.{Rows, list_at, with_list}
 use Rattle.rip_rows.specs.Segments.{lists_of}
 use Rattle.rip_rows.proofs.ListLemmas.{fits_call, place_call, set_call}
-use Rattle.rip_rows.proofs.elements.ElementRows.set.Goals as goal
+use Rattle.rip_rows.proofs.rows.Rows.set.Goals as goal
 
 pub index_mut-requires : goal.index_mut-requires
-index_mut-requires c =
+index_mut-requires g c =
     let heads = c.self.inside.heads.items in
     let segments = c.self.inside.segments.items in
     let size = length c.self.inside.values.items in
@@ -20,10 +20,10 @@ index_mut-requires c =
     omega (arith, lies, c.self.inside.values.ok)
 
 pub returns-then-place-head : goal.returns-then-place-head
-returns-then-place-head c =
+returns-then-place-head g c =
     let found : slice_get c.self.inside.heads.items c.args.list ≡ Some c.in-Some.head.now = grind (arith, common_steps, gets) in
     subst
-    (λ old. ◌≡◌ {A = Elements}
+    (λ old. ◌≡◌ {A = Rows g.row.T.Denot}
     (record { lists = lists_of c.self.inside.heads.items c.self.inside.segments.items (slice_set c.self.inside.values.items c.place_of-at.result c.args.v); spent = c.self.inside.spent; room = c.self.inside.room })
     (with_list old c.args.list (slice_set (list_at old c.args.list) c.args.place c.args.v)))
     c.self.view_is
