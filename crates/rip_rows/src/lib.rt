@@ -3,8 +3,8 @@
 //!
 //! The row holds segments of one list or another, one behind the other. A list fills segments of 1,
 //! 1, 2, 4, 8 .. places, so that one whose longest length was n has at most 2n places, no element is
-//! ever moved, and what stands in its last half is one step away. The places that a list has left
-//! by a cut are filled again when it grows. Those of a list that is dropped stay unused.
+//! moved when it grows, and what stands in its last half is one step away. The places that a list
+//! has left by a cut are filled again when it grows. Those of a list that is dropped stay unused.
 //!
 //! | what | its definition in `specs/` |
 //! |---|---|

@@ -152,7 +152,8 @@ impl<T: Copy> Rows<T> {
     /// Takes the element at this place of the list of that number away, and those behind it go one
     /// place down. Past the end, and where there is no such list, nothing is changed.
     pub fn remove(&mut self, list: usize, place: u32)
-        ensures { self.new ≡ with_list self.old list (remove (list_at self.old list) place) }
+        ensures left { self.new ≡ with_list self.old list (remove (list_at self.old list) place) }
+        ensures past { length (list_at self.old list) ≤ place → self.new ≡ self.old }
     {
         let count = self.len(list);
         if place >= count {

@@ -5,8 +5,8 @@ use Rattle.rip_rows.specs.Rows.{list_at, with_list}
 use Rattle.rip_rows.proofs.RemoveLemmas.{remove_last, remove_next, remove_none, remove_reads}
 use Rattle.rip_rows.proofs.rows.Rows.remove.Goals as goal
 
-pub returns-then-place-count : goal.returns-then-place-count
-returns-then-place-count g c =
+pub returns-then-place-count-clause-left : goal.returns-then-place-count-clause-left
+returns-then-place-count-clause-left g c =
     let past : length (list_at c.args.self.now c.args.list) ≤ c.args.place = omega (arith, c.len-count.ensures, c.if-place-count.true) in
     remove_none c.args.self.now c.args.list c.args.place past
 
@@ -24,8 +24,8 @@ loop-hole-preserved g c =
     set
     ∙ remove_next c.args.self.now c.loop-hole.self c.args.list c.args.place c.loop-hole.hole c.unwrap-next.result c.loop-hole.auto.hole below c.loop-hole.invariant found
 
-pub returns : goal.returns
-returns g c =
+pub returns-clause-left : goal.returns-clause-left
+returns-clause-left g c =
     let within : c.args.place < length (list_at c.args.self.now c.args.list) = omega (arith, c.len-count.ensures, c.if-place-count.false) in
     let end : c.len-count.result - 1 ≡ c.loop-hole.hole = omega (arith, within, c.len-count.ensures, c.loop-hole-test.false, c.loop-hole.auto.hole-end) in
     let left : c.loop-hole.hole ≡ length (list_at c.args.self.now c.args.list) - 1 = omega (arith, end, c.len-count.ensures) in
