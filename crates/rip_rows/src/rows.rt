@@ -1,4 +1,4 @@
-ghost use Rattle.std.specs.Prelude.{◌≡◌, ◌↔◌, ◌+◌, ◌-◌, ◌<◌, ◌≤◌, ◌++◌, ◌∷◌, [], IfOk, IsErr, OnErr, OnOk, length, remove, slice_get, slice_range, slice_set, take};
+ghost use Rattle.std.specs.Prelude.{◌≡◌, ◌↔◌, ◌+◌, ◌-◌, ◌<◌, ◌≤◌, ◌∷◌, [], IfOk, IsErr, OnErr, OnOk, length, remove, slice_get, slice_set, take};
 ghost use Rattle.rip_rows.specs.Rows.{list_at, piece_of, with_empty_list, with_list, with_more};
 
 use crate::growth::{make_room, put};
