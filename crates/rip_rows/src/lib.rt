@@ -1,5 +1,5 @@
-//! The elements of many lists in one row of values, which is reserved when it is made: those of all
-//! arrays of a session, the properties of all its objects, and the like.
+//! Many lists in one row of values, which is reserved when it is made: for elements of arrays,
+//! properties of objects, and the like.
 //!
 //! The row holds segments of one list or another, one behind the other. A list fills segments of 1,
 //! 1, 2, 4, 8 .. places, so that one whose longest length was n has at most 2n places, no element is
