@@ -1,3 +1,4 @@
+ghost use Rattle.std.specs.Prelude.{◌<◌};
 ghost use Rattle.rip_heap.specs.Growth.{Grows};
 
 use rip_heap::*;
@@ -7,6 +8,12 @@ use std::test::Fail;
 const LIMITS: HeapLimits = HeapLimits {
     cells: 8,
     units: 10,
+    text: 100,
+};
+
+const ROOMY: HeapLimits = HeapLimits {
+    cells: 10_000,
+    units: 10_000,
     text: 100,
 };
 
@@ -147,6 +154,58 @@ fn properties_keep_their_order(rt: HostRuntime) -> Result<(), Fail> {
         Some((FixedText::Code.span(), Value::Null))
     );
     assert_eq!(rt; heap.own_at(object, 2), None);
+    Ok(())
+}
+
+/// One of 256 names. Those of one remainder by 16 fall into one bucket of each index, since the second unit makes up for
+/// what the first one adds.
+fn name_in_a_bucket(k: u16) -> [u16; 2]
+    requires { k < 256 }
+{
+    let first = k / 16;
+    [0x41 + first, 0x200 - 31 * first + k % 16]
+}
+
+/// Names are put, read and taken away at random, beside a list of what should be there.
+#[test]
+fn names_are_found_as_in_a_list(rt: HostRuntime) -> Result<(), Fail> {
+    let alloc = rt.alloc();
+    let mut heap = Heap::make(alloc, ROOMY)?;
+    let object = heap.new_object(alloc, None)?;
+    let mut list: Vec<([u16; 2], Value)> = Vec::new(alloc);
+    let mut drawn: u32 = 1;
+    for step in 0..4_000 {
+        drawn = drawn.wrapping_mul(1_664_525).wrapping_add(1_013_904_223);
+        let units = name_in_a_bucket((drawn / 65_536 % 256) as u16);
+        let name = heap.add_text(alloc, &units)?;
+        let found = list.iter().position(|entry| entry.0 == units);
+        let value = match found {
+            Some(place) => Some(list[place].1),
+            None => None,
+        };
+        assert_eq!(rt; heap.own(object, name), value);
+        if step % 3 == 2 {
+            assert_eq!(rt; heap.remove(object, name), found.is_some());
+            if let Some(place) = found {
+                list.remove(place);
+            }
+            continue;
+        }
+        heap.put(alloc, object, name, number(step))?;
+        match found {
+            Some(place) => list[place].1 = number(step),
+            None => list.push((units, number(step)))?,
+        }
+    }
+    for place in 0..256 {
+        match (heap.own_at(object, place), list.get(place as usize)) {
+            (Some((name, value)), Some(entry)) => {
+                assert!(rt; heap.pool().get(name) == entry.0.as_slice());
+                assert_eq!(rt; value, entry.1);
+            }
+            (at, entry) => assert!(rt; at.is_none() && entry.is_none()),
+        }
+    }
     Ok(())
 }
 
