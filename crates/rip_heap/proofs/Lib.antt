@@ -1,4 +1,5 @@
 pub mod AlongLemmas
+pub mod BorderLemmas
 pub mod ConversionLemmas
 pub mod FindLemmas
 pub mod FixedLemmas
@@ -7,3 +8,5 @@ pub mod LookUpLemmas
 pub mod NameIndexLemmas
 pub mod PutLemmas
 pub mod ScopeRowLemmas
+pub mod SearchLemmas
+pub mod StoredLemmas

@@ -1,26 +1,25 @@
 -- What an index of names keeps when texts, values and names are added, and what a walk along one of its buckets finds.
-use Rattle.std.proofs.Common.{◌≡◌, ◌≢◌, ℕ, zero, suc, ◌+◌, ◌-◌, ◌<◌, ◌≤◌, Bool, true, false, cond, ◌⊎◌, inl, inr, List, [], ◌∷◌, ◌++◌, length, Option, None, Some, Result, Ok, Err, OnOk, OnErr, refl, sym, ap, ◌∙◌, subst, arith, nat_lt, replicate, take}
-use Rattle.std.specs.Prelude.{remove, slice_get, slice_index, slice_index_or, slice_set}
+use Rattle.std.proofs.Common.{◌≡◌, ◌≢◌, ℕ, zero, suc, ◌+◌, ◌-◌, ◌<◌, ◌≤◌, Bool, true, false, cond, ◌⊎◌, inl, inr, List, [], ◌∷◌, ◌++◌, length, None, Some, refl, sym, ap, ◌∙◌, subst, arith, nat_lt, replicate, slice_get, take}
+use Rattle.std.specs.Prelude.{remove, slice_index, slice_index_or, slice_set}
 use Rattle.std.specs.List.{position_or_len}
 use lib.Pointwise.{bytes_decides}
 use Rattle.std.proofs.lemmas.Bool.{cases_Bool, cases_eq, cases_lt, cases_order}
 use Rattle.std.proofs.lemmas.Bool.Decides.{nat_tests}
 use Rattle.std.proofs.lemmas.List.Sums.{position_or_len_is}
 use Rattle.std.proofs.lemmas.List.Edits.{get_or-remove_above, get_or-remove_below, length-remove}
-use Rattle.std.proofs.lemmas.List.{get_or-replicate, get_or-set_other, get_or-set_same, get_or_append_left, get_or_at, get_or_default, get_or_past, length-append, length-replicate, length-set, take-append-le, take_all, take_more}
-use Rattle.std.proofs.lemmas.Option.{slice_get-get_or}
+use Rattle.std.proofs.lemmas.List.{get_or-replicate, get_or-set_other, get_or-set_same, get_or_append_left, get_or_at, get_or_past, length-append, length-replicate, length-set, take_all, take_more}
+use Rattle.std.proofs.lemmas.Option.{none-some}
 use Rattle.rip_values.specs.declared.value.Span.{Span}
 use Rattle.rip_values.specs.declared.value.Value.{Value}
 use Rattle.rip_values.specs.declared.value.Value.TheVariants.{Undefined}
 use Rattle.rip_values.specs.Pool.{Texts, IsSpan, KeepsTexts, text_at}
-use Rattle.rip_heap.specs.declared.name_index.NameIndex.{NameIndex}
+use Rattle.rip_rows.specs.Rows.{Rows, list_at}
+use Rattle.rip_heap.specs.declared.name_indexes.NameIndexes.{NameIndexes}
 use Rattle.rip_heap.specs.declared.property.Property.{Property}
-use Rattle.rip_heap.specs.NameIndex.{bucket_of, bucket_at, index_at, name_at, AreIndexes, IsIndex, IsIndexOf, IsLast, shifted}
-use Rattle.rip_heap.specs.Growth.{KeepsObject}
-use Rattle.rip_heap.specs.NamedObjects.{KeepObjects, Named, edited, with_edit}
+use Rattle.rip_heap.specs.NameIndex.{bucket_of, bucket_at, name_at, AreIndexes, IsIndex, IsIndexAt, IsIndexOf, IsLast, ListsStay, OthersStay, shifted}
 use Rattle.rip_heap.specs.Names.{same_text, place_of}
 use Rattle.rip_heap.specs.Objects.{with_value}
-use Rattle.rip_heap.specs.World.{Object}
+use Rattle.rip_heap.specs.Stored.{Stored}
 use Rattle.rip_heap.proofs.ScopeRowLemmas.{part-length}
 
 -- WHAT STAYS
@@ -164,6 +163,28 @@ index_added p ps x buckets before buckets' before' b h lies is-bucket within is-
       links = λ i lt. subst (λ n. IsLast (bucket_at p n (ps ++ x ∷ [])) (bucket_at p n (ps ++ x ∷ []) i) i (slice_index (before ++ slice_index buckets b ∷ []) i)) (sym (length-set buckets b (m + 1)))
           (link i (by-place i (omega (arith, lt, size))));
     }
+
+-- past the end there is no name
+pub no_name : (ps : List Property) (k : ℕ) → None ≡ slice_get ps k → record { start = 0; count = 0 } ≡ name_at ps k
+no_name [] k none = refl
+no_name (x ∷ ps) zero none = absurd (none-some x none)
+no_name (x ∷ ps) (suc k) none = no_name ps k none
+
+-- past the end the number is 0
+pub no_number : (numbers : List ℕ) (k : ℕ) → None ≡ slice_get numbers k → 0 ≡ slice_index numbers k
+no_number [] k none = refl
+no_number (n ∷ numbers) zero none = absurd (none-some n none)
+no_number (n ∷ numbers) (suc k) none = no_number numbers k none
+
+-- the next name of a list is taken up
+pub taken_up : (p : Texts) (ps : List Property) (k : ℕ) (buckets before buckets' before' : List ℕ) (name : Span) → k < length ps → name ≡ name_at ps k
+    → ((properties : List Property) (added : Property) → added.name ≡ name → IsIndex p properties buckets before → IsIndex p (properties ++ added ∷ []) buckets' before')
+    → IsIndex p (take k ps) buckets before → IsIndex p (take (k + 1) ps) buckets' before'
+taken_up p ps k buckets before buckets' before' name within is more h =
+    subst (λ xs. IsIndex p xs buckets' before') (sym (take_more ps k none within)) (more (take k ps) (slice_index_or ps k none) (sym is) h)
+  where
+    none : Property
+    none = record { name = record { start = 0; count = 0 }; value = Undefined }
 
 -- WHAT IS TAKEN AWAY
 
@@ -373,81 +394,145 @@ place_none pool name ps f b found w le =
     let test : nat_lt found (length ps) ≡ false = grind (arith, nat_tests) in
     ap (λ n. cond (nat_lt n (length ps)) (Some n) None) (first-place pool name ps f b found w) ∙ ap (λ t. cond t (Some found) None) test
 
+-- the first of the places that has the name
+pub first_place : (pool : Texts) (name : Span) (ps : List Property) (found : ℕ) → found < length ps → ((k : ℕ) → k < found → same_text pool (name_at ps k) name ≡ false)
+    → same_text pool (name_at ps found) name ≡ true → Some found ≡ place_of pool name ps
+first_place pool name ps found lt below here =
+    sym (place_found pool name ps (λ k. 0) 0 found (record { within = omega arith; ends = omega (arith, lt); none = λ k low high. below k high; here = λ more. here; chain = λ some. refl }) lt)
+
+pub no_place : (pool : Texts) (name : Span) (ps : List Property) (end : ℕ) → length ps ≤ end → ((k : ℕ) → k < end → same_text pool (name_at ps k) name ≡ false) → None ≡ place_of pool name ps
+no_place pool name ps end le below =
+    sym (place_none pool name ps (λ k. 0) 0 (length ps) (record { within = omega arith; ends = omega arith; none = λ k low high. below k (omega (arith, le, high)); here = λ lt. absurd (omega (arith, lt)); chain = λ some. refl }) (omega arith))
+
+-- THE LISTS OF OTHER NUMBERS
+
+pub lists_same : (at : ℕ) (rows : Rows ℕ) → ListsStay at rows rows
+lists_same at rows = record { fewer = λ n le lt. le; others = λ i other. refl }
+
+pub lists_joined : (at : ℕ) (a b c : Rows ℕ) → ListsStay at a b → ListsStay at b c → ListsStay at a c
+lists_joined at a b c first second = record {
+  fewer = λ n le lt. second.fewer n (first.fewer n le lt) lt;
+  others = λ i other. second.others i other ∙ first.others i other;
+}
+
+pub lists_set : (at : ℕ) (old new : Rows ℕ) (items : List ℕ) → new.lists ≡ slice_set old.lists at items → ListsStay at old new
+lists_set at old new items is = record {
+  fewer = λ n le lt. omega (arith, le, ap length is, length-set old.lists at items);
+  others = λ i other. ap (λ lists. slice_index_or lists i []) is ∙ get_or-set_other old.lists at i items [] other;
+}
+
+pub others_same : (at : ℕ) (x : NameIndexes) → OthersStay at x x
+others_same at x = record { buckets = lists_same at x.buckets; before = lists_same at x.before }
+
+-- a list that has a number was made
+pub list_made : (rows : Rows ℕ) (list place : ℕ) → place < length (list_at rows list) → list < length rows.lists
+list_made rows list place below = by (cases_lt list (length rows.lists))
+  where
+    by : (list < length rows.lists) ⊎ (length rows.lists ≤ list) → list < length rows.lists
+    by (inl lt) = lt
+    by (inr past) = absurd (omega (arith, below, ap length (get_or_past rows.lists list [] past)))
+
+-- a list that is written is there
+pub list_written : (old new : Rows ℕ) (list : ℕ) (items : List ℕ) → list < length old.lists → new.lists ≡ slice_set old.lists list items → list_at new list ≡ items
+list_written old new list items within is = ap (λ lists. slice_index_or lists list []) is ∙ get_or-set_same old.lists list items [] within
+
+-- the numbers of a list are shifted, before this place
+pub record Shifted (list gone link : ℕ) (old new : Rows ℕ) (place : ℕ) : Type 0 where
+  pub count : length (list_at new list) ≡ length (list_at old list)
+  pub done : (k : ℕ) → k < place → slice_index (list_at new list) k ≡ shifted gone link (slice_index (list_at old list) k)
+  pub rest : (k : ℕ) → place ≤ k → slice_index (list_at new list) k ≡ slice_index (list_at old list) k
+  pub others : ListsStay list old new
+
+pub shift_begun : (list gone link : ℕ) (rows : Rows ℕ) → Shifted list gone link rows rows 0
+shift_begun list gone link rows = record { count = refl; done = λ k lt. absurd (omega (arith, lt)); rest = λ k le. refl; others = lists_same list rows }
+
+pub shift_next : (list gone link : ℕ) (old mid new : Rows ℕ) (place number : ℕ) → place < length (list_at old list) → Shifted list gone link old mid place
+    → number ≡ shifted gone link (slice_index (list_at mid list) place) → new.lists ≡ slice_set mid.lists list (slice_set (list_at mid list) place number)
+    → Shifted list gone link old new (place + 1)
+shift_next list gone link old mid new place number within h number-is is = record {
+  count = ap length here ∙ length-set (list_at mid list) place number ∙ h.count;
+  done = λ k lt. done k (cases_eq k place) lt;
+  rest = λ k le. ap (λ xs. slice_index xs k) here ∙ get_or-set_other (list_at mid list) place k number 0 (λ is. omega (arith, le, is)) ∙ h.rest k (omega (arith, le));
+  others = lists_joined list old mid new h.others (lists_set list mid new (slice_set (list_at mid list) place number) is);
+}
+  where
+    inside : place < length (list_at mid list)
+    inside = omega (arith, within, h.count)
+
+    here : list_at new list ≡ slice_set (list_at mid list) place number
+    here = list_written mid new list (slice_set (list_at mid list) place number) (list_made mid list place inside) is
+
+    done : (k : ℕ) → (k ≡ place) ⊎ (k ≢ place) → k < place + 1 → slice_index (list_at new list) k ≡ shifted gone link (slice_index (list_at old list) k)
+    done k (inl at) lt =
+        (λ t. slice_index (here t) (at t)) ∙ get_or-set_same (list_at mid list) place number 0 inside ∙ number-is
+        ∙ ap (shifted gone link) (h.rest place (omega arith)) ∙ sym (ap (λ i. shifted gone link (slice_index (list_at old list) i)) at)
+    done k (inr other) lt =
+        ap (λ xs. slice_index xs k) here ∙ get_or-set_other (list_at mid list) place k number 0 other ∙ h.done k (omega (arith, lt, other))
+
 -- THE INDEXES OF ALL OBJECTS
 
--- nothing put behind the others is nothing more
-pub nothing_behind : (rows more : List (Option NameIndex)) (i : ℕ) → more ≡ rows ++ None ∷ [] → index_at more i ≡ index_at rows i
-nothing_behind rows more i is = ap (λ r. index_at r i) is ∙ by rows i
-  where
-    by : (xs : List (Option NameIndex)) (i : ℕ) → index_at (xs ++ None ∷ []) i ≡ index_at xs i
-    by [] zero = refl
-    by [] (suc i) = refl
-    by (x ∷ xs) zero = refl
-    by (x ∷ xs) (suc i) = by xs i
+-- an index has buckets
+pub index_there : (pool : Texts) (ps : List Property) (buckets before : List ℕ) → 0 < length buckets → IsIndexOf pool ps buckets before → IsIndex pool ps buckets before
+index_there pool ps [] before some h = absurd (omega (arith, some))
+index_there pool ps (b ∷ buckets) before some h = h
 
-pub index_forgotten : (rows more : List (Option NameIndex)) (at i : ℕ) → more ≡ slice_set rows at None → (i ≢ at → index_at more i ≡ index_at rows i) × (index_at more at ≡ None)
-index_forgotten rows more at i is = (
-  λ other. ap (λ r. index_at r i) is ∙ get_or-set_other rows at i None None other,
-  ap (λ r. index_at r at) is ∙ by rows at,
-)
-  where
-    by : (xs : List (Option NameIndex)) (k : ℕ) → index_at (slice_set xs k None) k ≡ None
-    by [] zero = refl
-    by [] (suc k) = refl
-    by (x ∷ xs) zero = refl
-    by (x ∷ xs) (suc k) = by xs k
+pub index_kept : (pool : Texts) (ps : List Property) (buckets before : List ℕ) → IsIndex pool ps buckets before → IsIndexOf pool ps buckets before
+index_kept pool ps [] before h = tt
+index_kept pool ps (b ∷ buckets) before h = h
+
+-- where there are none, nothing is kept
+pub index_none : (pool : Texts) (ps : List Property) (buckets before : List ℕ) → length buckets ≡ 0 → IsIndexOf pool ps buckets before
+index_none pool ps [] before none = tt
+index_none pool ps (b ∷ buckets) before none = absurd (omega (arith, none))
+
+-- what is done to an index is done to what is kept, where there are as many buckets as before
+pub index_edited : (p q : Texts) (ps qs : List Property) (buckets before buckets' before' : List ℕ) → length buckets' ≡ length buckets
+    → (IsIndex p ps buckets before → IsIndex q qs buckets' before') → IsIndexOf p ps buckets before → IsIndexOf q qs buckets' before'
+index_edited p q ps qs [] before buckets' before' same edit h = index_none q qs buckets' before' same
+index_edited p q ps qs (b ∷ buckets) before buckets' before' same edit h = index_kept q qs buckets' before' (edit h)
 
 pub last_behind : (ps : List Property) (d : Property) → 0 < length ps → take (length ps - 1) ps ++ slice_index_or ps (length ps - 1) d ∷ [] ≡ ps
 last_behind ps d some =
     let one : length ps - 1 + 1 ≡ length ps = omega arith in
     sym (take_more ps (length ps - 1) d (omega arith)) ∙ take_all (length ps - 1 + 1) ps (omega arith)
 
-pub index_of_row : (pool : Texts) (objects : List Object) (rows : List (Option NameIndex)) (i : ℕ) (d : Object) → AreIndexes pool objects rows → IsIndexOf pool (slice_index_or objects i d).properties (index_at rows i)
-index_of_row pool objects rows i d h = by (cases_lt i (length rows))
+-- what is kept for an object whose lists are as before
+index_like_lists : (pool : Texts) (ps : List Property) (indexes indexes' : NameIndexes) (at i : ℕ) → i ≢ at → OthersStay at indexes indexes' → IsIndexAt pool ps indexes i → IsIndexAt pool ps indexes' i
+index_like_lists pool ps indexes indexes' at i other stay h =
+    subst (λ buckets. IsIndexOf pool ps buckets (list_at indexes'.before i)) (sym (stay.buckets.others i other))
+    (subst (IsIndexOf pool ps (list_at indexes.buckets i)) (sym (stay.before.others i other)) h)
+
+pub index_of_row : (pool : Texts) (objects : List Stored) (indexes : NameIndexes) (i : ℕ) (d : Stored) → AreIndexes pool objects indexes → IsIndexAt pool (slice_index_or objects i d).properties indexes i
+index_of_row pool objects indexes i d h = by (cases_lt i (length indexes.buckets.lists))
   where
-    by : (i < length rows) ⊎ (length rows ≤ i) → IsIndexOf pool (slice_index_or objects i d).properties (index_at rows i)
+    by : (i < length indexes.buckets.lists) ⊎ (length indexes.buckets.lists ≤ i) → IsIndexAt pool (slice_index_or objects i d).properties indexes i
     by (inl lt) = h.each i d lt
-    by (inr le) = subst (IsIndexOf pool (slice_index_or objects i d).properties) (sym (get_or_past rows i None le)) tt
+    by (inr le) = index_none pool (slice_index_or objects i d).properties (list_at indexes.buckets i) (list_at indexes.before i) (ap length (get_or_past indexes.buckets.lists i [] le))
 
 -- one object is changed, and what is kept for it is again an index of its names
-pub indexes_changed : (pool : Texts) (objects objects' : List Object) (rows rows' : List (Option NameIndex)) (at : ℕ) (o : Object) → AreIndexes pool objects rows → at < length objects
-    → objects' ≡ slice_set objects at o → IsIndexOf pool o.properties (index_at rows' at) → ((i : ℕ) → i ≢ at → index_at rows' i ≡ index_at rows i)
-    → ((n : ℕ) → length rows ≤ n → at < n → length rows' ≤ n) → AreIndexes pool objects' rows'
-indexes_changed pool objects objects' rows rows' at o h within is index others fewer =
-    subst (λ r. AreIndexes pool r rows') (sym is) (record {
-      fewer = omega (arith, fewer (length objects) h.fewer within, length-set objects at o);
+pub indexes_changed : (pool : Texts) (objects objects' : List Stored) (indexes indexes' : NameIndexes) (at : ℕ) (o : Stored) → AreIndexes pool objects indexes → at < length objects
+    → objects' ≡ slice_set objects at o → IsIndexAt pool o.properties indexes' at → OthersStay at indexes indexes' → AreIndexes pool objects' indexes'
+indexes_changed pool objects objects' indexes indexes' at o h within is index others =
+    subst (λ r. AreIndexes pool r indexes') (sym is) (record {
+      fewer = omega (arith, others.buckets.fewer (length objects) h.fewer within, length-set objects at o);
       each = λ i d lt. by i d (cases_eq i at);
     })
   where
-    by : (i : ℕ) (d : Object) → (i ≡ at) ⊎ (i ≢ at) → IsIndexOf pool (slice_index_or (slice_set objects at o) i d).properties (index_at rows' i)
-    by i d (inl here) = subst (λ k. IsIndexOf pool (slice_index_or (slice_set objects at o) k d).properties (index_at rows' k)) (sym here)
-        (subst (λ x. IsIndexOf pool x.properties (index_at rows' at)) (sym (get_or-set_same objects at o d within)) index)
+    by : (i : ℕ) (d : Stored) → (i ≡ at) ⊎ (i ≢ at) → IsIndexAt pool (slice_index_or (slice_set objects at o) i d).properties indexes' i
+    by i d (inl here) = subst (λ k. IsIndexAt pool (slice_index_or (slice_set objects at o) k d).properties indexes' k) (sym here)
+        (subst (λ x. IsIndexAt pool x.properties indexes' at) (sym (get_or-set_same objects at o d within)) index)
     by i d (inr other) =
-        subst (λ x. IsIndexOf pool x.properties (index_at rows' i)) (sym (get_or-set_other objects at i o d other))
-        (subst (IsIndexOf pool (slice_index_or objects i d).properties) (sym (others i other)) (index_of_row pool objects rows i d h))
-
--- of one object all but the properties is changed
-pub indexes_beside : (pool : Texts) (objects objects' : List Object) (rows : List (Option NameIndex)) (at : ℕ) (o d : Object) → AreIndexes pool objects rows → at < length objects
-    → objects' ≡ slice_set objects at o → o.properties ≡ (slice_index_or objects at d).properties → AreIndexes pool objects' rows
-indexes_beside pool objects objects' rows at o d h within is same =
-    indexes_changed pool objects objects' rows rows at o h within is
-    (subst (λ ps. IsIndexOf pool ps (index_at rows at)) (sym same) (index_of_row pool objects rows at d h)) (λ i other. refl) (λ n le lt. le)
-
--- the index of the object that is changed is dropped
-pub indexes_without : (pool : Texts) (objects objects' : List Object) (rows rows' : List (Option NameIndex)) (at : ℕ) (o : Object) → AreIndexes pool objects rows → at < length objects
-    → objects' ≡ slice_set objects at o → rows' ≡ slice_set rows at None → AreIndexes pool objects' rows'
-indexes_without pool objects objects' rows rows' at o h within is gone =
-    let size : length rows' ≡ length rows = ap length gone ∙ length-set rows at None in
-    indexes_changed pool objects objects' rows rows' at o h within is
-    (subst (IsIndexOf pool o.properties) (sym (index_forgotten rows rows' at at gone).1) tt)
-    (λ i other. (index_forgotten rows rows' at i gone).0 other) (λ n le lt. omega (arith, le, size))
+        subst (λ x. IsIndexAt pool x.properties indexes' i) (sym (get_or-set_other objects at i o d other))
+        (index_like_lists pool (slice_index_or objects i d).properties indexes indexes' at i other others (index_of_row pool objects indexes i d h))
 
 -- a property of one object gets another value
-pub indexes_valued : (pool : Texts) (objects objects' : List Object) (rows : List (Option NameIndex)) (at place : ℕ) (v : Value) (o d : Object) → AreIndexes pool objects rows → at < length objects
-    → objects' ≡ slice_set objects at o → o.properties ≡ with_value (slice_index_or objects at d).properties place v → AreIndexes pool objects' rows
-indexes_valued pool objects objects' rows at place v o d h within is same =
-    indexes_changed pool objects objects' rows rows at o h within is
-    (subst (λ ps. IsIndexOf pool ps (index_at rows at)) (sym same) (by (index_at rows at) (index_of_row pool objects rows at d h))) (λ i other. refl) (λ n le lt. le)
+pub indexes_valued : (pool : Texts) (objects objects' : List Stored) (indexes : NameIndexes) (at place : ℕ) (v : Value) (o d : Stored) → AreIndexes pool objects indexes → at < length objects
+    → objects' ≡ slice_set objects at o → o.properties ≡ with_value (slice_index_or objects at d).properties place v → AreIndexes pool objects' indexes
+indexes_valued pool objects objects' indexes at place v o d h within is same =
+    indexes_changed pool objects objects' indexes indexes at o h within is
+    (subst (λ qs. IsIndexAt pool qs indexes at) (sym same)
+    (index_edited pool pool ps (with_value ps place v) (list_at indexes.buckets at) (list_at indexes.before at) (list_at indexes.buckets at) (list_at indexes.before at) refl valued (index_of_row pool objects indexes at d h)))
+    (others_same at indexes)
   where
     ps : List Property
     ps = (slice_index_or objects at d).properties
@@ -459,19 +544,19 @@ indexes_valued pool objects objects' rows at place v o d h within is same =
         ∙ sym (ap (name_at ps) here)
     name-same k (inr other) lt = ap (λ x. x.name) (get_or-set_other ps place k (record { name = name_at ps place; value = v }) (record { name = record { start = 0; count = 0 }; value = Undefined }) other)
 
-    by : (index : Option NameIndex) → IsIndexOf pool ps index → IsIndexOf pool (with_value ps place v) index
-    by None _ = tt
-    by (Some index) ih =
-        index_like pool pool ps (with_value ps place v) index.buckets.items index.before.items (length-set ps place (record { name = name_at ps place; value = v }))
+    valued : IsIndex pool ps (list_at indexes.buckets at) (list_at indexes.before at) → IsIndex pool (with_value ps place v) (list_at indexes.buckets at) (list_at indexes.before at)
+    valued ih =
+        index_like pool pool ps (with_value ps place v) (list_at indexes.buckets at) (list_at indexes.before at) (length-set ps place (record { name = name_at ps place; value = v }))
         (λ k lt. ap (text_at pool) (name-same k (cases_eq k place) lt))
         (λ k lt. subst (IsSpan pool) (sym (name-same k (cases_eq k place) lt)) (ih.spans k lt)) ih
 
 -- objects are put behind the others
-pub indexes_pushed : (pool : Texts) (objects objects' more : List Object) (rows : List (Option NameIndex)) → AreIndexes pool objects rows → objects' ≡ objects ++ more → AreIndexes pool objects' rows
-indexes_pushed pool objects objects' more rows h is =
-    subst (λ r. AreIndexes pool r rows) (sym is) (record {
+pub indexes_pushed : (pool : Texts) (objects objects' front more : List Stored) (indexes : NameIndexes) → AreIndexes pool objects indexes
+    → objects' ≡ front ++ more → front ≡ objects → AreIndexes pool objects' indexes
+indexes_pushed pool objects objects' front more indexes h is same =
+    subst (λ r. AreIndexes pool r indexes) (sym (is ∙ ap (λ xs. xs ++ more) same)) (record {
       fewer = omega (arith, h.fewer, length-append objects more);
-      each = λ i d lt. subst (λ x. IsIndexOf pool x.properties (index_at rows i)) (sym (get_or_append_left objects more d i (omega (arith, lt, h.fewer)))) (h.each i d lt);
+      each = λ i d lt. subst (λ x. IsIndexAt pool x.properties indexes i) (sym (get_or_append_left objects more d i (omega (arith, lt, h.fewer)))) (h.each i d lt);
     })
 
 cut_shorter : {X : Type 0} (k : ℕ) (xs : List X) → length (take k xs) ≤ length xs
@@ -489,100 +574,19 @@ kept_longer p q keeps =
     omega (arith, same, here, there)
 
 -- texts are only added
-pub indexes_kept : (p q : Texts) (objects : List Object) (rows : List (Option NameIndex)) → AreIndexes p objects rows → KeepsTexts p q → AreIndexes q objects rows
-indexes_kept p q objects rows h keeps = record {
+pub indexes_kept : (p q : Texts) (objects : List Stored) (indexes : NameIndexes) → AreIndexes p objects indexes → KeepsTexts p q → AreIndexes q objects indexes
+indexes_kept p q objects indexes h keeps = record {
   fewer = h.fewer;
-  each = λ i d lt. by (slice_index_or objects i d).properties (index_at rows i) (h.each i d lt);
+  each = λ i d lt.
+      let ps = (slice_index_or objects i d).properties in
+      let buckets = list_at indexes.buckets i in
+      let before = list_at indexes.before i in
+      index_edited p q ps ps buckets before buckets before refl (index_grows p q ps buckets before keeps (kept_longer p q keeps)) (h.each i d lt);
 }
-  where
-    by : (ps : List Property) (index : Option NameIndex) → IsIndexOf p ps index → IsIndexOf q ps index
-    by ps None _ = tt
-    by ps (Some index) ih = index_grows p q ps index.buckets.items index.before.items keeps (kept_longer p q keeps) ih
 
 -- no indexes are those of any objects
-pub indexes_none : (p : Texts) (objects : List Object) (rows : List (Option NameIndex)) → rows ≡ [] → AreIndexes p objects rows
-indexes_none p objects rows none = subst (AreIndexes p objects) (sym none) (record { fewer = omega arith; each = λ i d lt. absurd (omega (arith, lt)) })
-
--- the same where a call may have put them there, and did where it is Ok
-pub indexes_pushed_or_not : {E : Type 0} (pool : Texts) (objects : List Object) (rows : List (Option NameIndex)) (objects' more : List Object) (result : Result (Unit {0}) E)
-    → AreIndexes pool objects rows → OnOk result (objects' ≡ objects ++ more) → OnErr result (objects' ≡ objects) → AreIndexes pool objects' rows
-indexes_pushed_or_not pool objects rows objects' more (Ok done) h ok err = indexes_pushed pool objects objects' more rows h ok
-indexes_pushed_or_not pool objects rows objects' more (Err e) h ok err = subst (λ xs. AreIndexes pool xs rows) (sym err) h
-
--- WHAT AN EDIT OF ONE OBJECT KEEPS, which stands at a place of the whole
-
-pub beside : (pool : Texts) (objects : List Object) (rows : List (Option NameIndex)) (at : ℕ) (o o' : Object) → AreIndexes pool objects rows → at < length objects
-    → o ≡ slice_index_or objects at o → o'.properties ≡ o.properties → AreIndexes pool (slice_set objects at o') rows
-beside pool objects rows at o o' h within is same = indexes_beside pool objects (slice_set objects at o') rows at o' o h within refl (same ∙ ap (λ x. x.properties) is)
-
-pub valued : (pool : Texts) (objects : List Object) (rows : List (Option NameIndex)) (at place : ℕ) (v : Value) (o o' : Object) → AreIndexes pool objects rows → at < length objects
-    → o ≡ slice_index_or objects at o → o'.properties ≡ with_value o.properties place v → AreIndexes pool (slice_set objects at o') rows
-valued pool objects rows at place v o o' h within is same =
-    indexes_valued pool objects (slice_set objects at o') rows at place v o' o h within refl (same ∙ ap (λ x. with_value x.properties place v) is)
-
--- the index of one object, and of no other, is made anew
-pub renewed : (pool : Texts) (objects : List Object) (rows rows' : List (Option NameIndex)) (at : ℕ) (o : Object) → AreIndexes pool objects rows → at < length objects
-    → IsIndexOf pool o.properties (index_at rows' at) → ((i : ℕ) → i ≢ at → index_at rows' i ≡ index_at rows i) → ((n : ℕ) → length rows ≤ n → at < n → length rows' ≤ n)
-    → AreIndexes pool (slice_set objects at o) rows'
-renewed pool objects rows rows' at o h within index others fewer = indexes_changed pool objects (slice_set objects at o) rows rows' at o h within refl index others fewer
-
-pub without : (pool : Texts) (objects : List Object) (rows rows' : List (Option NameIndex)) (at : ℕ) (o : Object) → AreIndexes pool objects rows → at < length objects
-    → rows' ≡ slice_set rows at None → AreIndexes pool (slice_set objects at o) rows'
-without pool objects rows rows' at o h within gone = indexes_without pool objects (slice_set objects at o) rows rows' at o h within refl gone
-
--- an index, of the properties of the object at this place
-pub index_of_found : (pool : Texts) (objects : List Object) (rows : List (Option NameIndex)) (at : ℕ) (o : Object) (index : NameIndex) (ps : List Property) → AreIndexes pool objects rows
-    → o ≡ slice_index_or objects at o → index_at rows at ≡ Some index → ps ≡ o.properties → IsIndex pool ps index.buckets.items index.before.items
-index_of_found pool objects rows at o index ps h is kept same =
-    subst (λ r. IsIndexOf pool ps r) kept (subst (λ xs. IsIndexOf pool xs (index_at rows at)) (sym (same ∙ ap (λ x. x.properties) is)) (index_of_row pool objects rows at o h))
-
-pub index_same : (pool : Texts) (ps qs : List Property) (index : Option NameIndex) → ps ≡ qs → IsIndexOf pool ps index → IsIndexOf pool qs index
-index_same pool ps qs index same h = subst (λ xs. IsIndexOf pool xs index) same h
-
--- an index, of the properties before the last
-pub index_before : (pool : Texts) (objects : List Object) (rows : List (Option NameIndex)) (at : ℕ) (o : Object) (x : Property) (ps : List Property) → AreIndexes pool objects rows
-    → o ≡ slice_index_or objects at o → ps ≡ o.properties ++ x ∷ [] → IsIndexOf pool (take (length ps - 1) ps) (index_at rows at)
-index_before pool objects rows at o x ps h is more =
-    let size : length ps ≡ length o.properties + 1 = ap length more ∙ length-append o.properties (x ∷ []) in
-    let count : length ps - 1 ≡ length o.properties = omega (arith, size) in
-    let front : take (length ps - 1) ps ≡ o.properties =
-    ap (λ n. take n ps) count ∙ ap (take (length o.properties)) more ∙ take-append-le (length o.properties) o.properties (x ∷ []) (omega arith) ∙ take_all (length o.properties) o.properties (omega arith) in
-    index_same pool _ _ (index_at rows at) (sym front) (index_same pool _ _ (index_at rows at) (ap (λ y. y.properties) (sym is)) (index_of_row pool objects rows at o h))
-
--- an object stands at a place of the whole
-pub stands_within : (n : Named) (pool : Texts) (objects : List Object) (at : ℕ) → record { pool = pool; objects = objects } ≡ n → at < length n.objects → at < length objects
-stands_within n pool objects at whole within = subst (λ xs. at < length xs) (sym (ap (λ m. m.objects) whole)) within
-
-pub object_stands : (n : Named) (pool : Texts) (objects : List Object) (at : ℕ) (o : Object) → record { pool = pool; objects = objects } ≡ n → at < length objects
-    → o ≡ slice_index_or objects at o → slice_get n.objects at ≡ Some o
-object_stands n pool objects at o whole within is =
-    sym (ap (λ m. slice_get m.objects at) whole) ∙ slice_get-get_or objects at o within ∙ sym (ap (λ x. Some x) is)
-
--- the whole with an edited object in the place of the one there
-pub edit_stands : (n : Named) (pool : Texts) (objects : List Object) (at : ℕ) (edit : Object → Object) (o o' : Object) → record { pool = pool; objects = objects } ≡ n → at < length objects
-    → o ≡ slice_index_or objects at o → o' ≡ edit o → record { pool = pool; objects = slice_set objects at o' } ≡ with_edit n at edit
-edit_stands n pool objects at edit o o' whole within is edited-is =
-    let there : slice_get objects at ≡ Some o = slice_get-get_or objects at o within ∙ sym (ap (λ x. Some x) is) in
-    let step : slice_set objects at o' ≡ edited objects at edit (slice_get objects at) = ap (slice_set objects at) edited-is ∙ sym (ap (edited objects at edit) there) in
-    ap (λ xs. put pool xs) step ∙ ap (λ m. with_edit m at edit) whole
-  where
-    put : Texts → List Object → Named
-    put p xs = record { pool = p; objects = xs }
-
--- an edit that keeps what never changes in the one object
-pub edit_keeps : (n : Named) (pool : Texts) (objects : List Object) (at : ℕ) (o o' : Object) → record { pool = pool; objects = objects } ≡ n → at < length objects
-    → o ≡ slice_index_or objects at o → KeepsObject o o' → KeepObjects n.objects (slice_set objects at o')
-edit_keeps n pool objects at o o' whole within is keeps = subst (λ m. KeepObjects m.objects (slice_set objects at o')) whole (record {
-  made = omega (arith, length-set objects at o');
-  objects = λ i d lt. by i d (cases_eq i at);
-})
-  where
-    by : (i : ℕ) (d : Object) → (i ≡ at) ⊎ (i ≢ at) → KeepsObject (slice_index_or objects i d) (slice_index_or (slice_set objects at o') i d)
-    by i d (inl here) =
-        let old : slice_index_or objects i d ≡ o = ap (λ k. slice_index_or objects k d) here ∙ default d ∙ sym is in
-        let new : slice_index_or (slice_set objects at o') i d ≡ o' = ap (λ k. slice_index_or (slice_set objects at o') k d) here ∙ get_or-set_same objects at o' d within in
-        subst (λ x. KeepsObject x (slice_index_or (slice_set objects at o') i d)) (sym old) (subst (KeepsObject o) (sym new) keeps)
-      where
-        default : (e : Object) → slice_index_or objects at e ≡ slice_index_or objects at o
-        default e = get_or_default objects at e o within
-    by i d (inr other) = subst (KeepsObject (slice_index_or objects i d)) (sym (get_or-set_other objects at i o' d other)) (refl, refl, refl)
+pub indexes_none : (p : Texts) (objects : List Stored) (indexes : NameIndexes) → indexes.buckets.lists ≡ [] → AreIndexes p objects indexes
+indexes_none p objects indexes none = record {
+  fewer = omega (arith, ap length none);
+  each = λ i d lt. absurd (omega (arith, lt, ap length none));
+}

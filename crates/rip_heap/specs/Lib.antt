@@ -1,4 +1,5 @@
 pub mod Arrays
+pub mod Borders
 pub mod Conversions
 pub mod Errors
 pub mod Growth
@@ -12,11 +13,15 @@ pub mod Marks
 pub mod NameIndex
 pub mod NamedObjects
 pub mod Names
+pub mod ObjectRows
 pub mod Objects
 pub mod Outcome
+pub mod Rooms
 pub mod ScopeRows
 pub mod Scopes
+pub mod Search
 pub mod Sound
 pub mod Step
+pub mod Stored
 pub mod Texts
 pub mod World

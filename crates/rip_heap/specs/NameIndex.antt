@@ -1,12 +1,13 @@
 -- How a heap finds the properties of an object by name: those whose names fall into one bucket hang together. No public
 -- clause cites this.
-use Rattle.std.specs.Prelude.{◌≡◌, ◌≢◌, ℕ, Option, None, Some, List, ◌+◌, ◌-◌, ◌*◌, ◌%◌, ◌^◌, ◌<◌, ◌≤◌, fold, if◌then◌else◌, length, nat_lt, slice_index, slice_index_or}
+use Rattle.std.specs.Prelude.{◌≡◌, ◌≢◌, ℕ, List, [], ◌∷◌, ◌+◌, ◌-◌, ◌*◌, ◌%◌, ◌^◌, ◌<◌, ◌≤◌, fold, if◌then◌else◌, length, nat_lt, slice_index, slice_index_or}
 use Rattle.rip_values.specs.declared.value.Span.{Span}
 use Rattle.rip_values.specs.declared.value.Value.TheVariants.{Undefined}
 use Rattle.rip_values.specs.Pool.{Texts, IsSpan, text_at}
-use Rattle.rip_heap.specs.declared.name_index.NameIndex.{NameIndex}
+use Rattle.rip_rows.specs.Rows.{Rows, list_at}
+use Rattle.rip_heap.specs.declared.name_indexes.NameIndexes.{NameIndexes}
 use Rattle.rip_heap.specs.declared.property.Property.{Property}
-use Rattle.rip_heap.specs.World.{Object}
+use Rattle.rip_heap.specs.Stored.{Stored}
 
 -- the number that is made of one unit more
 abbrev pub hash_more : ℕ → ℕ → ℕ
@@ -45,16 +46,26 @@ pub record IsIndex (pool : Texts) (properties : List Property) (buckets before :
   pub heads : (b : ℕ) → b < length buckets → IsLast (bucket_at pool (length buckets) properties) b (length properties) (slice_index buckets b)
   pub links : (i : ℕ) → i < length properties → IsLast (bucket_at pool (length buckets) properties) (bucket_at pool (length buckets) properties i) i (slice_index before i)
 
--- what is kept for these properties is an index of their names, or nothing
-abbrev pub IsIndexOf : Texts → List Property → Option NameIndex → Type 0
-IsIndexOf pool properties None = Unit {0}
-IsIndexOf pool properties (Some index) = IsIndex pool properties index.buckets.items index.before.items
+-- what is kept for these properties is an index of their names, or there are no buckets
+abbrev pub IsIndexOf : Texts → List Property → List ℕ → List ℕ → Type 0
+IsIndexOf pool properties [] before = Unit {0}
+IsIndexOf pool properties (bucket ∷ buckets) before = IsIndex pool properties (bucket ∷ buckets) before
 
--- what is kept for the object at this place; past the end there is nothing
-abbrev pub index_at : List (Option NameIndex) → ℕ → Option NameIndex
-index_at rows at = slice_index_or rows at None
+-- the lists of this number are what is kept for these properties
+abbrev pub IsIndexAt : Texts → List Property → NameIndexes → ℕ → Type 0
+IsIndexAt pool properties indexes at = IsIndexOf pool properties (list_at indexes.buckets at) (list_at indexes.before at)
+
+-- the lists of other numbers are as before, and none is behind them that was not
+pub record ListsStay (at : ℕ) (old new : Rows ℕ) : Type 0 where
+  pub fewer : (n : ℕ) → length old.lists ≤ n → at < n → length new.lists ≤ n
+  pub others : (i : ℕ) → i ≢ at → list_at new i ≡ list_at old i
+
+-- the indexes of other objects are as before
+pub record OthersStay (at : ℕ) (old new : NameIndexes) : Type 0 where
+  pub buckets : ListsStay at old.buckets new.buckets
+  pub before : ListsStay at old.before new.before
 
 -- what is kept for each object is an index of the names of its properties, or nothing
-pub record AreIndexes (pool : Texts) (objects : List Object) (rows : List (Option NameIndex)) : Type 0 where
-  pub fewer : length rows ≤ length objects
-  pub each : (i : ℕ) (d : Object) → i < length rows → IsIndexOf pool (slice_index_or objects i d).properties (index_at rows i)
+pub record AreIndexes (pool : Texts) (objects : List Stored) (indexes : NameIndexes) : Type 0 where
+  pub fewer : length indexes.buckets.lists ≤ length objects
+  pub each : (i : ℕ) (d : Stored) → i < length indexes.buckets.lists → IsIndexAt pool (slice_index_or objects i d).properties indexes i

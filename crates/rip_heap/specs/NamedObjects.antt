@@ -1,15 +1,21 @@
 -- What a heap keeps of texts and objects, beside which there are indexes that no contract sees. No public clause cites this.
-use Rattle.std.specs.Prelude.{ℕ, ◌<◌, ◌≤◌, Option, None, Some, List, length, slice_get, slice_index_or, slice_set, option_and_then}
+use Rattle.std.specs.Prelude.{ℕ, [], ◌∷◌, ◌++◌, ◌<◌, ◌≤◌, Option, None, Some, List, length, slice_get, slice_index_or, slice_set, option_and_then}
 use Rattle.rip_values.specs.declared.value.Span.{Span}
 use Rattle.rip_values.specs.Pool.{Texts}
 use Rattle.rip_heap.specs.Growth.{KeepsObject}
 use Rattle.rip_heap.specs.Names.{place_of}
+use Rattle.rip_heap.specs.Rooms.{Rooms, spending}
 use Rattle.rip_heap.specs.World.{Object}
 
--- the texts, and the objects whose properties they name
+-- the texts, the objects whose properties they name, and how many cells were spent on these
 pub record Named : Type 0 where
   pub pool : Texts
   pub objects : List Object
+  pub rooms : Rooms
+
+-- the same with this object behind the others, for so many cells
+abbrev pub with_another : Named → Object → ℕ → Named
+with_another n o cells = record n { objects = n.objects ++ o ∷ []; rooms = spending cells n.rooms }
 
 -- the objects with an edit of the one at this place; where there is none nothing is changed
 abbrev pub edited : List Object → ℕ → (Object → Object) → Option Object → List Object
@@ -19,6 +25,10 @@ edited objects at edit (Some o) = slice_set objects at (edit o)
 -- the same beside the texts
 abbrev pub with_edit : Named → ℕ → (Object → Object) → Named
 with_edit n at edit = record n { objects = edited n.objects at edit (slice_get n.objects at) }
+
+-- the same for so many cells
+abbrev pub with_paid_edit : Named → ℕ → (Object → Object) → ℕ → Named
+with_paid_edit n at edit cells = record (with_edit n at edit) { rooms = spending cells n.rooms }
 
 -- no object is gone, and each keeps what never changes in it
 pub record KeepObjects (old new : List Object) : Type 0 where

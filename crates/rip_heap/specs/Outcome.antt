@@ -34,14 +34,6 @@ Answers outcome old (Err (AtFault fault)) new = (outcome ≡ Faults fault) × (n
 Answers outcome old (Err (AtLimit limit)) new = (outcome ≡ Exceeds limit) × (new ≡ old)
 Answers outcome old (Err Memory) new = ⊥
 
--- the same of a call that takes memory, whose want leaves the world as before too
-abbrev pub AnswersOrLacks : Outcome → World → Result Value Abrupt → World → Type 0
-AnswersOrLacks outcome old (Ok v) new = outcome ≡ Gives v new
-AnswersOrLacks outcome old (Err TypeError) new = (outcome ≡ Throws) × (new ≡ old)
-AnswersOrLacks outcome old (Err (AtFault fault)) new = (outcome ≡ Faults fault) × (new ≡ old)
-AnswersOrLacks outcome old (Err (AtLimit limit)) new = (outcome ≡ Exceeds limit) × (new ≡ old)
-AnswersOrLacks outcome old (Err Memory) new = new ≡ old
-
 -- why an operation has no value where a conversion halts
 abbrev pub cause_of_halt : Halt → Abrupt
 cause_of_halt (HaltFault fault) = AtFault fault

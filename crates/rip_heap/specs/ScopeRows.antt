@@ -1,9 +1,19 @@
 -- How a heap keeps its scopes: the bindings of all of them in one row, and a head for each. No public clause cites this.
-use Rattle.std.specs.Prelude.{ℕ, Option, None, Some, List, [], ◌∷◌, ◌+◌, ◌≤◌, map, option_and_then, slice_get, slice_range, slice_set}
+use Rattle.std.specs.Prelude.{ℕ, Option, None, Some, List, [], ◌∷◌, ◌++◌, ◌+◌, ◌≤◌, length, map, option_and_then, slice_get, slice_range, slice_set}
 use Rattle.rip_values.specs.declared.value.Value.{Value}
 use Rattle.rip_heap.specs.declared.scope_rows.ScopeHead.{ScopeHead}
+use Rattle.rip_heap.specs.Rooms.{Rooms, spending}
 use Rattle.rip_heap.specs.Scopes.{bindings_of}
 use Rattle.rip_heap.specs.World.{Scope}
+
+-- the scopes in the order of making, and how many cells were spent on them
+pub record ListedScopes : Type 0 where
+  pub scopes : List Scope
+  pub rooms : Rooms
+
+-- the same with this scope behind the others, for so many cells
+abbrev pub with_another : ListedScopes → Scope → ℕ → ListedScopes
+with_another l s cells = record { scopes = l.scopes ++ s ∷ []; rooms = spending cells l.rooms }
 
 -- the scope of a head, with its part of the row
 abbrev pub scope_in : List (Option Value) → ScopeHead → Scope
@@ -26,3 +36,10 @@ binding_of scope place = option_and_then (λ value. value) (slice_get (bindings_
 abbrev pub bound : List Scope → ℕ → ℕ → Value → Option Scope → List Scope
 bound scopes n place v None = scopes
 bound scopes n place v (Some s) = slice_set scopes n (record s { bindings = slice_set s.bindings place (Some v) })
+
+-- what is kept of heads and bindings: each part lies within the row, and both rows have room for all that may be spent
+pub record AreKept (heads : List ScopeHead) (size heads_capacity bindings_capacity room : ℕ) : Type 0 where
+  pub lie : LieWithin 0 size heads
+  pub paid : length heads + size ≤ room
+  pub heads_room : room ≤ heads_capacity
+  pub bindings_room : room ≤ bindings_capacity

@@ -3,14 +3,15 @@ ghost use Rattle.rip_values.specs.declared.value.Limit.TheVariants.{Cells};
 ghost use Rattle.rip_values.specs.declared.value.Value.TheVariants.{Num};
 ghost use Rattle.rip_heap.specs.Errors.{new_error, error_made, cost_of_error};
 ghost use Rattle.rip_heap.specs.Growth.{Grows};
-ghost use Rattle.rip_heap.specs.Outcome.{Exceeds, AnswersOrLacks};
+ghost use Rattle.rip_heap.specs.Outcome.{Answers, Exceeds};
 
 use crate::class::Class;
 use crate::convert::to_text;
 use crate::heap::Heap;
 use crate::outcome::Abrupt;
+use crate::property::Property;
 use crate::stored::StoredObject;
-use rip_values::{FIRST_HEAP_OBJECT, Fault, Limit, Span, Value, Whole, text_of_whole};
+use rip_values::{FIRST_HEAP_OBJECT, Fault, FixedText, Limit, Span, Value, Whole, text_of_whole};
 use std::alloc::Global;
 
 /// Cells that an error with its message costs.
@@ -25,41 +26,49 @@ impl Heap {
         class: Class,
         message: Value,
     ) -> Result<Value, Abrupt>
-        ensures answers { AnswersOrLacks (new_error class self.old message) self.old result self.new }
+        ensures answers { Answers (new_error class self.old message) self.old result
+            self.new }
         ensures grows { Grows self.old self.new }
     {
         match message {
             Value::Num(number) => self.error_of_number(alloc, class, number),
             _ => {
                 let text = to_text(alloc, self, message)?;
-                self.error_of_text(alloc, class, text)
+                self.error_of_text(class, text)
             }
         }
     }
 
     // A new error with this message, which is there.
-    fn error_of_text(&mut self, alloc: Global, class: Class, message: Span) -> Result<Value, Abrupt>
-        ensures answers { AnswersOrLacks (if nat_le (self.old.cells + cost_of_error) self.old.limit then error_made class message self.old else Exceeds Cells) self.old result self.new }
+    fn error_of_text(&mut self, class: Class, message: Span) -> Result<Value, Abrupt>
+        ensures answers { Answers
+            (if nat_le (self.old.cells + cost_of_error) self.old.limit then error_made class message
+            self.old else Exceeds Cells) self.old result self.new }
         ensures grows { Grows self.old self.new }
     {
         if self.free_cells() < COST_OF_ERROR {
             return Err(Abrupt::Limit(Limit::Cells));
         }
-        let number = FIRST_HEAP_OBJECT + self.named.objects().len() as u32;
-        let error = StoredObject::error(alloc, class, message)?;
-        self.named.push(error)?;
+        let number = FIRST_HEAP_OBJECT + self.named.len() as u32;
+        let property = Property {
+            name: FixedText::Message.span(),
+            value: Value::Text(message),
+        };
+        self.named
+            .push_with(StoredObject::bare(class, None), property);
         self.used += COST_OF_ERROR;
         Ok(Value::Object(number))
     }
 
-    // A new error whose message is the number's numeral. The memory of the object is taken before the text is made.
+    // A new error whose message is the number's numeral.
     fn error_of_number(
         &mut self,
         alloc: Global,
         class: Class,
         number: Whole,
     ) -> Result<Value, Abrupt>
-        ensures answers { AnswersOrLacks (new_error class self.old (Num number)) self.old result self.new }
+        ensures answers { Answers (new_error class self.old (Num number)) self.old result
+            self.new }
         ensures grows { Grows self.old self.new }
     {
         let mut room = [0; 17];
@@ -73,8 +82,8 @@ impl Heap {
         if count > self.named.pool().free() as usize {
             return Err(Abrupt::Limit(Limit::Units));
         }
-        let number = FIRST_HEAP_OBJECT + self.named.objects().len() as u32;
-        self.named.push_error(alloc, class, &room[..count])?;
+        let number = FIRST_HEAP_OBJECT + self.named.len() as u32;
+        self.named.push_error(alloc, class, &room[..count]);
         self.used += COST_OF_ERROR;
         Ok(Value::Object(number))
     }

@@ -1,12 +1,13 @@
 ghost use Rattle.std.specs.Prelude.{◌≡◌, ◌≤◌, ◌+◌, ◌-◌, ◌↔◌, IsOk, IfOk, IfErr, length};
 ghost use Rattle.rip_heap.specs.Growth.{Grows};
 ghost use Rattle.rip_heap.specs.Sound.{HaveOlderProtos};
-ghost use Rattle.rip_heap.specs.World.{empty_world, charging};
+ghost use Rattle.rip_heap.specs.World.{charging, empty_world, first_node, first_object};
 ghost use Rattle.rip_heap.specs.Step.{Charges};
 
 use crate::limits::HeapLimits;
 use crate::named_objects::NamedObjects;
 use crate::scope_rows::ScopeRows;
+use crate::search::SearchTable;
 use rip_values::{FIRST_HEAP_OBJECT, FIRST_NODE, Limit, NoMemory, Pool};
 use std::alloc::Global;
 use std::marker::Model;
@@ -19,10 +20,12 @@ pub struct Heap {
     pub(crate) used: u32,
     pub(crate) named: NamedObjects,
     pub(crate) scopes: ScopeRows,
+    pub(crate) table: SearchTable,
 }
 
 impl Model for Heap {
     ghost use Rattle.rip_heap.specs.World.{World};
+    ghost use Rattle.rip_heap.specs.Rooms.{ArePaid};
     ghost use Rattle.rip_heap.specs.Sound.{IsSound};
 
     ghost Value = { World };
@@ -32,14 +35,20 @@ impl Model for Heap {
       cells = h.used;
       pool = h.named.pool;
       objects = h.named.objects;
-      scopes = h.scopes;
+      scopes = h.scopes.scopes;
     } };
 
-    ghost invariant = { λ h. IsSound h.limit h.used h.named.objects h.scopes };
+    ghost invariant = { λ h. record {
+      sound : IsSound h.limit h.used h.named.objects h.scopes.scopes;
+      objects : ArePaid h.limit h.used h.named.rooms;
+      scopes : ArePaid h.limit h.used h.scopes.rooms;
+    } };
 }
 
 impl Heap {
-    /// A heap with the fixed texts alone. A limit past the numbers that objects can have is want of memory.
+    /// A heap with the fixed texts alone. A limit past the numbers that objects can have is want of memory. The memory of
+    /// all objects, properties, elements, scopes and bindings is taken here, for as many as there are cells, and that of all
+    /// texts that may be charged.
     pub fn make(alloc: Global, limits: HeapLimits) -> Result<Heap, NoMemory>
         ensures { IfOk result (λ heap. heap ≡ empty_world limits) }
     {
@@ -50,17 +59,21 @@ impl Heap {
         Ok(Heap {
             limit: limits.cells,
             used: 0,
-            named: NamedObjects::new(alloc, pool),
-            scopes: ScopeRows::new(alloc),
+            named: NamedObjects::new(alloc, pool, limits.cells)?,
+            scopes: ScopeRows::make(alloc, limits.cells)?,
+            table: SearchTable::make(alloc, limits.text)?,
         })
     }
 
-    /// How many objects were made. The prototype of each was made before it.
+    /// How many objects were made. The prototype of each was made before it. Each was charged a cell at least, and all
+    /// that can be made have numbers below those of nodes.
     pub fn objects(&self) -> u32
         ensures count { result ≡ length self.now.objects }
+        ensures paid { result ≤ self.now.cells }
+        ensures numbers { first_object + self.now.limit ≤ first_node }
         ensures older { HaveOlderProtos self.now.objects }
     {
-        self.named.objects().len() as u32
+        self.named.len() as u32
     }
 
     /// How many scopes were made.

@@ -55,7 +55,8 @@ pub trait Host {
     /// The value of this member of the object.
     fn read(&mut self, heap: &mut Heap, object: u32, name: Span) -> HostDone
         requires { fits self.old heap.old }
-        ensures gives { Gives (answers self.old heap.old (Reads object name)) result heap.new self.new }
+        ensures gives { Gives (answers self.old heap.old (Reads object name)) result heap.new
+            self.new }
         ensures memory { result ≡ HostDone.Memory → IsTrue may_want_memory }
         ensures fits { fits self.new heap.new }
         ensures keeps { Keeps heap.old heap.new }
@@ -65,7 +66,8 @@ pub trait Host {
     /// Writes this member of the object. The value that is answered counts for nothing.
     fn write(&mut self, heap: &mut Heap, object: u32, name: Span, v: Value) -> HostDone
         requires { fits self.old heap.old }
-        ensures gives { Gives (answers self.old heap.old (Writes object name v)) result heap.new self.new }
+        ensures gives { Gives (answers self.old heap.old (Writes object name v)) result heap.new
+            self.new }
         ensures memory { result ≡ HostDone.Memory → IsTrue may_want_memory }
         ensures fits { fits self.new heap.new }
         ensures keeps { Keeps heap.old heap.new }
@@ -75,7 +77,8 @@ pub trait Host {
     /// The call of the built-in function `which` on `this`.
     fn call(&mut self, heap: &mut Heap, which: u32, this: Value, args: &[Value]) -> HostDone
         requires { fits self.old heap.old }
-        ensures gives { Gives (answers self.old heap.old (Calls which this args.now)) result heap.new self.new }
+        ensures gives { Gives (answers self.old heap.old (Calls which this args.now)) result
+            heap.new self.new }
         ensures memory { result ≡ HostDone.Memory → IsTrue may_want_memory }
         ensures fits { fits self.new heap.new }
         ensures keeps { Keeps heap.old heap.new }
@@ -83,7 +86,8 @@ pub trait Host {
         ensures refused { LeavesOnRefusal heap.old self.old result heap.new self.new };
 
     // A heap that only grew is still one that the host goes with.
-    ghost stays: { (host : Self) (old new : World) → fits host old → Grows old new → fits host new };
+    ghost stays: { (host : Self) (old new : World) → fits host old → Grows old new
+        → fits host new };
 }
 
 /// A host with nothing behind it: each call is outside the profile.

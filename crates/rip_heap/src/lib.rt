@@ -2,8 +2,8 @@
 //!
 //! Contracts see a heap as a world, which holds the objects, the scopes and the texts, each in the order of making
 //! (ECMA-262 5.1, sections 8 and 10.2). A world never changes: each call of [`Heap`] that changes a heap is one step
-//! that gives a new one, with its charge. A step that would pass a limit is none, and the heap stays as it was, as it
-//! does for want of memory. Values are converted by tables of sections 9 and 11.9.6.
+//! that gives a new one, with its charge. A step that would pass a limit is none, and the heap stays as it was. Its
+//! memory is taken when it is made. Values are converted by tables of sections 9 and 11.9.6.
 //!
 //! | what | its definition in `specs/` |
 //! |---|---|
@@ -12,13 +12,14 @@
 //! | [`Heap::new_object`], [`Heap::new_of`], [`Heap::new_function`] | `Objects.new_object`, `Objects.new_of`, `Objects.new_function` |
 //! | [`Heap::own`], [`Heap::find`], [`Heap::own_at`] | `Objects.own`, `Objects.find`, `Objects.own_at` |
 //! | [`Heap::put`], [`Heap::remove`] | `Objects.put`, `Objects.removed`; the indexes beside them are private, by `NameIndex` |
-//! | arrays and scopes | `Arrays`, `Scopes` |
+//! | arrays and scopes | `Arrays`, `Scopes`; how the elements of all arrays and the properties of all objects lie is private, in `rip_rows` |
 //! | [`Heap::new_error`] | `Errors.new_error` |
 //! | [`Heap::concat`], [`same_text`] | `Texts.concat`, `Names.same_text` |
-//! | [`Abrupt`], why an operation has no value | `Outcome.Answers`, `Outcome.AnswersOrLacks` |
+//! | [`Heap::place_in_text`], [`Heap::place_of_text`] | `Search.first_place_from`; how it is found is private, by `Borders` |
+//! | [`Abrupt`], why an operation has no value | `Outcome.Answers` |
 //! | what a call answers of its step | `Step.Makes`, `Step.Changes`, `Step.Charges` |
 //! | what every later world keeps of a world | `Growth.Grows` |
-//! | [`Mark`], [`Heap::mark`], [`Heap::cut_back`], for want of memory | `Marks.mark_of`, `Marks.cut_world` |
+//! | [`Mark`], [`Heap::mark`], [`Heap::cut_back`], where texts are taken back | `Marks.mark_of`, `Marks.cut_world` |
 //! | [`to_boolean`], [`to_number`], [`to_integer`], [`to_uint32`], [`to_int32`], [`to_text`], [`strictly_equal`] | `Conversions`, one table each |
 //! | [`room_for_text`], [`room_for_numeral`] | `Conversions.room_for_text`: the limit `text`, and then the units |
 //! | [`holder_of`], [`asked_of`], [`not_in_profile`] | `Holders`, for `in` and `hasOwnProperty` |
@@ -47,6 +48,7 @@ mod name_index;
 mod name_indexes;
 mod named_objects;
 mod names;
+mod object_rows;
 mod objects;
 mod outcome;
 mod properties;
@@ -54,6 +56,7 @@ mod property;
 mod room;
 mod scope_rows;
 mod scopes;
+mod search;
 mod stored;
 mod texts;
 

@@ -1,171 +1,105 @@
-ghost use Rattle.std.specs.Prelude.{◌≡◌, ◌≢◌, ℕ, ◌+◌, ◌-◌, ◌<◌, ◌≤◌, ◌⊎◌, [], None, Some, MatchOption, OnOk, length, remove, slice_set, take};
-ghost use Rattle.rip_heap.specs.NameIndex.{IsIndexOf, index_at};
+ghost use Rattle.std.specs.Prelude.{◌≡◌, ℕ, ◌-◌, ◌<◌, ◌↔◌, List, [], IfOk, IsTrue, OnOk, length, remove, take};
+ghost use Rattle.rip_values.specs.Pool.{Texts};
+ghost use Rattle.rip_rows.specs.Rows.{list_at};
+ghost use Rattle.rip_heap.specs.declared.property.Property.{Property};
+ghost use Rattle.rip_heap.specs.NameIndex.{IsIndexAt, OthersStay};
 
-use crate::name_index::{NameIndex, lies_in};
 use crate::property::Property;
-use crate::room::push;
+use rip_rows::Rows;
 use rip_values::{NoMemory, Pool};
 use std::alloc::Global;
 
 /// How many properties an object has before their names are worth an index.
-const INDEXED_FROM: usize = 16;
+const INDEXED_FROM: u32 = 16;
 
-/// The indexes of the objects that have one, by their places.
+/// The room of each row for a cell. An index is filled anew whenever its properties are four times as many, so that less
+/// than three numbers of a row are spent for each of them, and one list for each object.
+const ROOM_OF_CELL: u32 = 3;
+
+/// The most room that rows are made for.
+const MOST_ROOM: u32 = 0x7fff_ffff;
+
+/// The indexes of the objects that have one. The lists of a number are of the object at that place: `buckets` has the
+/// last property of each bucket, and `before` for each property the one before it in its bucket. An object whose list of
+/// buckets is empty has none. The rows are reserved when they are made, so that no call takes memory.
 #[derive(Debug, Drop)]
 pub struct NameIndexes {
-    pub rows: Vec<Option<NameIndex>>,
+    pub buckets: Rows<u32>,
+    pub before: Rows<u32>,
 }
 
 impl NameIndexes {
-    /// No indexes, which take no memory.
-    pub fn new(alloc: Global) -> NameIndexes
-        ensures { result.rows.items ≡ [] }
+    /// No indexes, with room for those of so many objects and properties together.
+    pub fn make(alloc: Global, cells: u32) -> Result<NameIndexes, NoMemory>
+        ensures { IfOk result (λ indexes. indexes.buckets.lists ≡ []) }
     {
-        NameIndexes {
-            rows: Vec::new(alloc),
-        }
+        let room = cells.saturating_mul(ROOM_OF_CELL).min(MOST_ROOM);
+        Ok(NameIndexes {
+            buckets: Rows::make(alloc, room, 0)?,
+            before: Rows::make(alloc, room, 0)?,
+        })
     }
 
-    /// The index of the object at this place.
-    pub fn get(&self, at: usize) -> Option<&NameIndex>
-        ensures { MatchOption result (index_at self.now.rows.items at ≡ None) (λ index. index_at self.now.rows.items at ≡ Some index.now) }
+    /// Whether the object at this place has an index.
+    pub fn has(&self, at: usize) -> bool
+        ensures { IsTrue result ↔ (0 < length (list_at self.now.buckets at)) }
     {
-        match self.rows.get(at) {
-            Some(Some(index)) => Some(index),
-            _ => None,
-        }
+        self.buckets.len(at) > 0
     }
 
-    /// Drops all indexes.
+    /// Drops all indexes. What they took is not given back.
     pub fn clear(&mut self)
-        ensures { self.new.rows.items ≡ [] }
+        ensures buckets { self.new.buckets.lists ≡ [] }
+        ensures before { self.new.before.lists ≡ [] }
     {
-        self.rows.clear();
+        self.buckets.truncate(0);
+        self.before.truncate(0);
     }
 
-    /// Takes up the last property of the object at this place, which is new. An index that cannot
-    /// be had is no refusal.
-    pub fn renew(&mut self, alloc: Global, pool: &Pool, at: usize, properties: &[Property])
-        requires some { 0 < length properties.now }
-        requires index { IsIndexOf pool.now (take (length properties.now - 1) properties.now) (index_at self.old.rows.items at) }
-        ensures index { IsIndexOf pool.now properties.now (index_at self.new.rows.items at) }
-        ensures others { (i : ℕ) → i ≢ at → index_at self.new.rows.items i ≡ index_at self.old.rows.items i }
-        ensures fewer { (n : ℕ) → length self.old.rows.items ≤ n → at < n → length self.new.rows.items ≤ n }
+    /// Takes up the last property of the object at this place, whose properties are the list of that
+    /// number. An index that cannot be had is no refusal.
+    pub fn renew(&mut self, pool: &Pool, at: usize, rows: &Rows<Property>)
+        requires some { 0 < length (list_at rows.now at) }
+        requires index { IsIndexAt pool.now
+            (take (length (list_at rows.now at) - 1) (list_at rows.now at)) self.old at }
+        ensures index { IsIndexAt pool.now (list_at rows.now at) self.new at }
+        ensures others { OthersStay at self.old self.new }
     {
-        let old = self.take(at);
-        let new = renewed(alloc, pool, properties, old);
-        self.put(at, new);
-    }
-
-    /// Drops the name of one of these properties of the object at this place, which is taken away.
-    pub fn drop_name(&mut self, pool: &Pool, at: usize, properties: &[Property], place: usize)
-        requires index { IsIndexOf pool.now properties.now (index_at self.old.rows.items at) }
-        requires within { place < length properties.now }
-        ensures index { IsIndexOf pool.now (remove properties.now place) (index_at self.new.rows.items at) }
-        ensures others { (i : ℕ) → i ≢ at → index_at self.new.rows.items i ≡ index_at self.old.rows.items i }
-        ensures fewer { (n : ℕ) → length self.old.rows.items ≤ n → at < n → length self.new.rows.items ≤ n }
-    {
-        let old = self.take(at);
-        let new = without_name(pool, properties, place, old);
-        self.put(at, new);
-    }
-
-    // Takes the index of the object at this place out.
-    fn take(&mut self, at: usize) -> Option<NameIndex>
-        ensures value { result ≡ index_at self.old.rows.items at }
-        ensures left { self.new.rows.items ≡ slice_set self.old.rows.items at None }
-    {
-        if at < self.rows.len() {
-            self.rows[at].take()
-        } else {
-            None
+        if self.extend(pool, at, rows).is_err() {
+            self.forget(at);
         }
     }
 
-    // Keeps an index for the object at this place, which has none, where there is memory.
-    fn put(&mut self, at: usize, index: Option<NameIndex>)
-        requires { index_at self.old.rows.items at ≡ None }
-        ensures there { (index_at self.new.rows.items at ≡ index) ⊎ (index_at self.new.rows.items at ≡ None) }
-        ensures others { (i : ℕ) → i ≢ at → index_at self.new.rows.items i ≡ index_at self.old.rows.items i }
-        ensures fewer { (n : ℕ) → length self.old.rows.items ≤ n → at < n → length self.new.rows.items ≤ n }
+    /// Drops the name of the property at this place of the object at that place, which is taken away.
+    pub fn drop_name(&mut self, at: usize, place: u32)
+        ensures index { (pool : Texts) (properties : List Property)
+            → IsIndexAt pool properties self.old at
+            → IsIndexAt pool (remove properties place) self.new at }
+        ensures others { OthersStay at self.old self.new }
     {
-        if index.is_none() || self.reach(at).is_err() {
-            return;
+        if place < self.before.len(at) {
+            self.remove(at, place);
+        } else {
+            self.forget(at);
         }
-        self.rows[at] = index;
     }
 
-    // Makes the rows reach the object at this place. No object gets an index by it.
-    fn reach(&mut self, at: usize) -> Result<(), NoMemory>
-        ensures ok { OnOk result (at < length self.new.rows.items) }
-        ensures same { (i : ℕ) → index_at self.new.rows.items i ≡ index_at self.old.rows.items i }
-        ensures fewer { (n : ℕ) → length self.old.rows.items ≤ n → at < n → length self.new.rows.items ≤ n }
+    // Takes up the last property of the object at this place. Where that fails there is no index any more.
+    fn extend(&mut self, pool: &Pool, at: usize, rows: &Rows<Property>) -> Result<(), NoMemory>
+        requires some { 0 < length (list_at rows.now at) }
+        requires index { IsIndexAt pool.now
+            (take (length (list_at rows.now at) - 1) (list_at rows.now at)) self.old at }
+        ensures index { OnOk result (IsIndexAt pool.now (list_at rows.now at) self.new at) }
+        ensures others { OthersStay at self.old self.new }
     {
-        while self.rows.len() <= at {
-            push(&mut self.rows, None)?;
+        let count = rows.len(at);
+        let buckets = self.buckets.len(at);
+        if buckets == 0 && count <= INDEXED_FROM {
+            Ok(())
+        } else if count / 2 > buckets {
+            self.fill(pool, rows, at)
+        } else {
+            self.take_up(pool, rows, at, count - 1)
         }
-        Ok(())
-    }
-}
-
-// The index of these properties, of which the last is new, made of that of the others.
-fn renewed(
-    alloc: Global,
-    pool: &Pool,
-    properties: &[Property],
-    old: Option<NameIndex>,
-) -> Option<NameIndex>
-    requires some { 0 < length properties.now }
-    requires index { IsIndexOf pool.now (take (length properties.now - 1) properties.now) old }
-    ensures { IsIndexOf pool.now properties.now result }
-{
-    let last = properties.len() - 1;
-    match old {
-        Some(index) => if properties.len() / 2 > index.buckets.len() {
-            NameIndex::make(alloc, pool, properties)
-        } else {
-            extended(pool, properties, index)
-        },
-        None => if last < INDEXED_FROM {
-            None
-        } else {
-            NameIndex::make(alloc, pool, properties)
-        },
-    }
-}
-
-// The index of these properties but for one.
-fn without_name(
-    pool: &Pool,
-    properties: &[Property],
-    place: usize,
-    old: Option<NameIndex>,
-) -> Option<NameIndex>
-    requires index { IsIndexOf pool.now properties.now old }
-    requires within { place < length properties.now }
-    ensures { IsIndexOf pool.now (remove properties.now place) result }
-{
-    let mut index = old?;
-    if place >= u32::MAX as usize {
-        return None;
-    }
-    index.remove(pool, properties, place);
-    Some(index)
-}
-
-// The index with the last of these properties.
-fn extended(pool: &Pool, properties: &[Property], mut index: NameIndex) -> Option<NameIndex>
-    requires some { 0 < length properties.now }
-    requires index { IsIndexOf pool.now (take (length properties.now - 1) properties.now) (Some index) }
-    ensures { IsIndexOf pool.now properties.now result }
-{
-    let last = properties.len() - 1;
-    let added = properties[last];
-    if !lies_in(pool, added.name) {
-        return None;
-    }
-    match index.add(pool, &properties[..last], added) {
-        Ok(()) => Some(index),
-        Err(_) => None,
     }
 }

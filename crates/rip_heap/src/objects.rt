@@ -1,13 +1,15 @@
-ghost use Rattle.std.specs.Prelude.{◌≡◌, ◌≤◌, ◌+◌, ◌^◌, ◌<◌, [], ⊤, IfOk, MatchOption, IfSome, slice_get, length};
+ghost use Rattle.std.specs.Prelude.{◌≡◌, ◌≤◌, ◌+◌, ◌<◌, [], ⊤, IfOk, MatchOption, IfSome, None, Some, option_map, slice_get, length};
 ghost use Rattle.rip_heap.specs.Growth.{Grows};
 ghost use Rattle.rip_heap.specs.Objects.{adding, kept_proto, new_object, new_of, new_function};
-ghost use Rattle.rip_heap.specs.Step.{Makes};
+ghost use Rattle.rip_heap.specs.Step.{Makes, TakesNoMemory};
+ghost use Rattle.rip_heap.specs.Stored.{head_of, object_of, stored_with};
 ghost use Rattle.rip_heap.specs.World.{object_at, IsObject, class_of, proto_of, code_of, first_object, charging, cost_of_object};
 
 use crate::class::Class;
 use crate::heap::Heap;
+use crate::property::Property;
 use crate::stored::StoredObject;
-use rip_values::{FIRST_HEAP_OBJECT, Limit, Refused};
+use rip_values::{FIRST_HEAP_OBJECT, FixedText, Limit, Refused, Value};
 use std::alloc::Global;
 
 /// Cells that a function costs.
@@ -17,35 +19,44 @@ impl Heap {
     /// A new plain object. A prototype that is no object of this heap counts as none.
     pub fn new_object(&mut self, alloc: Global, proto: Option<u32>) -> Result<u32, Refused>
         ensures made { Makes Limit.Cells (new_object self.old proto) self.old result self.new }
+        ensures room { TakesNoMemory result }
         ensures stands { IfOk result (IsObject self.new) }
         ensures grows { Grows self.old self.new }
     {
         let proto = self.kept_proto(proto);
-        self.add_object(StoredObject::bare(alloc, Class::Plain, proto))
+        self.add_object(StoredObject::bare(Class::Plain, proto))
     }
 
     /// A new object of that class, which has no prototype: an error, a thrown code or an event. As a function it has
     /// no code, and as an array no elements.
     pub fn new_of(&mut self, alloc: Global, class: Class) -> Result<u32, Refused>
         ensures made { Makes Limit.Cells (new_of self.old class) self.old result self.new }
+        ensures room { TakesNoMemory result }
         ensures stands { IfOk result (IsObject self.new) }
         ensures grows { Grows self.old self.new }
     {
-        self.add_object(StoredObject::bare(alloc, class, None))
+        self.add_object(StoredObject::bare(class, None))
     }
 
     /// A new function of the script: the node of the program that it is, and the scope in which it stands. Its
     /// `prototype` is a new object of class `Prototype`.
     pub fn new_function(&mut self, alloc: Global, node: u32, scope: u32) -> Result<u32, Refused>
-        ensures made { Makes Limit.Cells (new_function self.old node scope) self.old result self.new }
+        ensures made { Makes Limit.Cells (new_function self.old node scope) self.old result
+            self.new }
+        ensures room { TakesNoMemory result }
         ensures stands { IfOk result (IsObject self.new) }
         ensures grows { Grows self.old self.new }
     {
         self.room_for(COST_OF_FUNCTION as usize)?;
-        let prototype = FIRST_HEAP_OBJECT + self.named.objects().len() as u32;
-        let function = StoredObject::function(alloc, node, scope, prototype)?;
-        let bare = StoredObject::bare(alloc, Class::Prototype, None);
-        self.named.push_two(bare, function)?;
+        let prototype = FIRST_HEAP_OBJECT + self.named.len() as u32;
+        let bare = StoredObject::bare(Class::Prototype, None);
+        let property = Property {
+            name: FixedText::Prototype.span(),
+            value: Value::Object(prototype),
+        };
+        self.named.push(bare);
+        self.named
+            .push_with(StoredObject::function(node, scope), property);
         self.used += COST_OF_FUNCTION;
         Ok(prototype + 1)
     }
@@ -81,29 +92,30 @@ impl Heap {
         }
     }
 
-    // The object of that number.
+    // The object of that number, but for its properties and its elements.
     pub(crate) fn object(&self, number: u32) -> Option<&StoredObject>
-        ensures object { MatchOption result (object_at self.now number ≡ None) (λ o. object_at self.now number ≡ Some o.now) }
-        ensures older { MatchOption result ⊤ (λ o. IfSome o.now.proto (λ proto. (first_object ≤ proto) × (proto < number))) }
-        ensures counted { MatchOption result ⊤ (λ o. length o.now.elements < 2 ^ 32) }
+        ensures object { MatchOption result (object_at self.now number ≡ None)
+            (λ s. option_map head_of (object_at self.now number) ≡ Some s.now) }
+        ensures older { MatchOption result ⊤
+            (λ s. IfSome s.now.proto (λ proto. (first_object ≤ proto) × (proto < number))) }
     {
         if number < FIRST_HEAP_OBJECT {
             return None;
         }
-        self.named
-            .objects()
-            .get((number - FIRST_HEAP_OBJECT) as usize)
+        self.named.get((number - FIRST_HEAP_OBJECT) as usize)
     }
 
     // The place of the object of that number in the list of objects.
     pub(crate) fn place_of_object(&self, number: u32) -> Option<usize>
-        ensures { MatchOption result (object_at self.now number ≡ None) (λ i. (number ≡ first_object + i) × (i < length self.now.objects) × (slice_get self.now.objects i ≡ object_at self.now number)) }
+        ensures { MatchOption result (object_at self.now number ≡ None)
+            (λ i. (number ≡ first_object + i) × (i < length self.now.objects)
+            × (slice_get self.now.objects i ≡ object_at self.now number)) }
     {
         if number < FIRST_HEAP_OBJECT {
             return None;
         }
         let place = (number - FIRST_HEAP_OBJECT) as usize;
-        if place < self.named.objects().len() {
+        if place < self.named.len() {
             Some(place)
         } else {
             None
@@ -112,15 +124,18 @@ impl Heap {
 
     // Puts an object that is its own cost behind the others.
     fn add_object(&mut self, object: StoredObject) -> Result<u32, Refused>
-        requires proto { IfSome object.proto (λ proto. (first_object ≤ proto) × (proto < first_object + length self.old.objects)) }
-        requires elements { object.elements ≡ [] }
-        ensures made { Makes Limit.Cells (charging cost_of_object self.old (adding object)) self.old result self.new }
+        requires { IfSome object.proto
+            (λ proto. (first_object ≤ proto) × (proto < first_object + length self.old.objects)) }
+        ensures made { Makes Limit.Cells
+            (charging cost_of_object self.old (adding (object_of (stored_with object []) [])))
+            self.old result self.new }
+        ensures room { TakesNoMemory result }
         ensures stands { IfOk result (IsObject self.new) }
         ensures grows { Grows self.old self.new }
     {
         self.room_for(1)?;
-        let number = FIRST_HEAP_OBJECT + self.named.objects().len() as u32;
-        self.named.push(object)?;
+        let number = FIRST_HEAP_OBJECT + self.named.len() as u32;
+        self.named.push(object);
         self.used += 1;
         Ok(number)
     }

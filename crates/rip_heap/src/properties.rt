@@ -1,7 +1,7 @@
 ghost use Rattle.std.specs.Prelude.{◌≡◌, is_some, option_map, slice_get};
 ghost use Rattle.rip_heap.specs.Growth.{Grows};
 ghost use Rattle.rip_heap.specs.Objects.{own, own_at, find, or_up, put, removed};
-ghost use Rattle.rip_heap.specs.Step.{Changes};
+ghost use Rattle.rip_heap.specs.Step.{Changes, TakesNoMemory};
 ghost use Rattle.rip_heap.specs.World.{object_at, proto_of};
 
 use crate::heap::Heap;
@@ -15,8 +15,8 @@ impl Heap {
     {
         let at = self.place_of_object(object)?;
         let place = self.named.place(at, name)?;
-        let found = &self.named.objects()[at];
-        Some(found.properties[place].value)
+        let found = self.named.property(at, place)?;
+        Some(found.value)
     }
 
     /// The value of the property with this name on the object or, going up, on the first of its prototypes that has one
@@ -24,7 +24,9 @@ impl Heap {
     #[tactic(auto, using(crate::proofs::FindLemmas::find_up))]
     pub fn find(&self, object: u32, name: Span) -> Option<Value>
         ensures value { result ≡ find self.now object name }
-        ensures up { find self.now object name ≡ or_up (own self.now object name) (proto_of (object_at self.now object)) (λ proto. find self.now proto name) }
+        ensures up { find self.now object name
+            ≡ or_up (own self.now object name) (proto_of (object_at self.now object))
+            (λ proto. find self.now proto name) }
     {
         let _ = &self.named;
         let mut at = Some(object);
@@ -41,21 +43,19 @@ impl Heap {
     pub fn own_at(&self, object: u32, place: u32) -> Option<(Span, Value)>
         ensures { result ≡ own_at self.now object place }
     {
-        match self.object(object) {
-            Some(found) => match found.properties.get(place as usize) {
-                Some(property) => Some((property.name, property.value)),
-                None => None,
-            },
-            None => None,
-        }
+        let at = self.place_of_object(object)?;
+        let found = self.named.property(at, place)?;
+        Some((found.name, found.value))
     }
 
     /// Gives the object's own property with this name the value; where there is none, makes it behind the others.
     /// An existing property keeps the span that it was made with. What is no object of this heap stays as it is.
     pub fn put(&mut self, alloc: Global, object: u32, name: Span, v: Value) -> Result<(), Refused>
         ensures made { Changes (put self.old object name v) self.old result self.new }
+        ensures room { TakesNoMemory result }
         ensures grows { Grows self.old self.new }
     {
+        let _ = alloc;
         let Some(at) = self.place_of_object(object) else {
             return Ok(());
         };
@@ -63,7 +63,7 @@ impl Heap {
             Some(found) => self.named.set_value(at, found, v),
             None => {
                 self.room_for(1)?;
-                self.named.add_property(alloc, at, name, v)?;
+                self.named.add_property(at, name, v);
                 self.used += 1;
             }
         }

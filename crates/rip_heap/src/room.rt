@@ -1,41 +1,32 @@
-ghost use Rattle.std.specs.Prelude.{◌≡◌, ◌∷◌, ◌++◌, [], OnOk, OnErr, slice_set};
+ghost use Rattle.std.specs.Prelude.{◌≡◌, ◌+◌, ◌≤◌, ◌∷◌, ◌++◌, [], length};
+ghost use Rattle.rip_rows.specs.Rows.{piece_of};
 
-use rip_values::NoMemory;
+use rip_rows::Rows;
 
-// Puts the item behind the others, or leaves them as they are for want of memory.
-pub fn push<T: Drop>(items: &mut Vec<T>, item: T) -> Result<(), NoMemory>
-    ensures ok { OnOk result (items.new.items ≡ items.old.items ++ item ∷ []) }
-    ensures err { OnErr result (items.new.items ≡ items.old.items) }
+// Makes a list of these elements behind the others.
+#[tactic(auto, using(crate::proofs::StoredLemmas::read_behind, crate::proofs::StoredLemmas::written_behind))]
+pub fn add_list_of<T: Copy>(rows: &mut Rows<T>, items: &[T])
+    requires { rows.old.spent + (1 + length items.now) ≤ rows.old.room }
+    ensures { rows.new ≡ record rows.old {
+      lists = rows.old.lists ++ items.now ∷ [];
+      spent = rows.old.spent + (1 + length items.now);
+    } }
 {
-    items.push(item)?;
-    Ok(())
+    let list = rows.lists();
+    rows.add_list().unwrap();
+    rows.push_all(list, items).unwrap();
 }
 
-// Puts two items behind the others, or leaves them as they are for want of memory.
-pub fn push_two<T: Drop>(items: &mut Vec<T>, first: T, second: T) -> Result<(), NoMemory>
-    ensures ok { OnOk result (items.new.items ≡ items.old.items ++ first ∷ second ∷ []) }
-    ensures err { OnErr result (items.new.items ≡ items.old.items) }
+// Makes a list of the elements of a list from one place up to another, behind the others.
+#[tactic(auto, using(crate::proofs::StoredLemmas::read_behind, crate::proofs::StoredLemmas::read_before, crate::proofs::StoredLemmas::written_behind))]
+pub fn add_piece<T: Copy>(rows: &mut Rows<T>, list: usize, from: u32, to: u32)
+    requires { rows.old.spent + (1 + length (piece_of rows.old list from to)) ≤ rows.old.room }
+    ensures { rows.new ≡ record rows.old {
+      lists = rows.old.lists ++ piece_of rows.old list from to ∷ [];
+      spent = rows.old.spent + (1 + length (piece_of rows.old list from to));
+    } }
 {
-    items.reserve(2)?;
-    items.push_reserved(first);
-    items.push_reserved(second);
-    Ok(())
-}
-
-// Puts copies of these items behind the others, all of them or none.
-pub fn push_all<T: Copy>(items: &mut Vec<T>, more: &[T]) -> Result<(), NoMemory>
-    ensures ok { OnOk result (items.new.items ≡ items.old.items ++ more.now) }
-    ensures err { OnErr result (items.new.items ≡ items.old.items) }
-{
-    items.extend_from_slice(more)?;
-    Ok(())
-}
-
-// Puts the item in place of the one there. Past the end nothing is changed.
-pub fn set<T: Drop>(items: &mut Vec<T>, place: usize, item: T)
-    ensures { items.new.items ≡ slice_set items.old.items place item }
-{
-    if place < items.len() {
-        items[place] = item;
-    }
+    let made = rows.lists();
+    rows.add_list().unwrap();
+    rows.push_piece(made, list, from, to).unwrap();
 }

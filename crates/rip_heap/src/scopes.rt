@@ -1,7 +1,7 @@
 ghost use Rattle.std.specs.Prelude.{◌≡◌, ◌<◌, IfOk, IfSome, length};
 ghost use Rattle.rip_heap.specs.Growth.{Grows};
 ghost use Rattle.rip_heap.specs.Scopes.{new_scope, kept_parent, parent_of, bindings_of, binding, with_binding};
-ghost use Rattle.rip_heap.specs.Step.{Makes};
+ghost use Rattle.rip_heap.specs.Step.{Makes, TakesNoMemory};
 ghost use Rattle.rip_heap.specs.World.{scope_at, IsScope};
 
 use crate::heap::Heap;
@@ -17,14 +17,16 @@ impl Heap {
         parent: Option<u32>,
         names: u32,
     ) -> Result<u32, Refused>
-        ensures made { Makes Limit.Cells (new_scope self.old parent names) self.old result self.new }
+        ensures made { Makes Limit.Cells (new_scope self.old parent names) self.old result
+            self.new }
+        ensures room { TakesNoMemory result }
         ensures stands { IfOk result (IsScope self.new) }
         ensures grows { Grows self.old self.new }
     {
         self.room_for(names as usize + 1)?;
         let number = self.scopes.len() as u32;
         let parent = self.kept_parent(parent);
-        self.scopes.push(parent, names)?;
+        self.scopes.push(parent, names);
         self.used += names + 1;
         Ok(number)
     }

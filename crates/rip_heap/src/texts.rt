@@ -18,7 +18,8 @@ impl Heap {
     /// A new text: the two texts, one behind the other. It takes no memory.
     pub fn concat(&mut self, alloc: Global, a: Span, b: Span) -> Result<Span, Refused>
         ensures made { Makes Limit.Units (concat self.old a b) self.old result self.new }
-        ensures stands { IfOk result (λ span. text_at self.new.pool span ≡ joined self.old.pool a b) }
+        ensures stands { IfOk result
+            (λ span. text_at self.new.pool span ≡ joined self.old.pool a b) }
         ensures room { TakesNoMemory result }
         ensures grows { Grows self.old self.new }
     {

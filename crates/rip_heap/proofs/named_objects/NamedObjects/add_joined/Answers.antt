@@ -1,5 +1,10 @@
+use Rattle.rip_heap.specs.Stored.{all_stored}
 use Rattle.rip_heap.proofs.NameIndexLemmas.{indexes_kept}
 use Rattle.rip_heap.proofs.named_objects.NamedObjects.add_joined.Goals as goal
 
 pub invariant_of-self : goal.invariant_of-self
-invariant_of-self c = indexes_kept c.self.inside.pool c.add_joined.new.self c.self.inside.objects.items c.self.inside.indexes.rows.items c.self.invariant c.add_joined.ensures.older
+invariant_of-self c = record {
+  indexed = indexes_kept c.self.inside.pool c.add_joined.new.self (all_stored c.self.inside.rows.heads c.self.inside.rows.properties) c.self.inside.indexes c.self.invariant.indexed c.add_joined.ensures.older;
+  listed = c.self.invariant.listed;
+  kept = c.self.invariant.kept;
+}

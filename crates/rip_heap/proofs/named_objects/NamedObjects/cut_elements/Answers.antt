@@ -1,19 +1,14 @@
-use Rattle.std.proofs.Common.{ap}
-use Rattle.rip_heap.proofs.NameIndexLemmas.{beside, edit_keeps, edit_stands, stands_within}
+use Rattle.std.proofs.Common.{[], refl, slice_index_or, take}
+use Rattle.rip_heap.proofs.StoredLemmas.{cost_keeps, elements_edited, elements_kept}
 use Rattle.rip_heap.proofs.named_objects.NamedObjects.cut_elements.Goals as goal
 
 pub invariant_of-self : goal.invariant_of-self
 invariant_of-self c =
-    let within = stands_within c.args.self.now c.self.inside.pool c.self.inside.objects.items c.args.at c.self.view_is c.requires.within in
-    beside c.self.inside.pool c.self.inside.objects.items c.self.inside.indexes.rows.items c.args.at c.index_mut-target.result.now c.cut_elements.new.self c.self.invariant within c.index_mut-target.ensures.value
-    (ap (λ o. o.properties) c.cut_elements.ensures.edited)
+    let all = elements_kept c.self.inside.pool c.self.inside.rows c.cut_elements.new.self c.args.at ((take c.args.count) (slice_index_or c.self.inside.rows.elements c.args.at [])) _ c.self.inside.indexes c.self.invariant.indexed c.self.invariant.listed c.self.invariant.kept c.cut_elements.ensures in
+    record { indexed = all.indexed; listed = all.listed; kept = all.kept }
 
 pub returns-clause-edited : goal.returns-clause-edited
-returns-clause-edited c =
-    let within = stands_within c.args.self.now c.self.inside.pool c.self.inside.objects.items c.args.at c.self.view_is c.requires.within in
-    edit_stands c.args.self.now c.self.inside.pool c.self.inside.objects.items c.args.at _ c.index_mut-target.result.now c.cut_elements.new.self c.self.view_is within c.index_mut-target.ensures.value c.cut_elements.ensures.edited
+returns-clause-edited c = elements_edited c.args.self.now c.self.inside.pool c.self.inside.rows c.cut_elements.new.self c.args.at ((take c.args.count)) (λ r. r) c.self.view_is c.requires.within c.self.invariant.listed c.cut_elements.ensures
 
 pub returns-clause-keeps : goal.returns-clause-keeps
-returns-clause-keeps c =
-    let within = stands_within c.args.self.now c.self.inside.pool c.self.inside.objects.items c.args.at c.self.view_is c.requires.within in
-    edit_keeps c.args.self.now c.self.inside.pool c.self.inside.objects.items c.args.at c.index_mut-target.result.now c.cut_elements.new.self c.self.view_is within c.index_mut-target.ensures.value c.cut_elements.ensures.keeps
+returns-clause-keeps c = cost_keeps c.args.self.now _ c.args.at _ (λ r. r) (λ o. (refl, refl, refl)) (returns-clause-edited c)

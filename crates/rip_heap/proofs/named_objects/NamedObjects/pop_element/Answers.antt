@@ -1,19 +1,19 @@
-use Rattle.std.proofs.Common.{ap}
-use Rattle.rip_heap.proofs.NameIndexLemmas.{beside, edit_keeps, edit_stands, stands_within}
+use Rattle.std.proofs.Common.{[], ◌∙◌, ap, refl, slice_index_or, sym}
+use Rattle.rip_heap.specs.Arrays.{last_of, without_last}
+use Rattle.rip_heap.specs.Stored.{all_stored}
+use Rattle.rip_heap.proofs.StoredLemmas.{cost_keeps, elements_edited, elements_kept, elements_read}
 use Rattle.rip_heap.proofs.named_objects.NamedObjects.pop_element.Goals as goal
 
 pub invariant_of-self : goal.invariant_of-self
 invariant_of-self c =
-    let within = stands_within c.args.self.now c.self.inside.pool c.self.inside.objects.items c.args.at c.self.view_is c.requires.within in
-    beside c.self.inside.pool c.self.inside.objects.items c.self.inside.indexes.rows.items c.args.at c.index_mut-target.result.now c.pop_element.new.self c.self.invariant within c.index_mut-target.ensures.value
-    (ap (λ o. o.properties) c.pop_element.ensures.edited)
+    let all = elements_kept c.self.inside.pool c.self.inside.rows c.pop_element.new.self c.args.at (without_last (slice_index_or c.self.inside.rows.elements c.args.at [])) _ c.self.inside.indexes c.self.invariant.indexed c.self.invariant.listed c.self.invariant.kept c.pop_element.ensures.left in
+    record { indexed = all.indexed; listed = all.listed; kept = all.kept }
+
+pub returns-clause-last : goal.returns-clause-last
+returns-clause-last c = c.pop_element.ensures.last ∙ sym (ap last_of (elements_read c.args.self.now c.self.inside.pool (all_stored c.self.inside.rows.heads c.self.inside.rows.properties) c.self.inside.rows.elements c.args.at c.self.view_is c.self.invariant.listed))
 
 pub returns-clause-left : goal.returns-clause-left
-returns-clause-left c =
-    let within = stands_within c.args.self.now c.self.inside.pool c.self.inside.objects.items c.args.at c.self.view_is c.requires.within in
-    edit_stands c.args.self.now c.self.inside.pool c.self.inside.objects.items c.args.at _ c.index_mut-target.result.now c.pop_element.new.self c.self.view_is within c.index_mut-target.ensures.value c.pop_element.ensures.edited
+returns-clause-left c = elements_edited c.args.self.now c.self.inside.pool c.self.inside.rows c.pop_element.new.self c.args.at (without_last) (λ r. r) c.self.view_is c.requires.within c.self.invariant.listed c.pop_element.ensures.left
 
 pub returns-clause-keeps : goal.returns-clause-keeps
-returns-clause-keeps c =
-    let within = stands_within c.args.self.now c.self.inside.pool c.self.inside.objects.items c.args.at c.self.view_is c.requires.within in
-    edit_keeps c.args.self.now c.self.inside.pool c.self.inside.objects.items c.args.at c.index_mut-target.result.now c.pop_element.new.self c.self.view_is within c.index_mut-target.ensures.value c.pop_element.ensures.keeps
+returns-clause-keeps c = cost_keeps c.args.self.now _ c.args.at _ (λ r. r) (λ o. (refl, refl, refl)) (returns-clause-left c)

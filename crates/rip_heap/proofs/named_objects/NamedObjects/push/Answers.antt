@@ -1,6 +1,12 @@
-use Rattle.std.proofs.Common.{◌∷◌, []}
-use Rattle.rip_heap.proofs.NameIndexLemmas.{indexes_pushed_or_not}
+use Rattle.std.proofs.Common.{[]}
+use Rattle.rip_heap.proofs.StoredLemmas.{another_kept, another_stands}
 use Rattle.rip_heap.proofs.named_objects.NamedObjects.push.Goals as goal
 
 pub invariant_of-self : goal.invariant_of-self
-invariant_of-self c = indexes_pushed_or_not c.self.inside.pool c.self.inside.objects.items c.self.inside.indexes.rows.items c.push.new.items.items (c.args.object ∷ []) c.push.result c.self.invariant c.push.ensures.ok c.push.ensures.err
+invariant_of-self c =
+    let all = another_kept c.self.inside.pool c.self.inside.rows c.add.new.self c.args.object [] [] c.self.inside.indexes c.self.invariant.indexed c.self.invariant.listed c.self.invariant.kept c.add.ensures in
+    record { indexed = all.indexed; listed = all.listed; kept = all.kept }
+
+pub returns : goal.returns
+returns c =
+    another_stands c.args.self.now c.self.inside.pool c.self.inside.rows c.add.new.self c.args.object [] [] c.self.view_is c.self.invariant.listed c.self.invariant.kept c.add.ensures

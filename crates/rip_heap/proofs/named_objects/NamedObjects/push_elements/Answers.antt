@@ -1,30 +1,21 @@
-use Rattle.std.proofs.Common.{ap}
-use Rattle.rip_heap.proofs.NameIndexLemmas.{beside, edit_keeps, edit_stands, stands_within}
+use Rattle.std.proofs.Common.{[], ◌++◌, arith, length, refl, slice_index_or}
+use Rattle.rip_heap.specs.Rooms.{spending}
+use Rattle.rip_heap.specs.Stored.{all_stored}
+use Rattle.rip_heap.proofs.StoredLemmas.{cost_keeps, elements_edited, elements_kept, stands_within}
 use Rattle.rip_heap.proofs.named_objects.NamedObjects.push_elements.Goals as goal
+
+pub push_elements-requires-clause-within : goal.push_elements-requires-clause-within
+push_elements-requires-clause-within c =
+    let within = stands_within c.args.self.now c.self.inside.pool (all_stored c.self.inside.rows.heads c.self.inside.rows.properties) c.self.inside.rows.elements c.args.at c.self.view_is c.requires.within in
+    omega (arith, within, c.self.invariant.listed)
 
 pub invariant_of-self : goal.invariant_of-self
 invariant_of-self c =
-    let within = stands_within c.args.self.now c.self.inside.pool c.self.inside.objects.items c.args.at c.self.view_is c.requires.within in
-    beside c.self.inside.pool c.self.inside.objects.items c.self.inside.indexes.rows.items c.args.at c.index_mut-target.result.now c.push_elements.new.self c.self.invariant within c.index_mut-target.ensures.value
-    (ap (λ o. o.properties) c.in_err-push_elements.ensures.err)
+    let all = elements_kept c.self.inside.pool c.self.inside.rows c.push_elements.new.self c.args.at (slice_index_or c.self.inside.rows.elements c.args.at [] ++ c.args.items.now) _ c.self.inside.indexes c.self.invariant.indexed c.self.invariant.listed c.self.invariant.kept c.push_elements.ensures in
+    record { indexed = all.indexed; listed = all.listed; kept = all.kept }
 
-pub invariant_of-self-2 : goal.invariant_of-self-2
-invariant_of-self-2 c =
-    let within = stands_within c.args.self.now c.self.inside.pool c.self.inside.objects.items c.args.at c.self.view_is c.requires.within in
-    beside c.self.inside.pool c.self.inside.objects.items c.self.inside.indexes.rows.items c.args.at c.index_mut-target.result.now c.push_elements.new.self c.self.invariant within c.index_mut-target.ensures.value
-    (ap (λ o. o.properties) c.in_ok-push_elements.ensures.ok)
-
-pub returns-clause-ok : goal.returns-clause-ok
-returns-clause-ok c =
-    let within = stands_within c.args.self.now c.self.inside.pool c.self.inside.objects.items c.args.at c.self.view_is c.requires.within in
-    edit_stands c.args.self.now c.self.inside.pool c.self.inside.objects.items c.args.at _ c.index_mut-target.result.now c.push_elements.new.self c.self.view_is within c.index_mut-target.ensures.value c.in_ok-push_elements.ensures.ok
-
-pub returns-in_err-push_elements-clause-keeps : goal.returns-in_err-push_elements-clause-keeps
-returns-in_err-push_elements-clause-keeps c =
-    let within = stands_within c.args.self.now c.self.inside.pool c.self.inside.objects.items c.args.at c.self.view_is c.requires.within in
-    edit_keeps c.args.self.now c.self.inside.pool c.self.inside.objects.items c.args.at c.index_mut-target.result.now c.push_elements.new.self c.self.view_is within c.index_mut-target.ensures.value c.in_err-push_elements.ensures.keeps
+pub returns-clause-edited : goal.returns-clause-edited
+returns-clause-edited c = elements_edited c.args.self.now c.self.inside.pool c.self.inside.rows c.push_elements.new.self c.args.at ((λ items. items ++ c.args.items.now)) (spending (length c.args.items.now)) c.self.view_is c.requires.within c.self.invariant.listed c.push_elements.ensures
 
 pub returns-clause-keeps : goal.returns-clause-keeps
-returns-clause-keeps c =
-    let within = stands_within c.args.self.now c.self.inside.pool c.self.inside.objects.items c.args.at c.self.view_is c.requires.within in
-    edit_keeps c.args.self.now c.self.inside.pool c.self.inside.objects.items c.args.at c.index_mut-target.result.now c.push_elements.new.self c.self.view_is within c.index_mut-target.ensures.value c.in_ok-push_elements.ensures.keeps
+returns-clause-keeps c = cost_keeps c.args.self.now _ c.args.at _ (spending (length c.args.items.now)) (λ o. (refl, refl, refl)) (returns-clause-edited c)
