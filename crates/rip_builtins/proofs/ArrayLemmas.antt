@@ -1,25 +1,12 @@
 -- Elements that are read one by one.
-use Rattle.std.proofs.Common.{◌≡◌, ℕ, zero, suc, ◌+◌, ◌-◌, ◌<◌, ◌≤◌, Bool, true, false, cond, List, [], ◌∷◌, ◌++◌, length, take, drop, get_or, Option, None, Some, Ok, ℤ, refl, sym, ap, ◌∙◌, arith, slice_get, unwrap_or, length-drop}
-use Rattle.std.proofs.Math.Seq.{take-suc}
-use Rattle.std.proofs.lemmas.Option.{unwrap_or-slice_get}
-use Rattle.std.proofs.lemmas.List.{get_or-drop, at_drop_all}
+use Rattle.std.proofs.Common.{◌≡◌, ℕ, zero, suc, ◌+◌, ◌<◌, ◌≤◌, Bool, true, false, cond, List, [], ◌∷◌, length, drop, Option, None, Some, Ok, ℤ, refl, sym, ap, ◌∙◌, arith, slice_get}
+use Rattle.std.proofs.lemmas.List.{at_drop_all}
 use Rattle.std.specs.Option.{option_map_or}
 use Rattle.std.specs.List.{position_from}
 use Rattle.rip_values.specs.declared.value.Value.{Value}
 use Rattle.rip_values.specs.Pool.{Texts}
 use Rattle.rip_builtins.specs.Arguments.{argument, integer_in, then_gives}
 use Rattle.rip_builtins.specs.Arrays.{index_in, place_of_value}
-
--- one element more of those from a place on
-pub range-more : {X : Type 0} (xs : List X) (from place : ℕ) (d : X) → from ≤ place → place < length xs
-    → take (place + 1 - from) (drop from xs) ≡ take (place - from) (drop from xs) ++ unwrap_or (slice_get xs place) d ∷ []
-range-more xs from place d low high =
-    let more : place + 1 - from ≡ suc (place - from) = omega arith in
-    let within : place - from < length (drop from xs) = omega (arith, length-drop from xs) in
-    let there : from + (place - from) ≡ place = omega arith in
-    ap (λ n. take n (drop from xs)) more
-    ∙ take-suc (drop from xs) (place - from) d within
-    ∙ ap (λ x. take (place - from) (drop from xs) ++ x ∷ []) (get_or-drop from xs (place - from) d ∙ ap (λ n. get_or xs n d) there ∙ sym (unwrap_or-slice_get xs place d))
 
 -- the element at a place and those behind it
 pub drop-at : {X : Type 0} (xs : List X) (place : ℕ) (x : X) → slice_get xs place ≡ Some x → drop place xs ≡ x ∷ drop (place + 1) xs

@@ -2,5 +2,4 @@ pub mod ArrayLemmas
 pub mod NumberLemmas
 pub mod SearchLemmas
 pub mod JoinLemmas
-pub mod BorderLemmas
 pub mod RangedLemmas

@@ -1,42 +1,15 @@
--- The first place of a text is the place at which the pattern stands and before which it stands nowhere.
-use Rattle.std.proofs.Common.{◌≡◌, ℕ, zero, suc, ◌<◌, Bool, true, false, cond, List, [], ◌∷◌, length, take, Option, None, Some, refl, sym, ap, ◌∙◌, subst, arith, nat_eq}
+-- The place at which a text is found is its first one (what `first_place` finds stands in the heap's crate).
+use Rattle.std.proofs.Common.{◌≡◌, ℕ, zero, suc, ◌<◌, Bool, true, false, cond, List, [], ◌∷◌, length, take, Option, None, Some, refl, sym, subst, arith, nat_eq}
 use Rattle.std.specs.Prelude.{option_map}
 use Rattle.std.specs.List.{starts_with}
 use lib.Pointwise.{bytes_decides}
-use Rattle.rip_builtins.specs.Borders.{StandsAt}
-use Rattle.rip_builtins.specs.Search.{first_place}
+use Rattle.rip_heap.specs.Borders.{StandsAt}
+use Rattle.rip_heap.specs.Search.{first_place}
 use Rattle.rip_builtins.specs.Laws.{IsFirstPlace}
 use Rattle.std.proofs.lemmas.Bool.{both_ways}
 
 begins : (pattern text : List ℕ) → StandsAt pattern text 0 → starts_with nat_eq text pattern ≡ true
 begins pattern text stands = (bytes_decides pattern (take (length pattern) text)).1 (sym stands)
-
-begins-not : (pattern text : List ℕ) → ¬ (StandsAt pattern text 0) → starts_with nat_eq text pattern ≡ false
-begins-not pattern text differs = by (starts_with nat_eq text pattern) refl
-  where
-    by : (b : Bool) → starts_with nat_eq text pattern ≡ b → b ≡ false
-    by true e = absurd (differs (sym ((bytes_decides pattern (take (length pattern) text)).0 e)))
-    by false e = refl
-
-pub first_place-found : (pattern text : List ℕ) (place : ℕ) → StandsAt pattern text place → ((q : ℕ) → q < place → ¬ (StandsAt pattern text q)) → first_place pattern text ≡ Some place
-first_place-found pattern [] zero stands first = ap (λ b. cond b (Some 0) None) (begins pattern [] stands)
-first_place-found pattern (u ∷ text) zero stands first = ap (λ b. cond b (Some 0) (option_map suc (first_place pattern text))) (begins pattern (u ∷ text) stands)
-first_place-found pattern [] (suc place) stands first = absurd (first 0 (omega arith) stands)
-first_place-found pattern (u ∷ text) (suc place) stands first =
-    ap (λ b. cond b (Some 0) (option_map suc (first_place pattern text))) (begins-not pattern (u ∷ text) (first 0 (omega arith)))
-    ∙ ap (option_map suc) (first_place-found pattern text place stands (λ q low s. first (suc q) (omega arith) s))
-
-pub first_place-none : (pattern text : List ℕ) → ((q : ℕ) → ¬ (StandsAt pattern text q)) → first_place pattern text ≡ None
-first_place-none pattern [] nowhere = ap (λ b. cond b (Some 0) None) (begins-not pattern [] (nowhere 0))
-first_place-none pattern (u ∷ text) nowhere =
-    ap (λ b. cond b (Some 0) (option_map suc (first_place pattern text))) (begins-not pattern (u ∷ text) (nowhere 0))
-    ∙ ap (option_map suc) (first_place-none pattern text (λ q s. nowhere (suc q) s))
-
--- the empty pattern stands at once
-pub first_place-empty : (pattern text : List ℕ) → length pattern ≡ 0 → first_place pattern text ≡ Some 0
-first_place-empty [] [] e = refl
-first_place-empty [] (u ∷ text) e = refl
-first_place-empty (p ∷ pattern) text e = absurd (omega (arith, e))
 
 -- the first place is one
 pub first_place-first : (pattern text : List ℕ) → IsFirstPlace pattern text (first_place pattern text)

@@ -1,5 +1,5 @@
 -- The functions of arrays, each on an array of that number.
-use Rattle.std.specs.Prelude.{ℕ, ℤ, pos, negsuc, suc, List, [], ◌++◌, length, drop, ◌+◌, ◌-◌, min, Option, None, Some, Result, Ok, Err, unwrap_or, slice_range}
+use Rattle.std.specs.Prelude.{ℕ, ℤ, pos, negsuc, suc, List, [], length, drop, ◌-◌, min, Option, None, Some, Result, Ok, Err, unwrap_or, slice_range}
 use Rattle.std.specs.List.{position_from}
 use Rattle.rip_values.specs.declared.value.Value.{Value}
 use Rattle.rip_values.specs.declared.value.Value.TheVariants.{Undefined, Num}
@@ -9,7 +9,7 @@ use Rattle.rip_values.specs.Pool.{Texts}
 use Rattle.rip_heap.specs.Arrays.{elements_at, last_of, popped, push_items, new_array}
 use Rattle.rip_heap.specs.Conversions.{strictly_equal}
 use Rattle.rip_heap.specs.Outcome.{Outcome, Gives, Faults, Exceeds}
-use Rattle.rip_heap.specs.World.{World, as_array, object_at, charging}
+use Rattle.rip_heap.specs.World.{World}
 use Rattle.rip_builtins.specs.Arguments.{argument, integer_in, then_gives, value_or_fault, object_or_limit}
 use Rattle.rip_builtins.specs.Texts.{end_in}
 

@@ -1,11 +1,10 @@
 -- `join` (ECMA-262 15.4.4.5).
-use Rattle.std.specs.Prelude.{ℕ, true, false, List, [], ◌∷◌, ◌++◌, Option, None, Some, Result, Ok, Err, map, codes, ◌+◌, length, nat_le, if◌then◌else◌}
+use Rattle.std.specs.Prelude.{ℕ, List, [], ◌∷◌, ◌++◌, Result, Ok, Err, map, codes, ◌+◌, length, nat_le, if◌then◌else◌}
 use Rattle.std.specs.List.{flat_map}
 use Rattle.std.specs.Fmt.{signed_decimal}
 use Rattle.rip_values.specs.declared.value.Span.{Span}
 use Rattle.rip_values.specs.declared.value.Value.{Value}
 use Rattle.rip_values.specs.declared.value.Value.TheVariants.{Undefined, Null, Bool as Boolean, Num, NaN, Text, Object}
-use Rattle.rip_values.specs.declared.fixed.FixedText.TheVariants.{Undefined as UndefinedText, Null as NullText, True as TrueText, False as FalseText, NaN as NaNText}
 use Rattle.rip_values.specs.Pool.{Texts}
 use Rattle.rip_values.specs.declared.value.Fault.TheVariants.{ObjectToPrimitive, TextTooLong}
 use Rattle.rip_values.specs.declared.value.Limit.TheVariants.{Units}
@@ -87,10 +86,6 @@ separator_in w v = text_in w v
 abbrev pub joined_by : List ℕ → List (List ℕ) → List ℕ
 joined_by separator [] = []
 joined_by separator (text ∷ rest) = text ++ flat_map (λ other. separator ++ other) rest
-
--- the text, or none where it is longer than so many units
-abbrev pub text_within : ℕ → List ℕ → Option (List ℕ)
-text_within most text = if nat_le (length text) most then Some text else None
 
 -- THE CALL
 

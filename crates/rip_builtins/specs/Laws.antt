@@ -1,7 +1,7 @@
 -- Laws of the built-in functions, in words that their definitions do not use.
 use Rattle.std.specs.Prelude.{ℕ, ◌<◌, List, Option, None, Some}
-use Rattle.rip_builtins.specs.Borders.{StandsAt}
-use Rattle.rip_builtins.specs.Search.{first_place}
+use Rattle.rip_heap.specs.Borders.{StandsAt}
+use Rattle.rip_heap.specs.Search.{first_place}
 
 -- the pattern stands at that place of the text and at no lesser one; where there is no such place it stands nowhere
 abbrev pub IsFirstPlace : List ℕ → List ℕ → Option ℕ → Type 0

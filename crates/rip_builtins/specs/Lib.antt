@@ -1,6 +1,5 @@
 pub mod Arguments
 pub mod Arrays
-pub mod Borders
 pub mod Builtins
 pub mod Errors
 pub mod Globals
@@ -9,6 +8,7 @@ pub mod Laws
 pub mod Numbers
 pub mod OwnProperties
 pub mod ParseInt
+pub mod Pieces
 pub mod Receivers
 pub mod Search
 pub mod Texts

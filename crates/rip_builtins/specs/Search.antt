@@ -1,27 +1,18 @@
 -- A text in a text (ECMA-262 15.5.4.7).
-use Rattle.std.specs.Prelude.{ℕ, ℤ, suc, List, [], ◌∷◌, length, drop, ◌+◌, Option, None, Some, Result, nat_eq, option_map, if◌then◌else◌}
-use Rattle.std.specs.List.{starts_with}
+use Rattle.std.specs.Prelude.{ℕ, ℤ, List, length, Result}
 use Rattle.rip_values.specs.declared.value.Span.{Span}
 use Rattle.rip_values.specs.declared.value.Value.{Value}
 use Rattle.rip_values.specs.declared.value.Fault.{Fault}
 use Rattle.rip_values.specs.Pool.{Texts, text_at}
 use Rattle.rip_heap.specs.Conversions.{text_of_value}
 use Rattle.rip_heap.specs.Outcome.{Outcome, after_text}
+use Rattle.rip_heap.specs.Search.{first_place_from}
 use Rattle.rip_heap.specs.World.{World}
 use Rattle.rip_builtins.specs.Arguments.{argument, integer_in, then_gives, value_or_fault}
 use Rattle.rip_builtins.specs.Arrays.{place_or_none}
 use Rattle.rip_builtins.specs.Texts.{clamped}
 
--- the first place of the text at which the pattern stands
-abbrev pub first_place : List ℕ → List ℕ → Option ℕ
-first_place pattern [] = if starts_with nat_eq [] pattern then Some 0 else None
-first_place pattern (unit ∷ text) = if starts_with nat_eq (unit ∷ text) pattern then Some 0 else option_map suc (first_place pattern text)
-
--- the same from a place on
-abbrev pub first_place_from : List ℕ → List ℕ → ℕ → Option ℕ
-first_place_from pattern text from = option_map (λ place. from + place) (first_place pattern (drop from text))
-
--- the same from an integer on
+-- the first place at which the pattern stands, from an integer on
 abbrev pub place_of_text : List ℕ → List ℕ → ℤ → Value
 place_of_text text pattern from = place_or_none (first_place_from pattern text (clamped (length text) from))
 

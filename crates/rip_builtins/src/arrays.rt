@@ -1,22 +1,21 @@
-ghost use Rattle.std.specs.Prelude.{◌≡◌, ◌+◌, ◌^◌, ◌<◌, ◌≤◌, IfOk, OnOk, length, nat_le, true, Ok, false, slice_get, slice_range};
+ghost use Rattle.std.specs.Prelude.{◌≡◌, ◌≤◌, false, slice_get};
 ghost use Rattle.std.specs.Option.{option_map_or};
 ghost use Rattle.rip_values.specs.declared.value.Value.{Value};
 ghost use Rattle.rip_heap.specs.Conversions.{strictly_equal};
-ghost use Rattle.rip_heap.specs.Arrays.{elements_at, new_array};
+ghost use Rattle.rip_heap.specs.Arrays.{elements_at};
 ghost use Rattle.rip_heap.specs.Growth.{Grows};
-ghost use Rattle.rip_heap.specs.Outcome.{Answers, AnswersOrLacks};
-ghost use Rattle.rip_builtins.specs.Arguments.{value_or_fault, object_or_limit};
-ghost use Rattle.rip_builtins.specs.Arrays.{push, pop, slice, slice_between, index_of, index_in, place_from_end, place_or_none, place_of_value, first_equal};
+ghost use Rattle.rip_heap.specs.Outcome.{Answers};
+ghost use Rattle.rip_builtins.specs.Arrays.{push, pop, slice, slice_between, index_of, place_from_end, place_or_none, place_of_value, first_equal};
 
 use crate::arguments::{argument, integer_of};
 use crate::texts::end_of;
 use rip_heap::{Abrupt, Heap, strictly_equal};
-use rip_values::{NoMemory, Value, Whole};
+use rip_values::{Value, Whole};
 use std::alloc::Global;
 
 // `push` (ECMA-262 15.4.4.7).
 pub fn push(alloc: Global, heap: &mut Heap, array: u32, args: &[Value]) -> Result<Value, Abrupt>
-    ensures answers { AnswersOrLacks (push heap.old array args.now) heap.old result heap.new }
+    ensures answers { Answers (push heap.old array args.now) heap.old result heap.new }
     ensures grows { Grows heap.old heap.new }
 {
     heap.push_items(alloc, array, args)?;
@@ -33,7 +32,7 @@ pub fn pop(heap: &mut Heap, array: u32) -> Result<Value, Abrupt>
 
 // `slice` (ECMA-262 15.4.4.10).
 pub fn slice(alloc: Global, heap: &mut Heap, array: u32, args: &[Value]) -> Result<Value, Abrupt>
-    ensures answers { AnswersOrLacks (slice heap.old array args.now) heap.old result heap.new }
+    ensures answers { Answers (slice heap.old array args.now) heap.old result heap.new }
     ensures grows { Grows heap.old heap.new }
 {
     let a = integer_of(heap, argument(args, 0))?;
@@ -49,7 +48,8 @@ fn slice_between(
     a: i64,
     b: i64,
 ) -> Result<Value, Abrupt>
-    ensures answers { AnswersOrLacks (slice_between heap.old (elements_at heap.old array) a b) heap.old result heap.new }
+    ensures answers { Answers (slice_between heap.old (elements_at heap.old array) a b)
+        heap.old result heap.new }
     ensures grows { Grows heap.old heap.new }
 {
     let count = heap.count(array);
@@ -69,24 +69,6 @@ fn place_from_end(count: u32, place: i64) -> u32
     } else {
         (i64::from(count) + place.max(-i64::from(count))) as u32
     }
-}
-
-// The elements of the array from one place up to another.
-pub fn elements(
-    alloc: Global,
-    heap: &Heap,
-    array: u32,
-    from: u32,
-    to: u32,
-) -> Result<Vec<Value>, NoMemory>
-    requires { to ≤ length (elements_at heap.now array) }
-    ensures { IfOk result (λ items. items.items ≡ slice_range (elements_at heap.now array) from to) }
-{
-    let mut items = Vec::new(alloc);
-    for place in from..to {
-        items.push(heap.item(array, place).unwrap_or(Value::Undefined))?;
-    }
-    Ok(items)
 }
 
 // `indexOf` (ECMA-262 15.4.4.14).
@@ -138,7 +120,8 @@ fn first_equal(heap: &Heap, array: u32, v: Value, from: u32) -> Option<u32>
 
 // Whether the value stands at this place.
 fn is_equal_at(heap: &Heap, array: u32, v: &Value, place: u32) -> bool
-    ensures { result ≡ option_map_or (strictly_equal heap.now.pool v.now) (slice_get (elements_at heap.now array) place) false }
+    ensures { result ≡ option_map_or (strictly_equal heap.now.pool v.now)
+        (slice_get (elements_at heap.now array) place) false }
 {
     match heap.item(array, place) {
         Some(item) => strictly_equal(heap, *v, item),

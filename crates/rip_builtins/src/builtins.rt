@@ -1,6 +1,6 @@
 ghost use Rattle.std.specs.Prelude.{◌≡◌};
 ghost use Rattle.rip_heap.specs.Growth.{Grows};
-ghost use Rattle.rip_heap.specs.Outcome.{AnswersOrLacks};
+ghost use Rattle.rip_heap.specs.Outcome.{Answers};
 ghost use Rattle.rip_builtins.specs.Builtins.{builtin, array_function, text_function};
 ghost use Rattle.rip_builtins.specs.Receivers.{array_of, text_of, on};
 
@@ -48,7 +48,8 @@ pub fn builtin(
     this: Value,
     args: &[Value],
 ) -> Result<Value, Abrupt>
-    ensures answers { AnswersOrLacks (builtin heap.old which this args.now) heap.old result heap.new }
+    ensures answers { Answers (builtin heap.old which this args.now) heap.old result
+        heap.new }
     ensures grows { Grows heap.old heap.new }
 {
     match which {
@@ -85,7 +86,9 @@ fn on_array(
     this: Value,
     args: &[Value],
 ) -> Result<Value, Abrupt>
-    ensures answers { AnswersOrLacks (on (array_of heap.old this) (λ array. array_function function heap.old array args.now)) heap.old result heap.new }
+    ensures answers { Answers
+        (on (array_of heap.old this) (λ array. array_function function heap.old array args.now))
+        heap.old result heap.new }
     ensures grows { Grows heap.old heap.new }
 {
     match array_of(heap, this) {
@@ -108,7 +111,9 @@ fn on_text(
     this: Value,
     args: &[Value],
 ) -> Result<Value, Abrupt>
-    ensures answers { AnswersOrLacks (on (text_of this) (λ text. text_function function heap.old text args.now)) heap.old result heap.new }
+    ensures answers { Answers
+        (on (text_of this) (λ text. text_function function heap.old text args.now)) heap.old result
+        heap.new }
     ensures grows { Grows heap.old heap.new }
 {
     match text_of(this) {

@@ -1,5 +1,5 @@
 ghost use Rattle.rip_heap.specs.Growth.{Grows};
-ghost use Rattle.rip_heap.specs.Outcome.{AnswersOrLacks};
+ghost use Rattle.rip_heap.specs.Outcome.{Answers};
 ghost use Rattle.rip_builtins.specs.Errors.{error_call};
 ghost use Rattle.rip_heap.specs.Objects.{new_of};
 ghost use Rattle.rip_builtins.specs.Arguments.{object_or_limit};
@@ -11,7 +11,7 @@ use std::alloc::Global;
 
 // `Error`, `TypeError` and `RangeError` (ECMA-262 15.11.1.1).
 pub fn error(alloc: Global, heap: &mut Heap, class: Class, args: &[Value]) -> Result<Value, Abrupt>
-    ensures answers { AnswersOrLacks (error_call class heap.old args.now) heap.old result heap.new }
+    ensures answers { Answers (error_call class heap.old args.now) heap.old result heap.new }
     ensures grows { Grows heap.old heap.new }
 {
     match argument(args, 0) {
@@ -21,7 +21,8 @@ pub fn error(alloc: Global, heap: &mut Heap, class: Class, args: &[Value]) -> Re
 }
 
 fn bare_error(alloc: Global, heap: &mut Heap, class: Class) -> Result<Value, Abrupt>
-    ensures answers { AnswersOrLacks (object_or_limit (new_of heap.old class)) heap.old result heap.new }
+    ensures answers { Answers (object_or_limit (new_of heap.old class)) heap.old result
+        heap.new }
     ensures grows { Grows heap.old heap.new }
 {
     let error = heap.new_of(alloc, class)?;

@@ -2,8 +2,8 @@
 //!
 //! [`builtin`] answers a call of one of them on a value with some arguments. Contracts see an outcome over worlds: a
 //! value with the world after it, a TypeError to be thrown, a fault of the profile, or a limit that would be passed.
-//! Each answer comes exactly where the outcome is that one (`Outcome.AnswersOrLacks` of the heap's crate); where it is
-//! no value the heap is as before, what was charged on the way included, and so it is at want of memory.
+//! Each answer comes exactly where the outcome is that one (`Outcome.Answers` of the heap's crate); where it is no
+//! value the heap is as before, what was charged on the way included. No call takes memory, so that none wants it.
 //!
 //! Arguments that are absent are undefined. They are converted in the order of the standard, and the receiver of a
 //! function of arrays or texts is judged before them. Numbers are whole numbers of at most 2^53 - 1, or NaN. Texts are
@@ -18,9 +18,9 @@
 //! | `parseInt` | `ParseInt.parse_int`; `ParseInt.integer_at_start` of a text |
 //! | `Error` `TypeError` `RangeError` | `Errors.error_call` |
 //! | `push` `pop` `slice` `indexOf` of arrays | `Arrays` |
-//! | `join` | `Joining.join`; `Joining.joined_by` of texts |
+//! | `join` | `Joining.join`; `Joining.joined_by` of texts; how these are found is private, by `Pieces` |
 //! | `charAt` `charCodeAt` `substring` | `Texts` |
-//! | `indexOf` of texts | `Search.text_index_of`; `Laws.FindsFirstPlaces`, the law of [`texts_are_found_first`] |
+//! | `indexOf` of texts | `Search.text_index_of`, by `Search.first_place` of the heap's crate; `Laws.FindsFirstPlaces`, the law of [`texts_are_found_first`] |
 //! | `hasOwnProperty` | `OwnProperties.has_own_property` |
 //!
 //! What is no function of this table is outside the profile here: the objects `Math` and `ripley`, `call` of script
@@ -42,8 +42,8 @@ mod numerals;
 mod outcome;
 mod own_properties;
 mod parse_int;
+mod pieces;
 mod receivers;
-mod search;
 mod text_search;
 mod texts;
 

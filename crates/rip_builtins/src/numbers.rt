@@ -67,7 +67,8 @@ fn extreme_from(
     first: Numeral,
     rest: &[Value],
 ) -> Result<Numeral, Fault>
-    ensures { result ≡ then_tries (numbers_of heap.now.pool rest.now) (λ numbers. extreme_of extreme (first ∷ numbers)) }
+    ensures { result ≡ then_tries (numbers_of heap.now.pool rest.now)
+        (λ numbers. extreme_of extreme (first ∷ numbers)) }
 {
     let mut best = first;
     for v in rest {

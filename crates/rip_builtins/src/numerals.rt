@@ -15,7 +15,9 @@ pub fn behind_numeral(
     number: Whole,
     answer: Result<Value, Fault>,
 ) -> Result<Value, Abrupt>
-    ensures answers { Answers (after_text (text_of_value heap.old (Num number)) (λ text w. value_or_fault w answer)) heap.old result heap.new }
+    ensures answers { Answers
+        (after_text (text_of_value heap.old (Num number)) (λ text w. value_or_fault w answer))
+        heap.old result heap.new }
     ensures grows { Grows heap.old heap.new }
 {
     match answer {

@@ -33,7 +33,10 @@ pub fn parse_int(alloc: Global, heap: &mut Heap, args: &[Value]) -> Result<Value
 }
 
 fn parsed(alloc: Global, heap: &mut Heap, text: Value, radix: Value) -> Result<Value, Abrupt>
-    ensures answers { Answers (after_text (text_of_value heap.old text) (λ span v. value_or_fault v (value_by_radix heap.old.pool radix (text_at v.pool span)))) heap.old result heap.new }
+    ensures answers { Answers
+        (after_text (text_of_value heap.old text)
+        (λ span v. value_or_fault v (value_by_radix heap.old.pool radix (text_at v.pool span))))
+        heap.old result heap.new }
     ensures grows { Grows heap.old heap.new }
 {
     match text {
@@ -52,7 +55,10 @@ fn parsed_numeral(
     number: Whole,
     radix: Value,
 ) -> Result<Value, Abrupt>
-    ensures answers { Answers (after_text (text_of_value heap.old (Num number)) (λ span v. value_or_fault v (value_by_radix heap.old.pool radix (text_at v.pool span)))) heap.old result heap.new }
+    ensures answers { Answers
+        (after_text (text_of_value heap.old (Num number))
+        (λ span v. value_or_fault v (value_by_radix heap.old.pool radix (text_at v.pool span))))
+        heap.old result heap.new }
     ensures grows { Grows heap.old heap.new }
 {
     let mut room = [0; 17];

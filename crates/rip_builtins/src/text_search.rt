@@ -1,25 +1,25 @@
-ghost use Rattle.std.specs.Prelude.{◌≡◌, ◌<◌, ◌≤◌, ◌^◌, length, IfOk};
+ghost use Rattle.std.specs.Prelude.{◌≡◌, length};
 ghost use Rattle.rip_values.specs.Pool.{text_at};
 ghost use Rattle.rip_values.specs.declared.value.Value.TheVariants.{Num};
 ghost use Rattle.rip_heap.specs.Conversions.{text_of_value};
 ghost use Rattle.rip_heap.specs.Growth.{Grows};
-ghost use Rattle.rip_heap.specs.Outcome.{AnswersOrLacks, after_text};
-ghost use Rattle.rip_builtins.specs.Arguments.{value_or_fault};
-ghost use Rattle.rip_builtins.specs.Search.{text_index_of, place_in_text, place_of_text, first_place_from};
+ghost use Rattle.rip_heap.specs.Outcome.{Answers, after_text};
+ghost use Rattle.rip_builtins.specs.Arguments.{integer_in, then_gives, value_or_fault};
+ghost use Rattle.rip_builtins.specs.Search.{text_index_of, place_in_text, place_of_text};
+ghost use Rattle.rip_builtins.specs.Texts.{clamped};
 
 use crate::arguments::{argument, integer_of};
 use crate::arrays::place_or_none;
 use crate::numerals::behind_numeral;
 use crate::outcome::value_done;
-use crate::search::first_place;
 use crate::texts::clamped;
 use rip_heap::{Abrupt, Heap, to_text};
-use rip_values::{Fault, NoMemory, Span, Value, Whole, text_of_whole};
+use rip_values::{Fault, Span, Value, Whole, text_of_whole};
 use std::alloc::Global;
 
 // `indexOf` of texts (ECMA-262 15.5.4.7).
 pub fn place_of(alloc: Global, heap: &mut Heap, text: Span, args: &[Value]) -> Result<Value, Abrupt>
-    ensures answers { AnswersOrLacks (text_index_of heap.old text args.now) heap.old result heap.new }
+    ensures answers { Answers (text_index_of heap.old text args.now) heap.old result heap.new }
     ensures grows { Grows heap.old heap.new }
 {
     place_of_value(alloc, heap, text, argument(args, 0), argument(args, 1))
@@ -32,14 +32,17 @@ fn place_of_value(
     pattern: Value,
     from: Value,
 ) -> Result<Value, Abrupt>
-    ensures answers { AnswersOrLacks (after_text (text_of_value heap.old pattern) (λ span v. value_or_fault v (place_in_text heap.old.pool text from (text_at v.pool span)))) heap.old result heap.new }
+    ensures answers { Answers
+        (after_text (text_of_value heap.old pattern)
+        (λ span v. value_or_fault v (place_in_text heap.old.pool text from (text_at v.pool span))))
+        heap.old result heap.new }
     ensures grows { Grows heap.old heap.new }
 {
     match pattern {
         Value::Num(number) => place_of_numeral(alloc, heap, text, number, from),
         _ => {
             let span = to_text(alloc, heap, pattern)?;
-            let answer = place_in(alloc, heap, text, from, heap.pool().get(span))?;
+            let answer = place_of_text(heap, text, span, from);
             value_done(heap, answer)
         }
     }
@@ -53,51 +56,42 @@ fn place_of_numeral(
     number: Whole,
     from: Value,
 ) -> Result<Value, Abrupt>
-    ensures answers { AnswersOrLacks (after_text (text_of_value heap.old (Num number)) (λ span v. value_or_fault v (place_in_text heap.old.pool text from (text_at v.pool span)))) heap.old result heap.new }
+    ensures answers { Answers
+        (after_text (text_of_value heap.old (Num number))
+        (λ span v. value_or_fault v (place_in_text heap.old.pool text from (text_at v.pool span))))
+        heap.old result heap.new }
     ensures grows { Grows heap.old heap.new }
 {
     let mut room = [0; 17];
     let count = text_of_whole(number, &mut room);
-    let answer = place_in(alloc, heap, text, from, &room[..count])?;
+    let answer = place_of_units(heap, text, &room[..count], from);
     behind_numeral(alloc, heap, number, answer)
 }
 
-fn place_in(
-    alloc: Global,
-    heap: &Heap,
-    text: Span,
-    from: Value,
-    pattern: &[u16],
-) -> Result<Result<Value, Fault>, NoMemory>
-    ensures { IfOk result (λ answer. answer ≡ place_in_text heap.now.pool text from pattern.now) }
+// Where the pattern, a text of the heap, stands in the text from a value on.
+fn place_of_text(heap: &mut Heap, text: Span, pattern: Span, from: Value) -> Result<Value, Fault>
+    ensures answer { result
+        ≡ place_in_text heap.old.pool text from (text_at heap.old.pool pattern) }
+    ensures same { heap.new ≡ heap.old }
 {
-    match integer_of(heap, from) {
-        Ok(place) => Ok(Ok(place_of_text(alloc, heap.pool().get(text), pattern, place)?)),
-        Err(fault) => Ok(Err(fault)),
-    }
+    let start = start_in(heap, text, from)?;
+    Ok(place_or_none(heap.place_of_text(text, start, pattern)))
 }
 
-// Where the pattern stands in the text from an integer on.
-fn place_of_text(alloc: Global, text: &[u16], pattern: &[u16], from: i64) -> Result<Value, NoMemory>
-    requires { length text.now < 2 ^ 32 }
-    ensures { IfOk result (λ place. place ≡ place_of_text text.now pattern.now from) }
+// The same of units that are no text of the heap.
+fn place_of_units(heap: &mut Heap, text: Span, pattern: &[u16], from: Value) -> Result<Value, Fault>
+    ensures answer { result ≡ place_in_text heap.old.pool text from pattern.now }
+    ensures same { heap.new ≡ heap.old }
 {
-    let start = clamped(text.len(), from);
-    Ok(place_or_none(first_place_from(alloc, text, pattern, start)?))
+    let start = start_in(heap, text, from)?;
+    Ok(place_or_none(heap.place_in_text(text, start, pattern)))
 }
 
-fn first_place_from(
-    alloc: Global,
-    text: &[u16],
-    pattern: &[u16],
-    from: usize,
-) -> Result<Option<u32>, NoMemory>
-    requires bound { length text.now < 2 ^ 32 }
-    requires within { from ≤ length text.now }
-    ensures { IfOk result (λ place. place ≡ first_place_from pattern.now text.now from) }
+// The place in the text that the search begins at, by the integer of a value.
+fn start_in(heap: &Heap, text: Span, from: Value) -> Result<u32, Fault>
+    ensures { result ≡ then_gives (integer_in heap.now.pool from)
+        (clamped (length (text_at heap.now.pool text))) }
 {
-    match first_place(alloc, &text[from..], pattern)? {
-        Some(place) => Ok(Some((from + place) as u32)),
-        None => Ok(None),
-    }
+    let place = integer_of(heap, from)?;
+    Ok(clamped(heap.pool().get(text).len(), place) as u32)
 }

@@ -61,7 +61,8 @@ pub fn char_code_at(heap: &Heap, text: Span, args: &[Value]) -> Result<Value, Ab
 
 // The unit at this place as a number, or NaN.
 fn number_or_nan(units: &[u16], place: i64) -> Value
-    ensures { result ≡ number_or_nan (option_and_then (slice_get units.now) (place_within (length units.now) place)) }
+    ensures { result ≡ number_or_nan
+        (option_and_then (slice_get units.now) (place_within (length units.now) place)) }
 {
     match place_within(units.len(), place) {
         Some(place) => u32::from(units[place]).into(),
@@ -103,7 +104,8 @@ pub fn clamped(count: usize, place: i64) -> usize
 
 // The part of the text between two places, the lesser first.
 fn piece_between(pool: &Pool, text: Span, a: i64, b: i64) -> Span
-    ensures { result ≡ piece_between text (clamped (length (text_at pool.now text)) a) (clamped (length (text_at pool.now text)) b) }
+    ensures { result ≡ piece_between text (clamped (length (text_at pool.now text)) a)
+        (clamped (length (text_at pool.now text)) b) }
 {
     let count = pool.get(text).len();
     let first = clamped(count, a);

@@ -1,7 +1,0 @@
-use Rattle.std.proofs.Common.{ℕ, ◌+◌, ◌<◌, ◌≤◌, length, take}
-use Rattle.rip_builtins.specs.Borders.{IsLongest, StandsAt}
-use Rattle.rip_builtins.proofs.search.place_by.Given as goal
-
-abbrev pub invariant-loop-i : goal.invariant-loop-i
-invariant-loop-i l =
-    (l.matched < length l.pattern) × IsLongest l.pattern (take l.i l.text) l.matched × ((place : ℕ) → place + length l.pattern ≤ l.i → ¬ (StandsAt l.pattern l.text place))

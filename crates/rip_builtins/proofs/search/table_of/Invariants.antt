@@ -1,7 +1,0 @@
-use Rattle.std.proofs.Common.{◌≡◌, ◌+◌, length, take, drop}
-use Rattle.rip_builtins.specs.Borders.{IsLongest, IsTable}
-use Rattle.rip_builtins.proofs.search.table_of.Given as goal
-
-abbrev pub invariant-loop-unit : goal.invariant-loop-unit
-invariant-loop-unit l =
-    (length l.table.items ≡ l.unit-index + 1) × IsTable l.pattern l.table.items × IsLongest l.pattern (take l.unit-index (drop 1 l.pattern)) l.matched
