@@ -1,11 +1,9 @@
 pub mod Adding
 pub mod Calling
 pub mod Chars
-pub mod ExtendLemmas
 pub mod Judged
 pub mod Judging
 pub mod Lines
-pub mod Making
 pub mod Placing
 pub mod Searching
 pub mod Telling

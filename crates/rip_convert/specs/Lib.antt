@@ -1,5 +1,4 @@
 pub mod Arguments
-pub mod Extending
 pub mod Pieces
 pub mod Told
 pub mod Values

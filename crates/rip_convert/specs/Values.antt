@@ -68,7 +68,7 @@ abbrev mutual
   fields_in n (field name t fs) w = made_value t w >>= (λ v x. field_put n name v x >>= (λ _ y. fields_in n fs y))
 
 -- what an answer says of the steps that a call stands for, and of the world after it: at a limit that of the steps that
--- were done. At want of memory nothing is said
+-- were done. Of want of memory nothing is said, since no call that makes a value answers it
 abbrev pub Does : {A : Type 0} → Made A → Result A Refused → World → Type 0
 Does steps (Ok made) new = steps ≡ (Ok made, new)
 Does steps (Err (At limit)) new = steps ≡ (Err limit, new)

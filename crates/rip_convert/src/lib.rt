@@ -6,7 +6,7 @@
 //!
 //! | what | its definition in `specs/` |
 //! |---|---|
-//! | [`value_of_datum`] | `Values.made_value`, the steps in the order of their charges; `Values.Does` says what an answer means; want of memory takes all back |
+//! | [`value_of_datum`] | `Values.made_value`, the steps in the order of their charges; `Values.Does` says what an answer means; want of memory is no answer |
 //! | [`CallRow::write_call`] | `Arguments.call_text`: the walk `Arguments.walked` over the arguments, left to right, and at last their length; `Told.IsCallOf` that they are the text of a datum that is well made |
 //! | [`calls_are_told`] | `Told.CallsAreTold` and `Told.ListsAreTold`: so is each text that `Arguments.call_text` comes to, whatever the heap |
 //!

@@ -52,7 +52,8 @@ impl CallRow {
         requires { length (quoted (utf8_of (text_at heap.now.pool name))) ≤ 73 }
         ensures text { MatchResult result (λ text. call_text heap.now name args ≡ Ok text.now)
             (λ fault. call_text heap.now name args ≡ Err fault) }
-        ensures told { IfOk result (λ text. IsCallOf (utf8_of (text_at heap.now.pool name)) text.now) }
+        ensures told { IfOk result
+            (λ text. IsCallOf (utf8_of (text_at heap.now.pool name)) text.now) }
         ensures line { IfOk result (λ text. All (λ byte. byte ≢ 10) text.now) }
         ensures least { IfOk result (λ text. 6 ≤ length text.now) }
     {

@@ -1,8 +1,7 @@
-ghost use Rattle.std.specs.Prelude.{◌≡◌, Err};
 ghost use Rattle.rip_data.specs.Datum.{tree_of};
 ghost use Rattle.rip_heap.specs.Arrays.{push_item};
 ghost use Rattle.rip_heap.specs.Growth.{Grows};
-ghost use Rattle.rip_convert.specs.Extending.{ExtendsBelow, StillExtends};
+ghost use Rattle.rip_heap.specs.Step.{TakesNoMemory};
 ghost use Rattle.rip_convert.specs.Values.{changing, made_value, field_put, Does};
 ghost use Rattle.rip_convert.specs.Pieces.{elements_made, fields_made};
 
@@ -11,30 +10,13 @@ use rip_heap::Heap;
 use rip_values::{Limit, Refused, Units, Value};
 use std::alloc::Global;
 
-/// The value of a datum, in a heap. Where memory is wanting, the heap is as before.
+/// The value of a datum, in a heap. It calls itself once for each level of nesting, and for each field the heap looks
+/// through those of its object.
+#[cycle(values)]
 pub fn value_of_datum(alloc: Global, heap: &mut Heap, datum: &Datum) -> Result<Value, Refused>
     ensures made { Does (made_value (tree_of datum.now) heap.old) result heap.new }
-    ensures memory { result ≡ Err Refused.Memory → heap.new ≡ heap.old }
+    ensures room { TakesNoMemory result }
     ensures grows { Grows heap.old heap.new }
-{
-    let mark = heap.mark();
-    match make_value(alloc, heap, datum) {
-        Ok(value) => Ok(value),
-        Err(Refused::Limit(limit)) => Err(Refused::Limit(limit)),
-        Err(Refused::Memory) => {
-            heap.cut_back(mark);
-            Err(Refused::Memory)
-        }
-    }
-}
-
-// The value of a datum. It calls itself once for each level of nesting, and for each field the heap looks through those of
-// its object.
-#[cycle(values)]
-fn make_value(alloc: Global, heap: &mut Heap, datum: &Datum) -> Result<Value, Refused>
-    ensures made { Does (made_value (tree_of datum.now) heap.old) result heap.new }
-    ensures grows { Grows heap.old heap.new }
-    ensures extends { StillExtends heap.old heap.new }
 {
     match datum {
         Datum::Null => Ok(Value::Null),
@@ -62,11 +44,11 @@ fn push_elements(
     items: &Vec<Datum>,
 ) -> Result<(), Refused>
     ensures made { Does (elements_made array items.now.items heap.old) result heap.new }
+    ensures room { TakesNoMemory result }
     ensures grows { Grows heap.old heap.new }
-    ensures extends { ExtendsBelow array heap.old heap.new }
 {
     for item in items {
-        let value = make_value(alloc, heap, item)?;
+        let value = value_of_datum(alloc, heap, item)?;
         push_value(alloc, heap, array, value)?;
     }
     Ok(())
@@ -75,8 +57,8 @@ fn push_elements(
 // Puts a value behind the elements of an array.
 fn push_value(alloc: Global, heap: &mut Heap, array: u32, value: Value) -> Result<(), Refused>
     ensures made { Does (changing heap.old (push_item heap.old array value)) result heap.new }
+    ensures room { TakesNoMemory result }
     ensures grows { Grows heap.old heap.new }
-    ensures extends { ExtendsBelow array heap.old heap.new }
 {
     heap.push_item(alloc, array, value)
 }
@@ -89,11 +71,11 @@ fn put_fields(
     fields: &Vec<(Units, Datum)>,
 ) -> Result<(), Refused>
     ensures made { Does (fields_made object fields.now.items heap.old) result heap.new }
+    ensures room { TakesNoMemory result }
     ensures grows { Grows heap.old heap.new }
-    ensures extends { ExtendsBelow object heap.old heap.new }
 {
     for field in fields {
-        let value = make_value(alloc, heap, &field.1)?;
+        let value = value_of_datum(alloc, heap, &field.1)?;
         put_field(alloc, heap, object, &field.0, value)?;
     }
     Ok(())
@@ -108,8 +90,8 @@ fn put_field(
     value: Value,
 ) -> Result<(), Refused>
     ensures made { Does (field_put object name.now value heap.old) result heap.new }
+    ensures room { TakesNoMemory result }
     ensures grows { Grows heap.old heap.new }
-    ensures extends { ExtendsBelow object heap.old heap.new }
 {
     if heap.free_cells() == 0 {
         return Err(Refused::Limit(Limit::Cells));

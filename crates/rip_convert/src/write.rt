@@ -112,7 +112,8 @@ fn write_field(
     places: &mut Places,
     line: &mut Line,
 )
-    requires { length places.old + pieces levels heap.now (field_at heap.now object place).1 ≤ 16384 }
+    requires { length places.old + pieces levels heap.now (field_at heap.now object place).1
+        ≤ 16384 }
     ensures text { line.new ≡ added line.old (quoted (name_at heap.now object place)
         ++ 58 ∷ compact_text (value_data levels heap.now (field_at heap.now object place).1)) }
     ensures places { places.new ≡ places.old }

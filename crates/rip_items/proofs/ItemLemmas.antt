@@ -17,11 +17,10 @@ pub of_event : {F S E : Type 0} (rules : Rules F S) (batch : ℕ) (what : Item) 
 of_event rules batch what report number w x s r rest (Ok step) is h = ap (λ i. item_plan rules batch i number w s) is ∙ h what
 of_event rules batch what report number w x s r rest (Err e) is h = tt
 
-pub of_reply : {F S E : Type 0} (rules : Rules F S) (batch : ℕ) (what : Item) (call : ℕ) (number : ℕ) (w x : World) (s r : S) (rest : Item → World → S → Plan S) (result : Result Step E)
-    → what ≡ Reply call → IfOk result (λ step. (item : Item) → reply_plan number (rules.delivered s w batch call) w s ≡ ahead (rest item) step x r)
-    → IfOk result (λ step. item_plan rules batch what number w s ≡ ahead (rest what) step x r)
-of_reply rules batch what call number w x s r rest (Ok step) is h = ap (λ i. item_plan rules batch i number w s) is ∙ h what
-of_reply rules batch what call number w x s r rest (Err e) is h = tt
+pub of_reply : {F S : Type 0} (rules : Rules F S) (batch : ℕ) (what : Item) (call : ℕ) (number : ℕ) (w x : World) (s r : S) (rest : Item → World → S → Plan S) (step : Step)
+    → what ≡ Reply call → ((item : Item) → reply_plan number (rules.delivered s w batch call) w s ≡ ahead (rest item) step x r)
+    → item_plan rules batch what number w s ≡ ahead (rest what) step x r
+of_reply rules batch what call number w x s r rest step is h = ap (λ i. item_plan rules batch i number w s) is ∙ h what
 
 -- an item before its first step
 pub of_fresh : {F S E : Type 0} (rules : Rules F S) (batch later : ℕ) (flow then : F) (under_way there : UnderWay) (what : Item) (number : ℕ) (w x : World) (s r : S) (result : Result Step E)

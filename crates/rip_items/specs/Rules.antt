@@ -83,9 +83,8 @@ Reports rules r w s (Err (report.Limit limit)) w' s' f' =
     (item : ℕ) (next : World → _ → Plan _) → rules.event s w r item next ≡ Over (Stopped item (AtLimit limit)) w' s'
 Reports rules r w s (Err report.Memory) w' s' f' = (w' ≡ w) × (s' ≡ s)
 
--- a reply is answered and leaves what its delivery comes to; one that is not due, and want of memory, leave all as it was
+-- a reply is answered and leaves what its delivery comes to; one that is not due leaves all as it was
 abbrev pub Delivers : {S : Type 0} → Delivered S → World → S → Result Callback ReplyRefused → World → S → Type 0
 Delivers meant w s (Ok callback) w' s' = meant ≡ CallsBack callback.function callback.reply w' s'
 Delivers meant w s (Err reply.NotDue) w' s' = (meant ≡ NotDue) × (w' ≡ w) × (s' ≡ s)
 Delivers meant w s (Err (reply.Limit limit)) w' s' = meant ≡ ReplyPasses limit w' s'
-Delivers meant w s (Err reply.Memory) w' s' = (w' ≡ w) × (s' ≡ s)

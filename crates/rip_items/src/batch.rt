@@ -46,11 +46,15 @@ pub trait Items<H: Host, T> {
         requires { H.fits host.old heap.old }
         ensures fits { H.fits host.new heap.new }
         ensures grows { Grows heap.old heap.new }
-        ensures plan { IfOk result (λ step. under_way self.old item.now number heap.old host.old ≡ ahead (under_way self.new item.now number) step heap.new host.new) }
+        ensures plan { IfOk result
+            (λ step. under_way self.old item.now number heap.old host.old
+            ≡ ahead (under_way self.new item.now number) step heap.new host.new) }
         ensures fewer { IfOk result (λ step. IsFewer step (steps self.new) (steps self.old)) }
         ensures item_plan { item_plan self.new ≡ item_plan self.old }
         ensures most { most self.new ≡ most self.old }
-        ensures memory { OnErr result ((under_way self.new ≡ under_way self.old) × (steps self.new ≡ steps self.old) × (heap.new ≡ heap.old) × (host.new ≡ host.old)) };
+        ensures memory { OnErr result
+            ((under_way self.new ≡ under_way self.old) × (steps self.new ≡ steps self.old)
+            × (heap.new ≡ heap.old) × (host.new ≡ host.old)) };
 }
 
 /// Where a batch stands.
@@ -95,8 +99,15 @@ impl<I, T> Batch<I, T> {
     fn next_item<H: Host>(&mut self) -> Step
     where
         I: Items<H, T>,
-        ensures plan { (w : World) (s : H) → items_from (I.item_plan self.old.items) (self.old.begun + 1) (drop self.old.begun self.old.batch.items) w s ≡ ahead (left_of_batch (I.item_plan self.new.items) (I.under_way self.new.items) self.new.batch.items self.new.begun self.new.stage) result w s }
-        ensures fewer { IsFewer result (steps_of_batch (I.most self.new.items) (I.steps self.new.items) (length self.new.batch.items - self.new.begun) self.new.stage) (steps_of_batch (I.most self.old.items) 0 (length self.old.batch.items - self.old.begun) Stage.Between) }
+        ensures plan { (w : World) (s : H) → items_from (I.item_plan self.old.items)
+            (self.old.begun + 1) (drop self.old.begun self.old.batch.items) w s
+            ≡ ahead (left_of_batch (I.item_plan self.new.items) (I.under_way self.new.items)
+            self.new.batch.items self.new.begun self.new.stage) result w s }
+        ensures fewer { IsFewer result
+            (steps_of_batch (I.most self.new.items) (I.steps self.new.items)
+            (length self.new.batch.items - self.new.begun) self.new.stage)
+            (steps_of_batch (I.most self.old.items) 0 (length self.old.batch.items - self.old.begun)
+            Stage.Between) }
     {
         if (self.begun as usize) < self.batch.len() {
             self.begun += 1;
@@ -121,11 +132,20 @@ impl<I, T> Batch<I, T> {
         requires { H.fits host.old heap.old }
         ensures fits { H.fits host.new heap.new }
         ensures grows { Grows heap.old heap.new }
-        ensures batch { (self.new.batch ≡ self.old.batch) × (self.new.begun ≡ self.old.begun) × (self.new.stage ≡ self.old.stage) }
-        ensures items { (I.item_plan self.new.items ≡ I.item_plan self.old.items) × (I.most self.new.items ≡ I.most self.old.items) }
-        ensures plan { IfOk result (λ step. GoesOnWithin (I.under_way self.old.items) (I.under_way self.new.items) (slice_get self.old.batch.items (self.old.begun - 1)) self.old.begun heap.old host.old step heap.new host.new) }
-        ensures fewer { IfOk result (λ step. IsFewerWithin step (I.steps self.new.items) (I.steps self.old.items)) }
-        ensures memory { OnErr result ((I.under_way self.new.items ≡ I.under_way self.old.items) × (I.steps self.new.items ≡ I.steps self.old.items) × (heap.new ≡ heap.old) × (host.new ≡ host.old)) }
+        ensures batch { (self.new.batch ≡ self.old.batch) × (self.new.begun ≡ self.old.begun)
+            × (self.new.stage ≡ self.old.stage) }
+        ensures items { (I.item_plan self.new.items ≡ I.item_plan self.old.items)
+            × (I.most self.new.items ≡ I.most self.old.items) }
+        ensures plan { IfOk result
+            (λ step. GoesOnWithin (I.under_way self.old.items) (I.under_way self.new.items)
+            (slice_get self.old.batch.items (self.old.begun - 1)) self.old.begun heap.old host.old
+            step heap.new host.new) }
+        ensures fewer { IfOk result
+            (λ step. IsFewerWithin step (I.steps self.new.items) (I.steps self.old.items)) }
+        ensures memory { OnErr result
+            ((I.under_way self.new.items ≡ I.under_way self.old.items)
+            × (I.steps self.new.items ≡ I.steps self.old.items) × (heap.new ≡ heap.old)
+            × (host.new ≡ host.old)) }
     {
         match self.batch.get(self.begun.saturating_sub(1) as usize) {
             None => Ok(None),

@@ -43,8 +43,6 @@ pub struct Callback {
 pub enum ReplyRefused {
     NotDue,
     Limit(Limit),
-    /// All is as before.
-    Memory,
 }
 
 /// What stands behind the script of a page, as the items of a batch use it, where F is the type of a flow under way.
@@ -73,7 +71,8 @@ pub trait PageHost<F>: Host {
         requires { Self.fits self.old heap.old }
         ensures fits { Self.fits self.new heap.new }
         ensures grows { Grows heap.old heap.new }
-        ensures reports { Reports rules report.now heap.old self.old result heap.new self.new flow.new }
+        ensures reports { Reports rules report.now heap.old self.old result heap.new self.new
+            flow.new }
         ensures steps { OnOk result (flow_steps flow.new ≤ most_flow_steps) };
 
     /// What is to be called next in a flow; none where it is over, and then what follows it is done.
@@ -81,8 +80,11 @@ pub trait PageHost<F>: Host {
         requires { Self.fits self.old heap.old }
         ensures fits { Self.fits self.new heap.new }
         ensures grows { Grows heap.old heap.new }
-        ensures flow { (item : ℕ) (done : World → Self → Plan Self) → rules.flow flow.old item done heap.old self.old ≡ flow_ahead item (rules.flow flow.new item done) done result heap.new self.new }
-        ensures fewer { MatchOption result (flow_steps flow.new ≤ flow_steps flow.old) (λ _. flow_steps flow.new < flow_steps flow.old) };
+        ensures flow { (item : ℕ) (done : World → Self → Plan Self)
+            → rules.flow flow.old item done heap.old self.old
+            ≡ flow_ahead item (rules.flow flow.new item done) done result heap.new self.new }
+        ensures fewer { MatchOption result (flow_steps flow.new ≤ flow_steps flow.old)
+            (λ _. flow_steps flow.new < flow_steps flow.old) };
 
     /// Makes the value of a reply, and tells its callback.
     fn deliver(
@@ -94,7 +96,8 @@ pub trait PageHost<F>: Host {
         requires { Self.fits self.old heap.old }
         ensures fits { Self.fits self.new heap.new }
         ensures grows { Grows heap.old heap.new }
-        ensures delivers { Delivers (rules.delivered self.old heap.old batch number) heap.old self.old result heap.new self.new };
+        ensures delivers { Delivers (rules.delivered self.old heap.old batch number) heap.old
+            self.old result heap.new self.new };
 
     /// How a reported call stands to the calls that the script made.
     fn position_of(&self, number: u64, text: &[u8]) -> Position

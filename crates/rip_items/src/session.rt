@@ -84,10 +84,18 @@ impl<F> SessionItems<F> {
         requires fresh { self.old.under_way ≡ UnderWay.Fresh }
         ensures fits { H.fits host.new heap.new }
         ensures grows { Grows heap.old heap.new }
-        ensures plan { IfOk result (λ step. item_plan H.rules self.old.batch item.now number heap.old host.old ≡ ahead (left_of_item H.rules self.old.batch self.new.flow self.new.under_way item.now number) step heap.new host.new) }
+        ensures plan { IfOk result
+            (λ step. item_plan H.rules self.old.batch item.now number heap.old host.old
+            ≡ ahead (left_of_item H.rules self.old.batch self.new.flow self.new.under_way item.now
+            number) step heap.new host.new) }
         ensures batch { self.new.batch ≡ self.old.batch }
-        ensures fewer { IfOk result (λ step. IsFewer step (steps_of_item H.most_flow_steps (H.flow_steps self.new.flow) self.new.under_way) (H.most_flow_steps + 2)) }
-        ensures memory { OnErr result ((self.new.under_way ≡ UnderWay.Fresh) × (heap.new ≡ heap.old) × (host.new ≡ host.old)) }
+        ensures fewer { IfOk result
+            (λ step. IsFewer step
+            (steps_of_item H.most_flow_steps (H.flow_steps self.new.flow) self.new.under_way)
+            (H.most_flow_steps + 2)) }
+        ensures memory { OnErr result
+            ((self.new.under_way ≡ UnderWay.Fresh) × (heap.new ≡ heap.old)
+            × (host.new ≡ host.old)) }
     {
         match item {
             Item::Event(report) => self.event_step(report, number, heap, host),
@@ -95,7 +103,7 @@ impl<F> SessionItems<F> {
                 let position = host.position_of(*call, text.as_slice());
                 Ok(self.call_step(number, position))
             },
-            Item::Reply { number: call } => self.reply_step(*call, number, heap, host),
+            Item::Reply { number: call } => Ok(self.reply_step(*call, number, heap, host)),
         }
     }
 
@@ -111,10 +119,18 @@ impl<F> SessionItems<F> {
         requires fresh { self.old.under_way ≡ UnderWay.Fresh }
         ensures fits { H.fits host.new heap.new }
         ensures grows { Grows heap.old heap.new }
-        ensures plan { IfOk result (λ step. (item : Item) → H.rules.event host.old heap.old report.now number fine ≡ ahead (left_of_item H.rules self.old.batch self.new.flow self.new.under_way item number) step heap.new host.new) }
+        ensures plan { IfOk result
+            (λ step. (item : Item) → H.rules.event host.old heap.old report.now number fine
+            ≡ ahead (left_of_item H.rules self.old.batch self.new.flow self.new.under_way item
+            number) step heap.new host.new) }
         ensures batch { self.new.batch ≡ self.old.batch }
-        ensures fewer { IfOk result (λ step. IsFewer step (steps_of_item H.most_flow_steps (H.flow_steps self.new.flow) self.new.under_way) (H.most_flow_steps + 2)) }
-        ensures memory { OnErr result ((self.new.under_way ≡ UnderWay.Fresh) × (heap.new ≡ heap.old) × (host.new ≡ host.old)) }
+        ensures fewer { IfOk result
+            (λ step. IsFewer step
+            (steps_of_item H.most_flow_steps (H.flow_steps self.new.flow) self.new.under_way)
+            (H.most_flow_steps + 2)) }
+        ensures memory { OnErr result
+            ((self.new.under_way ≡ UnderWay.Fresh) × (heap.new ≡ heap.old)
+            × (host.new ≡ host.old)) }
     {
         match host.report(heap, report, &mut self.flow) {
             Ok(()) => {
@@ -133,9 +149,13 @@ impl<F> SessionItems<F> {
         requires flowing { self.old.under_way ≡ UnderWay.Flowing }
         ensures fits { H.fits host.new heap.new }
         ensures grows { Grows heap.old heap.new }
-        ensures plan { (item : Item) → H.rules.flow self.old.flow number fine heap.old host.old ≡ ahead (left_of_item H.rules self.old.batch self.new.flow self.new.under_way item number) result heap.new host.new }
+        ensures plan { (item : Item) → H.rules.flow self.old.flow number fine heap.old host.old
+            ≡ ahead (left_of_item H.rules self.old.batch self.new.flow self.new.under_way item
+            number) result heap.new host.new }
         ensures batch { self.new.batch ≡ self.old.batch }
-        ensures fewer { IsFewer result (steps_of_item H.most_flow_steps (H.flow_steps self.new.flow) self.new.under_way) (H.flow_steps self.old.flow + 1) }
+        ensures fewer { IsFewer result
+            (steps_of_item H.most_flow_steps (H.flow_steps self.new.flow) self.new.under_way)
+            (H.flow_steps self.old.flow + 1) }
     {
         match host.next_call(heap, &mut self.flow) {
             None => {
@@ -180,15 +200,19 @@ impl<F> SessionItems<F> {
         number: u32,
         heap: &mut Heap,
         host: &mut H,
-    ) -> Result<Step, NoMemory>
+    ) -> Step
         requires fits { H.fits host.old heap.old }
         requires fresh { self.old.under_way ≡ UnderWay.Fresh }
         ensures fits { H.fits host.new heap.new }
         ensures grows { Grows heap.old heap.new }
-        ensures plan { IfOk result (λ step. (item : Item) → reply_plan number (H.rules.delivered host.old heap.old self.old.batch call) heap.old host.old ≡ ahead (left_of_item H.rules self.old.batch self.new.flow self.new.under_way item number) step heap.new host.new) }
+        ensures plan { (item : Item)
+            → reply_plan number (H.rules.delivered host.old heap.old self.old.batch call) heap.old
+            host.old ≡ ahead (left_of_item H.rules self.old.batch self.new.flow self.new.under_way
+            item number) result heap.new host.new }
         ensures kept { (self.new.batch ≡ self.old.batch) × (self.new.flow ≡ self.old.flow) }
-        ensures fewer { IfOk result (λ step. IsFewer step (steps_of_item H.most_flow_steps (H.flow_steps self.new.flow) self.new.under_way) (H.most_flow_steps + 2)) }
-        ensures memory { OnErr result ((self.new.under_way ≡ UnderWay.Fresh) × (heap.new ≡ heap.old) × (host.new ≡ host.old)) }
+        ensures fewer { IsFewer result
+            (steps_of_item H.most_flow_steps (H.flow_steps self.new.flow) self.new.under_way)
+            (H.most_flow_steps + 2) }
     {
         match host.deliver(heap, self.batch, call) {
             Ok(callback) => {
@@ -198,14 +222,13 @@ impl<F> SessionItems<F> {
                     this: Value::Undefined,
                     argument: Some(callback.reply),
                 };
-                Ok(Step::Run {
+                Step::Run {
                     item: number,
                     opening,
-                })
+                }
             },
-            Err(ReplyRefused::NotDue) => Ok(refused(number, BadReport::Due)),
-            Err(ReplyRefused::Limit(limit)) => Ok(stopped(number, limit)),
-            Err(ReplyRefused::Memory) => Err(NoMemory),
+            Err(ReplyRefused::NotDue) => refused(number, BadReport::Due),
+            Err(ReplyRefused::Limit(limit)) => stopped(number, limit),
         }
     }
 }

@@ -109,7 +109,8 @@ pub(crate) fn report(
     requires { Fits browser.old heap.old }
     ensures fits { Fits browser.new heap.new }
     ensures grows { Grows heap.old heap.new }
-    ensures reports { Reported report.now heap.old browser.old result heap.new browser.new flow.new }
+    ensures reports { Reported report.now heap.old browser.old result heap.new browser.new
+        flow.new }
     ensures steps { OnOk result (steps_of flow.new ≤ most_steps) }
 {
     if let Err(kind) = legal(&browser.dom, &browser.forms, heap.pool(), report) {

@@ -54,7 +54,8 @@ impl Flow {
         requires body { body < first_node }
         ensures fits { Fits browser.new heap.new }
         ensures grows { Grows heap.old heap.new }
-        ensures plan { (item : ℕ) → BeginsLoad item body heap.old browser.old result heap.new browser.new self.new }
+        ensures plan { (item : ℕ) → BeginsLoad item body heap.old browser.old result heap.new
+            browser.new self.new }
         ensures steps { OnOk result (steps_of self.new ≤ most_steps) }
     {
         if browser.dom.limit() > self.nodes {

@@ -71,11 +71,17 @@ impl StartItems {
         requires stage { self.old.stage ≡ StartStage.Scripts }
         ensures fits { Fits browser.new heap.new }
         ensures grows { Grows heap.old heap.new }
-        ensures plan { IfOk result (λ step. left_of_scripts (Start.Loads scripts) self.old.begun number heap.old browser.old
-            ≡ ahead (left_of_opening self.new.stage self.new.begun self.new.flow (Start.Loads scripts) number) step heap.new browser.new) }
-        ensures fewer { IfOk result (λ step. IsFewer step (steps_of_opening self.new.stage self.new.begun self.new.flow)
+        ensures plan { IfOk result
+            (λ step. left_of_scripts (Start.Loads scripts) self.old.begun number heap.old
+            browser.old
+            ≡ ahead (left_of_opening self.new.stage self.new.begun self.new.flow
+            (Start.Loads scripts) number) step heap.new browser.new) }
+        ensures fewer { IfOk result
+            (λ step. IsFewer step (steps_of_opening self.new.stage self.new.begun self.new.flow)
             (steps_of_opening StartStage.Scripts self.old.begun self.old.flow)) }
-        ensures memory { OnErr result ((self.new.stage ≡ self.old.stage) × (self.new.begun ≡ self.old.begun) × (heap.new ≡ heap.old) × (browser.new ≡ browser.old)) }
+        ensures memory { OnErr result
+            ((self.new.stage ≡ self.old.stage) × (self.new.begun ≡ self.old.begun)
+            × (heap.new ≡ heap.old) × (browser.new ≡ browser.old)) }
     {
         if self.begun < scripts {
             self.begun += 1;
@@ -100,12 +106,17 @@ impl StartItems {
         requires stage { self.old.stage ≡ StartStage.Scripts }
         ensures fits { Fits browser.new heap.new }
         ensures grows { Grows heap.old heap.new }
-        ensures plan { IfOk result (λ step. (start : Start) → loading number fine heap.old browser.old
-            ≡ ahead (left_of_opening self.new.stage self.new.begun self.new.flow start number) step heap.new browser.new) }
+        ensures plan { IfOk result
+            (λ step. (start : Start) → loading number fine heap.old browser.old
+            ≡ ahead (left_of_opening self.new.stage self.new.begun self.new.flow start number) step
+            heap.new browser.new) }
         ensures begun { self.new.begun ≡ self.old.begun }
-        ensures fewer { IfOk result (λ step. IsFewer step (steps_of_opening self.new.stage self.new.begun self.new.flow)
+        ensures fewer { IfOk result
+            (λ step. IsFewer step (steps_of_opening self.new.stage self.new.begun self.new.flow)
             (steps_of_opening StartStage.Scripts self.old.begun self.old.flow)) }
-        ensures memory { OnErr result ((self.new.stage ≡ self.old.stage) × (heap.new ≡ heap.old) × (browser.new ≡ browser.old)) }
+        ensures memory { OnErr result
+            ((self.new.stage ≡ self.old.stage) × (heap.new ≡ heap.old)
+            × (browser.new ≡ browser.old)) }
     {
         let body = match browser.body {
             Some(body) => body,
@@ -134,9 +145,12 @@ impl StartItems {
         ensures fits { Fits browser.new heap.new }
         ensures grows { Grows heap.old heap.new }
         ensures plan { (start : Start) → left_of self.old.flow number fine heap.old browser.old
-            ≡ ahead (left_of_opening self.new.stage self.new.begun self.new.flow start number) result heap.new browser.new }
+            ≡ ahead (left_of_opening self.new.stage self.new.begun self.new.flow start number)
+            result heap.new browser.new }
         ensures begun { self.new.begun ≡ self.old.begun }
-        ensures fewer { IsFewer result (steps_of_opening self.new.stage self.new.begun self.new.flow) (steps_of self.old.flow + 1) }
+        ensures fewer { IsFewer result
+            (steps_of_opening self.new.stage self.new.begun self.new.flow)
+            (steps_of self.old.flow + 1) }
     {
         match next_call(browser, heap, &mut self.flow) {
             None => {

@@ -47,7 +47,8 @@ pub(crate) fn deliver(
     requires { Fits browser.old heap.old }
     ensures fits { Fits browser.new heap.new }
     ensures grows { Grows heap.old heap.new }
-    ensures delivers { Delivers (delivered browser.old heap.old batch number) heap.old browser.old result heap.new browser.new }
+    ensures delivers { Delivers (delivered browser.old heap.old batch number) heap.old browser.old
+        result heap.new browser.new }
 {
     let alloc = browser.alloc;
     let (function, made) = match browser.undelivered.due(number, batch) {
@@ -66,7 +67,7 @@ pub(crate) fn deliver(
             take_out(browser, heap, batch, number);
             Err(ReplyRefused::Limit(limit))
         }
-        Err(Refused::Memory) => Err(ReplyRefused::Memory),
+        Err(Refused::Memory) => unreachable!(),
     }
 }
 
