@@ -7,7 +7,7 @@ use Rattle.rip_heap.specs.declared.class.Class.TheVariants.{ThrownTypeError}
 use Rattle.rip_heap.specs.declared.keys.Key.{Key}
 use Rattle.rip_heap.specs.declared.outcome.Abrupt.{Abrupt}
 use Rattle.rip_heap.specs.declared.outcome.Abrupt.TheVariants.{TypeError, Fault, Limit, Memory}
-use Rattle.rip_heap.specs.Outcome.{Answers, AnswersOrLacks, Outcome}
+use Rattle.rip_heap.specs.Outcome.{Answers, Outcome}
 use Rattle.rip_heap.specs.World.{World}
 use Rattle.rip_members.specs.Deleting.{IsDeleting}
 use Rattle.rip_members.specs.Keys.{IsKeying, Keying}
@@ -51,17 +51,9 @@ outcome_abruptly outcome w x (Fault fault) go h = ap (Halts (AtFault fault)) h.1
 outcome_abruptly outcome w x (Limit limit) go h = ap (Halts (AtLimit limit)) h.1 ∙ ap (λ o. with_outcome o w go) (sym h.0)
 outcome_abruptly outcome w x Memory go h = absurd h
 
--- nothing is said of an answer that wants memory
-no_row : (answer : Result Next NoMemory) (x : World) (row : Row) → IsErr answer → DoesAnywhere answer x row
-no_row (Ok next) x row e = absurd (cc)
-no_row (Err n) x row e = tt
-
-pub lacking_abruptly : (outcome : Outcome) (w x y : World) (cause : Abrupt) (go : Value → World → Row) (answer : Result Next NoMemory)
-    → AnswersOrLacks outcome w (Err cause) x → DoesAnywhere answer y (abruptly cause x) → (cause ≡ Memory → IsErr answer) → DoesAnywhere answer y (with_outcome outcome w go)
-lacking_abruptly outcome w x y TypeError go answer h d m = does_as answer y (abruptly TypeError x) (with_outcome outcome w go) d (ap (throws ThrownTypeError) h.1 ∙ ap (λ o. with_outcome o w go) (sym h.0))
-lacking_abruptly outcome w x y (Fault fault) go answer h d m = does_as answer y (abruptly (Fault fault) x) (with_outcome outcome w go) d (ap (Halts (AtFault fault)) h.1 ∙ ap (λ o. with_outcome o w go) (sym h.0))
-lacking_abruptly outcome w x y (Limit limit) go answer h d m = does_as answer y (abruptly (Limit limit) x) (with_outcome outcome w go) d (ap (Halts (AtLimit limit)) h.1 ∙ ap (λ o. with_outcome o w go) (sym h.0))
-lacking_abruptly outcome w x y Memory go answer h d m = no_row answer y (with_outcome outcome w go) (m refl)
+pub answered_abruptly : (outcome : Outcome) (w x y : World) (cause : Abrupt) (go : Value → World → Row) (answer : Result Next NoMemory)
+    → Answers outcome w (Err cause) x → DoesAnywhere answer y (abruptly cause x) → DoesAnywhere answer y (with_outcome outcome w go)
+answered_abruptly outcome w x y cause go answer h d = does_as answer y (abruptly cause x) (with_outcome outcome w go) d (outcome_abruptly outcome w x cause go h)
 
 -- MEMBERS
 

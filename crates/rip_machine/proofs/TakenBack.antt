@@ -1,4 +1,4 @@
--- What is taken back where memory is wanting: what the steps that only make something leave can be cut back.
+-- What is taken back where memory is wanting: what the steps that only add texts leave can be cut back.
 use Rattle.std.proofs.Common.{◌≡◌, ℕ, ◌+◌, ◌≤◌, List, ◌++◌, length, take, refl, ap, subst, sym, ◌∙◌, arith, length-append}
 use Rattle.std.proofs.lemmas.List.{take-append-le}
 use Rattle.std.proofs.Math.Seq.{take-length}
@@ -7,30 +7,22 @@ use Rattle.rip_values.specs.Pool.{with_text}
 use Rattle.rip_heap.specs.declared.mark.Mark.{Mark}
 use Rattle.rip_heap.specs.Growth.{Grows}
 use Rattle.rip_heap.specs.Marks.{mark_of}
-use Rattle.rip_heap.specs.Sound.{IsSound}
-use Rattle.rip_heap.specs.World.{Object, Scope, World}
+use Rattle.rip_heap.specs.World.{World}
 use Rattle.rip_tree.specs.declared.form.Form.{Form}
 use Rattle.rip_machine.specs.Back.{CutsTo}
 use Rattle.rip_machine.specs.Loading.{form_cost, form_text, text_or_none, with_form}
 
 -- what adds nothing can be cut
-pub cuts_itself : (w : World) (m : Mark) → m ≡ mark_of w → length fixed_units ≤ m.end → IsSound w.limit w.cells w.objects w.scopes → CutsTo w w
-cuts_itself w m is fixed sound =
-    let objects : take (length w.objects) w.objects ≡ w.objects = take-length w.objects in
-    let scopes : take (length w.scopes) w.scopes ≡ w.scopes = take-length w.scopes in
-    let O : List Object → Type 0 = λ objects. IsSound w.limit w.cells objects w.scopes in
-    let S : List Scope → Type 0 = λ scopes. IsSound w.limit w.cells (take (length w.objects) w.objects) scopes in (
-      record {
-        fixed = subst (λ (k : Mark). length fixed_units ≤ k.end) is fixed;
-        units = omega arith;
-        used = omega arith;
-        charged = omega arith;
-        objects = omega arith;
-        scopes = omega arith;
-        sound = subst S (sym scopes) (subst O (sym objects) sound);
-      },
-      rw (objects, scopes, take-length w.pool.units) refl,
-    )
+pub cuts_itself : (w : World) (m : Mark) → m ≡ mark_of w → length fixed_units ≤ m.end → CutsTo w w
+cuts_itself w m is fixed = (
+  record {
+    fixed = subst (λ (k : Mark). length fixed_units ≤ k.end) is fixed;
+    units = omega arith;
+    used = omega arith;
+    charged = omega arith;
+  },
+  rw (take-length w.pool.units) refl,
+)
 
 -- a text more, which costs no more than its length
 cuts_text : (w x : World) (text : List ℕ) (cost : ℕ) → cost ≤ length text → CutsTo w x → CutsTo w (record x { pool = with_text x.pool text cost })
@@ -38,20 +30,12 @@ cuts_text w x text cost cheap b =
     let more : length (x.pool.units ++ text) ≡ length x.pool.units + length text = length-append x.pool.units text in
     let n = length w.pool.units in
     let same : take n (x.pool.units ++ text) ≡ take n x.pool.units = take-append-le n x.pool.units text b.0.units in
-    let r : List ℕ → World = λ us. record x {
-      cells = w.cells;
-      pool = record x.pool { units = us; used = w.pool.used };
-      objects = take (length w.objects) x.objects;
-      scopes = take (length w.scopes) x.scopes;
-    } in (
+    let r : List ℕ → World = λ us. record x { pool = record x.pool { units = us; used = w.pool.used } } in (
       record {
         fixed = b.0.fixed;
         units = omega (arith, more, b.0.units);
         used = omega (arith, b.0.used);
         charged = omega (arith, more, cheap, b.0.charged);
-        objects = b.0.objects;
-        scopes = b.0.scopes;
-        sound = b.0.sound;
       },
       ap r same ∙ b.1,
     )

@@ -95,8 +95,10 @@ impl Machine {
         s: &Start<'_>,
         fuel: u64,
     ) -> Result<(), Refused>
-        ensures keeps { (evaluation H.answers program.now).run self.new ≡ (evaluation H.answers program.now).run self.old }
-        ensures begins { Begins (evaluation H.answers program.now) (started_of s.now) fuel self.old heap.old self.new heap.new result }
+        ensures keeps { (evaluation H.answers program.now).run self.new
+            ≡ (evaluation H.answers program.now).run self.old }
+        ensures begins { Begins (evaluation H.answers program.now) (started_of s.now) fuel self.old
+            heap.old self.new heap.new result }
         ensures grows { Grows heap.old heap.new }
     {
         self.start(alloc, program, heap, s, fuel)

@@ -14,7 +14,8 @@ use std::alloc::Global;
 /// The program of the script that the bytes spell, which has no early error.
 pub fn read_program(alloc: Global, bytes: &[u8]) -> Result<Program, Stop>
     requires { length bytes.now ≤ MAX_FILE }
-    ensures checked { IfOk result (λ program. (tree : Plant) × HasItsTree bytes.now tree × IsChecked tree program) }
+    ensures checked { IfOk result
+        (λ program. (tree : Plant) × HasItsTree bytes.now tree × IsChecked tree program) }
     ensures refused { IfErr result (IsStop (RefusesRun bytes.now)) }
 {
     match read_tree(alloc, bytes) {
@@ -26,7 +27,8 @@ pub fn read_program(alloc: Global, bytes: &[u8]) -> Result<Program, Stop>
 /// The program of the script of this tree.
 fn checked_program(alloc: Global, tree: Tree) -> Result<Program, Stop>
     ensures checked { IfOk result (IsChecked tree) }
-    ensures refused { (bytes : Items ℕ) → HasItsTree bytes tree → IfErr result (IsStop (RefusesRun bytes)) }
+    ensures refused { (bytes : Items ℕ) → HasItsTree bytes tree
+        → IfErr result (IsStop (RefusesRun bytes)) }
 {
     let Ok(trees) = only(alloc, tree) else {
         return Err(Stop::Memory);

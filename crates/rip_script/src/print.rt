@@ -55,7 +55,9 @@ impl Printer {
         levels: u32,
         v: Value,
     ) -> Result<(), NoMemory>
-        ensures written { OnOk result (self.new.out ≡ self.old.out ++ value_text heap.now program.now levels self.old.around.items v) }
+        ensures written { OnOk result
+            (self.new.out ≡ self.old.out ++ value_text heap.now program.now levels
+            self.old.around.items v) }
         ensures around { OnOk result (self.new.around.items ≡ self.old.around.items) }
     {
         match v {
@@ -79,7 +81,9 @@ impl Printer {
         levels: u32,
         number: u32,
     ) -> Result<(), NoMemory>
-        ensures written { OnOk result (self.new.out ≡ self.old.out ++ object_text heap.now program.now levels self.old.around.items number) }
+        ensures written { OnOk result
+            (self.new.out ≡ self.old.out ++ object_text heap.now program.now levels
+            self.old.around.items number) }
         ensures around { OnOk result (self.new.around.items ≡ self.old.around.items) }
     {
         if let Some(builtin) = builtin_at(number) {
@@ -111,7 +115,10 @@ impl Printer {
         number: u32,
         class: Class,
     ) -> Result<(), NoMemory>
-        ensures written { OnOk result (self.new.out ≡ self.old.out ++ contents_text heap.now (λ v. value_text heap.now program.now levels self.old.around.items v) number class) }
+        ensures written { OnOk result
+            (self.new.out ≡ self.old.out
+            ++ contents_text heap.now
+            (λ v. value_text heap.now program.now levels self.old.around.items v) number class) }
         ensures around { OnOk result (self.new.around.items ≡ self.old.around.items) }
     {
         if matches!(class, Class::Array) {
@@ -130,7 +137,10 @@ impl Printer {
         levels: u32,
         number: u32,
     ) -> Result<(), NoMemory>
-        ensures written { OnOk result (self.new.out ≡ self.old.out ++ array_text (λ v. value_text heap.now program.now levels self.old.around.items v) (elements_at heap.now number)) }
+        ensures written { OnOk result
+            (self.new.out ≡ self.old.out
+            ++ array_text (λ v. value_text heap.now program.now levels self.old.around.items v)
+            (elements_at heap.now number)) }
         ensures around { OnOk result (self.new.around.items ≡ self.old.around.items) }
     {
         self.out.text(b"[")?;
@@ -153,7 +163,11 @@ impl Printer {
         levels: u32,
         number: u32,
     ) -> Result<(), NoMemory>
-        ensures written { OnOk result (self.new.out ≡ self.old.out ++ properties_text heap.now.pool (λ v. value_text heap.now program.now levels self.old.around.items v) (properties_of (object_at heap.now number))) }
+        ensures written { OnOk result
+            (self.new.out ≡ self.old.out
+            ++ properties_text heap.now.pool
+            (λ v. value_text heap.now program.now levels self.old.around.items v)
+            (properties_of (object_at heap.now number))) }
         ensures around { OnOk result (self.new.around.items ≡ self.old.around.items) }
     {
         self.out.text(b"{")?;

@@ -61,8 +61,10 @@ impl Script {
         requires short { length self.now.units < 2 ^ 32 }
         requires tokens { IsTokens self.now.units self.now.tokens }
         ensures found { IfOk result (HasTree self.now.units self.now.tokens) }
-        ensures shown { (body : Phrase) → IsBody self.now.units self.now.tokens body → IfOk result (λ tree. ShowsScript self.now.units tree body) }
-        ensures refused { (bytes : List ℕ) → HasTokens bytes self.now.units self.now.tokens → IfErr result (IsStop (RefusesTree bytes)) }
+        ensures shown { (body : Phrase) → IsBody self.now.units self.now.tokens body
+            → IfOk result (λ tree. ShowsScript self.now.units tree body) }
+        ensures refused { (bytes : List ℕ) → HasTokens bytes self.now.units self.now.tokens
+            → IfErr result (IsStop (RefusesTree bytes)) }
     {
         match parse(alloc, self.units.as_slice(), self.tokens.as_slice()) {
             Ok(tree) => Ok(tree),

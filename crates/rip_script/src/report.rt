@@ -57,7 +57,9 @@ fn write_outcome(
     heap: &Heap,
     outcome: Outcome,
 ) -> Result<(), NoMemory>
-    ensures { OnOk result (out.new ≡ out.old ++ line_text (codes "outcome" ∷ outcome_words heap.now program.now outcome)) }
+    ensures { OnOk result
+        (out.new ≡ out.old ++ line_text
+        (codes "outcome" ∷ outcome_words heap.now program.now outcome)) }
 {
     match outcome {
         Outcome::Value(v) => write_valued(alloc, out, program, heap, b"value", v),
@@ -77,7 +79,9 @@ fn write_valued(
     kind: &[u8],
     v: Value,
 ) -> Result<(), NoMemory>
-    ensures { OnOk result (out.new ≡ out.old ++ line_text (codes "outcome" ∷ kind.now ∷ value_word heap.now program.now v ∷ [])) }
+    ensures { OnOk result
+        (out.new ≡ out.old ++ line_text
+        (codes "outcome" ∷ kind.now ∷ value_word heap.now program.now v ∷ [])) }
 {
     let text = value_text(alloc, heap, program, v)?;
     write_kind(out, kind, text.as_slice())
@@ -85,7 +89,8 @@ fn write_valued(
 
 /// Writes the line of an outcome of this kind, with what it is of behind it.
 fn write_kind(out: &mut Writer, kind: &[u8], what: &[u8]) -> Result<(), NoMemory>
-    ensures { OnOk result (out.new ≡ out.old ++ line_text (codes "outcome" ∷ kind.now ∷ what.now ∷ [])) }
+    ensures { OnOk result
+        (out.new ≡ out.old ++ line_text (codes "outcome" ∷ kind.now ∷ what.now ∷ [])) }
 {
     out.text(b"outcome ")?;
     out.text(kind)?;
@@ -126,7 +131,8 @@ fn write_binding(
     heap: &Heap,
     place: u32,
 ) -> Result<(), NoMemory>
-    ensures { OnOk result (out.new ≡ out.old ++ line_text (binding_line program.now heap.now place)) }
+    ensures { OnOk result
+        (out.new ≡ out.old ++ line_text (binding_line program.now heap.now place)) }
 {
     write_name_of(alloc, out, program.top_name(place))?;
     out.text(b" = ")?;

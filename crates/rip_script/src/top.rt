@@ -43,7 +43,8 @@ fn put_line<S: Sink>(line: &[u8], status: Status, out: &mut S) -> Status
 
 /// Puts the line for a refusal.
 fn refuse<S: Sink>(alloc: Global, refusal: Refusal, out: &mut S) -> Status
-    ensures put { PutsThen Status.BadScript result (refusal_line refusal) (S.held out.old) (S.held out.new) }
+    ensures put { PutsThen Status.BadScript result (refusal_line refusal) (S.held out.old)
+        (S.held out.new) }
     ensures counted { CountsStatus result (S.count out.old) (S.count out.new) }
 {
     match refusal.line(alloc) {
@@ -66,7 +67,8 @@ fn stop_at<S: Sink>(alloc: Global, stop: Stop, out: &mut S) -> Status
 /// Puts the tokens of the script that the bytes spell, or why it is refused.
 fn settle_tokens<S: Sink>(alloc: Global, bytes: &[u8], out: &mut S) -> Status
     requires { length bytes.now ≤ MAX_FILE }
-    ensures settles { Settles (ListsTokens bytes.now) (RefusesTokens bytes.now) result (S.held out.old) (S.held out.new) }
+    ensures settles { Settles (ListsTokens bytes.now) (RefusesTokens bytes.now) result
+        (S.held out.old) (S.held out.new) }
     ensures counted { CountsStatus result (S.count out.old) (S.count out.new) }
 {
     match Script::read(alloc, bytes) {
@@ -81,7 +83,8 @@ fn settle_tokens<S: Sink>(alloc: Global, bytes: &[u8], out: &mut S) -> Status
 /// Puts the tree of the script that the bytes spell, or why it is refused.
 fn settle_tree<S: Sink>(alloc: Global, bytes: &[u8], out: &mut S) -> Status
     requires { length bytes.now ≤ MAX_FILE }
-    ensures settles { Settles (DrawsTree bytes.now) (RefusesTree bytes.now) result (S.held out.old) (S.held out.new) }
+    ensures settles { Settles (DrawsTree bytes.now) (RefusesTree bytes.now) result (S.held out.old)
+        (S.held out.new) }
     ensures counted { CountsStatus result (S.count out.old) (S.count out.new) }
 {
     match read_tree(alloc, bytes) {
@@ -96,7 +99,8 @@ fn settle_tree<S: Sink>(alloc: Global, bytes: &[u8], out: &mut S) -> Status
 /// Puts what a run of the script that the bytes spell comes to, or why it is refused.
 fn settle_run<S: Sink>(alloc: Global, bytes: &[u8], limits: RunLimits, out: &mut S) -> Status
     requires { length bytes.now ≤ MAX_FILE }
-    ensures settles { Settles (λ text. IsRun bytes.now limits text) (RefusesRun bytes.now) result (S.held out.old) (S.held out.new) }
+    ensures settles { Settles (λ text. IsRun bytes.now limits text) (RefusesRun bytes.now) result
+        (S.held out.old) (S.held out.new) }
     ensures counted { CountsStatus result (S.count out.old) (S.count out.new) }
 {
     let program = match read_program(alloc, bytes) {
@@ -115,7 +119,8 @@ fn settle_run<S: Sink>(alloc: Global, bytes: &[u8], limits: RunLimits, out: &mut
 /// Puts what is asked for of the script that the bytes spell, or why it is refused.
 fn settle<S: Sink>(alloc: Global, command: Command<'_>, bytes: &[u8], out: &mut S) -> Status
     requires { length bytes.now ≤ MAX_FILE }
-    ensures settles { Settles (AnswersBytes (task_of command.entry) bytes.now) (RefusesBytes (task_of command.entry) bytes.now) result
+    ensures settles { Settles (AnswersBytes (task_of command.entry) bytes.now)
+        (RefusesBytes (task_of command.entry) bytes.now) result
         (S.held out.old) (S.held out.new) }
     ensures counted { CountsStatus result (S.count out.old) (S.count out.new) }
 {

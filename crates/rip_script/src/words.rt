@@ -59,8 +59,10 @@ impl<'a> Command<'a> {
 
 /// The file name of the words `COMMAND FILE`, or none of other words.
 fn file_of<'a>(words: &'a [String], command: &str) -> Option<&'a str>
-    ensures other { IfNone result ((file : List ℕ) → ¬ (map string_bytes words.now ≡ command.now ∷ file ∷ [])) }
-    ensures form { IfSome result (λ file. map string_bytes words.now ≡ command.now ∷ file.now ∷ []) }
+    ensures other { IfNone result
+        ((file : List ℕ) → ¬ (map string_bytes words.now ≡ command.now ∷ file ∷ [])) }
+    ensures form { IfSome result
+        (λ file. map string_bytes words.now ≡ command.now ∷ file.now ∷ []) }
 {
     let [first, file] = words else {
         return None;
@@ -74,7 +76,8 @@ fn file_of<'a>(words: &'a [String], command: &str) -> Option<&'a str>
 /// What the words ask for, or none of words that have no form.
 pub fn command_of(words: &[String]) -> Option<Command<'_>>
     ensures other { IfNone result (¬ IsForm (map string_bytes words.now)) }
-    ensures form { IfSome result (λ command. IsTask (map string_bytes words.now) (task_of command)) }
+    ensures form { IfSome result
+        (λ command. IsTask (map string_bytes words.now) (task_of command)) }
 {
     if let Some(file) = file_of(words, "tokens") {
         return Some(Command::Tokens(file));
@@ -87,8 +90,11 @@ pub fn command_of(words: &[String]) -> Option<Command<'_>>
 
 /// What the words `run FILE` and the limits behind them ask for, or none of other words.
 fn run_of(words: &[String]) -> Option<Command<'_>>
-    ensures other { IfNone result ((file : List ℕ) (limits : Limits) → ¬ IsTask (map string_bytes words.now) (RunOf file limits)) }
-    ensures form { IfSome result (λ command. IsTask (map string_bytes words.now) (task_of command)) }
+    ensures other { IfNone result
+        ((file : List ℕ) (limits : Limits) → ¬ IsTask (map string_bytes words.now)
+        (RunOf file limits)) }
+    ensures form { IfSome result
+        (λ command. IsTask (map string_bytes words.now) (task_of command)) }
 {
     let [first, file, numbers @ ..] = words else {
         return None;
@@ -102,7 +108,8 @@ fn run_of(words: &[String]) -> Option<Command<'_>>
 
 /// The limits that these words name, in the order fuel, cells, units, depth; those behind the last are the usual ones.
 fn limits_of(words: &[String]) -> Option<RunLimits>
-    ensures other { IfNone result ((limits : Limits) → ¬ AreLimits (map string_bytes words.now) limits) }
+    ensures other { IfNone result
+        ((limits : Limits) → ¬ AreLimits (map string_bytes words.now) limits) }
     ensures are { IfSome result (AreLimits (map string_bytes words.now)) }
 {
     if words.len() > 4 {
@@ -118,7 +125,8 @@ fn limits_of(words: &[String]) -> Option<RunLimits>
 
 /// The limit that the word at this place names; the usual one where there is no such word.
 fn limit_at(words: &[String], place: usize, usual: u32, most: u32) -> Option<u32>
-    ensures other { IfNone result ((limit : ℕ) → ¬ IsLimit (map string_bytes words.now) place usual most limit) }
+    ensures other { IfNone result
+        ((limit : ℕ) → ¬ IsLimit (map string_bytes words.now) place usual most limit) }
     ensures is { IfSome result (IsLimit (map string_bytes words.now) place usual most) }
 {
     match words.get(place) {

@@ -1,7 +1,6 @@
-ghost use Rattle.std.specs.Prelude.{◌≡◌, ◌+◌, ◌*◌, ◌<◌, ◌^◌, true, ⊤, length, Some, None, IfOk, OnErr, OnOk, MatchOption, nat_le, option_and_then};
+ghost use Rattle.std.specs.Prelude.{◌≡◌, ◌+◌, ◌*◌, ◌<◌, ◌≤◌, ◌^◌, true, ⊤, length, Some, None, IfOk, OnErr, MatchOption, nat_le, option_and_then};
 ghost use Rattle.rip_heap.specs.Growth.{Grows};
-ghost use Rattle.rip_heap.specs.World.{World, cost_of_function, cost_of_scope};
-ghost use Rattle.rip_machine.specs.Back.{CutsTo};
+ghost use Rattle.rip_heap.specs.World.{cost_of_function, cost_of_scope};
 ghost use Rattle.rip_machine.specs.Does.{Does};
 ghost use Rattle.rip_machine.specs.Reading.{children_from, scoping};
 ghost use Rattle.rip_machine.specs.Rows.Functions.{declared_functions, declared_in, function_entered, function_named, function_row, functions_bound, functions_made, has_name, parameters, parameters_of, scope_charged, scope_with, with_arguments, with_undefined};
@@ -83,7 +82,8 @@ pub(crate) fn parameters(p: &Source, f: u32) -> u32
 /// The functions that are declared among the children of a node, from this place on.
 #[tactic(auto, using(crate::proofs::Children::children_some, crate::proofs::Children::children_none))]
 pub(crate) fn declared_in(p: &Source, id: u32, from: u32) -> Result<Vec<u32>, NoMemory>
-    ensures declared { IfOk result (λ fs. fs.items ≡ declared_in p.now (children_from p.now id from)) }
+    ensures declared { IfOk result
+        (λ fs. fs.items ≡ declared_in p.now (children_from p.now id from)) }
     ensures count { IfOk result (λ fs. length fs.items
         ≡ declared_functions p.now (children_from p.now id from)) }
     ensures few { IfOk result (λ fs. length fs.items < 2 ^ 32) }
@@ -125,24 +125,15 @@ fn bind_arguments(p: &Source, heap: &mut Heap, f: u32, scope: u32, args: &Argume
     }
 }
 
-/// Makes these functions, none of which is bound yet. What would pass the limit is want of memory: the charge was tried
-/// before. Where memory is wanting some are made, and can be cut back.
-pub(crate) fn make_functions(
-    alloc: Global,
-    heap: &mut Heap,
-    scope: u32,
-    functions: &[u32],
-) -> Result<(), NoMemory>
-    ensures made { OnOk result (functions_made scope functions.now heap.old ≡ Some heap.new) }
-    ensures back { (w : World) → CutsTo w heap.old → CutsTo w heap.new }
+/// Makes these functions, none of which is bound yet.
+pub(crate) fn make_functions(alloc: Global, heap: &mut Heap, scope: u32, functions: &[u32])
+    requires room { heap.old.cells + cost_of_function * length functions.now ≤ heap.old.limit }
+    ensures made { functions_made scope functions.now heap.old ≡ Some heap.new }
     ensures grows { Grows heap.old heap.new }
 {
     for f in functions {
-        if heap.new_function(alloc, *f, scope).is_err() {
-            return Err(NoMemory);
-        }
+        heap.new_function(alloc, *f, scope).unwrap();
     }
-    Ok(())
 }
 
 /// Binds these functions, the first of which has this number.
@@ -193,23 +184,20 @@ pub(crate) fn enter_function(
     if !fits(p, heap, f, count as u32, functions.len()) {
         return Ok(None);
     }
-    let mark = heap.mark();
-    let names = p.scoping(f).names;
-    match make_scope(p.alloc(), heap, scope, names, count as u32, &functions) {
-        Ok(made) => {
-            let first = FIRST_HEAP_OBJECT + mark.objects + 1;
-            fill_scope(p, heap, f, made, args, &functions, first);
-            Ok(Some(made))
-        },
-        Err(NoMemory) => {
-            heap.cut_back(mark);
-            Err(NoMemory)
-        },
-    }
+    let first = FIRST_HEAP_OBJECT + heap.objects() + 1;
+    let made = make_scope(
+        p.alloc(),
+        heap,
+        scope,
+        p.scoping(f).names,
+        count as u32,
+        &functions,
+    );
+    fill_scope(p, heap, f, made, args, &functions, first);
+    Ok(Some(made))
 }
 
-/// A new scope in which nothing is bound, where so many arguments are charged, and these functions. What would pass the limit
-/// is want of memory: the charge was tried before. Where memory is wanting what was made can be cut back.
+/// A new scope in which nothing is bound, where so many arguments are charged, and these functions.
 fn make_scope(
     alloc: Global,
     heap: &mut Heap,
@@ -217,37 +205,18 @@ fn make_scope(
     names: u32,
     args: u32,
     functions: &[u32],
-) -> Result<u32, NoMemory>
-    ensures made { IfOk result (λ made. option_and_then (scope_with functions.now)
-        (scope_charged outer names args heap.old) ≡ Some (made, heap.new)) }
-    ensures back { (w : World) → CutsTo w heap.old → CutsTo w heap.new }
+) -> u32
+    requires room { heap.old.cells
+        + (args + cost_of_scope names + cost_of_function * length functions.now)
+        ≤ heap.old.limit }
+    ensures made { option_and_then (scope_with functions.now)
+        (scope_charged outer names args heap.old) ≡ Some (result, heap.new) }
     ensures grows { Grows heap.old heap.new }
 {
-    let made = new_scope(alloc, heap, outer, names, args)?;
-    make_functions(alloc, heap, made, functions)?;
-    Ok(made)
-}
-
-/// The scope alone.
-fn new_scope(
-    alloc: Global,
-    heap: &mut Heap,
-    outer: u32,
-    names: u32,
-    args: u32,
-) -> Result<u32, NoMemory>
-    ensures made { IfOk result (λ made. scope_charged outer names args heap.old
-        ≡ Some (made, heap.new)) }
-    ensures back { (w : World) → CutsTo w heap.old → CutsTo w heap.new }
-    ensures grows { Grows heap.old heap.new }
-{
-    match heap.charge(args) {
-        Ok(()) => match heap.new_scope(alloc, Some(outer), names) {
-            Ok(made) => Ok(made),
-            Err(_) => Err(NoMemory),
-        },
-        Err(_) => Err(NoMemory),
-    }
+    heap.charge(args).unwrap();
+    let made = heap.new_scope(alloc, Some(outer), names).unwrap();
+    make_functions(alloc, heap, made, functions);
+    made
 }
 
 /// Binds all names of a new scope of a function, and its functions, the first of which has this number.

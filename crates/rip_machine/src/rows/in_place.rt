@@ -70,7 +70,8 @@ fn done_by_form(
     height: u32,
     left: u64,
 ) -> Option<Completed>
-    ensures done { RowIsDone p.now (row_by p.now at.now form.now heap.old) heap.old result heap.new }
+    ensures done { RowIsDone p.now (row_by p.now at.now form.now heap.old) heap.old result
+        heap.new }
     ensures within { IsDoneWithin left result }
     ensures grows { Grows heap.old heap.new }
 {
@@ -417,7 +418,8 @@ fn done_compound(
 
 /// What the operator of a compound assignment gives of the value of its target and of this one.
 fn compound(p: &Source, heap: &Heap, at: &Part, right: Value) -> Option<Value>
-    ensures { IfSome result (λ v. (old : ScriptValue) × (target_found p.now at.now heap.now ≡ Some old)
+    ensures { IfSome result
+        (λ v. (old : ScriptValue) × (target_found p.now at.now heap.now ≡ Some old)
         × (binary heap.now (operator p.now at.now.node) old right ≡ Gives v heap.now)) }
 {
     match target_found(p, heap, at) {

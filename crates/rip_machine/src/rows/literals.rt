@@ -104,7 +104,8 @@ fn put_entry(
 ) -> Result<Result<(), Stop>, NoMemory>
     ensures put { IfOk result (λ put. MatchResult put
         (λ _. (go : World → Row) → entry_put p.now object e v heap.old go ≡ go heap.new)
-        (λ stop. (go : World → Row) → entry_put p.now object e v heap.old go ≡ Halts stop heap.new)) }
+        (λ stop. (go : World → Row) → entry_put p.now object e v heap.old go
+        ≡ Halts stop heap.new)) }
     ensures grows { Grows heap.old heap.new }
 {
     let name = p.literal(e);

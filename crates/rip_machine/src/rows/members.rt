@@ -262,7 +262,8 @@ pub(crate) fn begin_index(p: &Source, at: &Part) -> Answer
 }
 
 pub(crate) fn after_index_base(p: &Source, at: &Part, c: &Completion) -> Answer
-    ensures row { DoesPurely p.now at.now result (own_rest p.now at.now OwnWait.IndexBase [] c.now) }
+    ensures row { DoesPurely p.now at.now result
+        (own_rest p.now at.now OwnWait.IndexBase [] c.now) }
 {
     match value_of(c) {
         Some(base) => ask_hosted(p.part_at(at, 1), HostedWait::Subscript { base }),

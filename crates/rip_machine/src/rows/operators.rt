@@ -105,7 +105,8 @@ pub(crate) fn begin_comma(p: &Source, at: &Part) -> Answer
 }
 
 pub(crate) fn after_comma_left(p: &Source, at: &Part, c: &Completion) -> Answer
-    ensures row { DoesPurely p.now at.now result (own_rest p.now at.now OwnWait.CommaLeft [] c.now) }
+    ensures row { DoesPurely p.now at.now result
+        (own_rest p.now at.now OwnWait.CommaLeft [] c.now) }
 {
     match value_of(c) {
         Some(_) => ask(p.part_at(at, 1), OwnWait::Last),

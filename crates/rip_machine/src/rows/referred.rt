@@ -47,7 +47,8 @@ pub(crate) fn done_reference(
 
 /// A value that was had, as a completion.
 pub(crate) fn valued(had: Option<Had>) -> Option<Completed>
-    ensures done { (p : Loaded) (at : Part) (w : World) → IsHad p at w had → IsDone p at w result w }
+    ensures done { (p : Loaded) (at : Part) (w : World) → IsHad p at w had
+        → IsDone p at w result w }
     ensures within { (left : ℕ) → IsWithin left had → IsDoneWithin left result }
 {
     match had {

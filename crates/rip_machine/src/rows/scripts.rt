@@ -43,18 +43,11 @@ pub(crate) fn enter_script(p: &Source, heap: &mut Heap, script: u32) -> Result<b
     if 4 * functions.len() > heap.free_cells() as usize {
         return Ok(false);
     }
-    let mark = heap.mark();
-    match make_functions(p.alloc(), heap, 0, &functions) {
-        Ok(()) => {
-            bind_functions(p, heap, 0, &functions, FIRST_HEAP_OBJECT + mark.objects + 1);
-            declare_vars(heap, p.program.vars(script));
-            Ok(true)
-        },
-        Err(NoMemory) => {
-            heap.cut_back(mark);
-            Err(NoMemory)
-        },
-    }
+    let first = FIRST_HEAP_OBJECT + heap.objects() + 1;
+    make_functions(p.alloc(), heap, 0, &functions);
+    bind_functions(p, heap, 0, &functions, first);
+    declare_vars(heap, p.program.vars(script));
+    Ok(true)
 }
 
 /// The part of a script.

@@ -282,7 +282,8 @@ pub(crate) fn after_while_test(p: &Source, heap: &Heap, at: &Part, c: &Completio
 }
 
 pub(crate) fn after_while_body(p: &Source, at: &Part, c: &Completion) -> Answer
-    ensures row { DoesPurely p.now at.now result (own_rest p.now at.now OwnWait.WhileBody [] c.now) }
+    ensures row { DoesPurely p.now at.now result
+        (own_rest p.now at.now OwnWait.WhileBody [] c.now) }
 {
     match goes_on(c) {
         Ok(()) => begin_while(p, at),
@@ -338,7 +339,8 @@ fn for_update(p: &Source, at: &Part) -> Answer
 }
 
 pub(crate) fn after_for_update(p: &Source, at: &Part, c: &Completion) -> Answer
-    ensures row { DoesPurely p.now at.now result (own_rest p.now at.now OwnWait.ForUpdate [] c.now) }
+    ensures row { DoesPurely p.now at.now result
+        (own_rest p.now at.now OwnWait.ForUpdate [] c.now) }
 {
     match value_of(c) {
         Some(_) => for_turn(p, at),

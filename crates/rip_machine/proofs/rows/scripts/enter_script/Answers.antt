@@ -7,15 +7,15 @@ use Rattle.rip_machine.specs.Rows.Scripts.{with_var}
 use Rattle.rip_machine.proofs.Declared.{script_begins}
 use Rattle.rip_machine.proofs.rows.scripts.enter_script.Goals as goal
 
-pub returns-in-Ok-clause-entered : goal.returns-in-Ok-clause-entered
-returns-in-Ok-clause-entered c =
+pub returns-clause-entered : goal.returns-clause-entered
+returns-clause-entered c =
     let p = c.args.p.now in
     let w = c.args.heap.now in
     let script : ℕ = c.args.script in
     let children = children_from p (root_of p.code.grove script) 0 in
     let functions = c.in_ok-functions.functions.items in
     let one = c.make_functions.new.heap in
-    let n : ℕ = first_object + c.mark-mark.result.objects + 1 in
+    let n : ℕ = first_object + c.objects.result + 1 in
     let are : functions ≡ declared_in p children = search rules in
     let fits : w.cells + cost_of_function * length functions ≤ w.limit = search rules in
     let made : functions_made 0 functions w ≡ Some one = search rules in
