@@ -10,11 +10,10 @@ ghost use Rattle.rip_log.specs.Parts.{IsNoneOrCallText};
 ghost use Rattle.rip_log.specs.Endings.{report_word, made_word, ending_words, IsCause};
 ghost use Rattle.rip_log.specs.Ranges.{IsEnding, IsNoneOrEnding};
 
-use crate::error::LineError;
 use crate::parts::call_text_in;
 use crate::words::{Words, is_word};
 use rip_values::{BadReport, Bytes, Fault, Limit};
-use rip_wire::Ending;
+use rip_wire::{Ending, LineError};
 use std::alloc::Global;
 
 /// How a batch ended, which the words tell.
@@ -190,7 +189,8 @@ fn cause_in(word: &[u8], words: &mut Words<'_>) -> Option<Ending>
 /// The limit that has this word.
 fn limit_of(word: &[u8]) -> Option<Limit>
     ensures is { IfSome result (λ limit. word.now ≡ reason_word (limit_reason limit)) }
-    ensures none { IsNone result → (limit : AnyLimit) → word.now ≢ reason_word (limit_reason limit) }
+    ensures none { IsNone result → (limit : AnyLimit)
+        → word.now ≢ reason_word (limit_reason limit) }
 {
     if is_word(word, "fuel") {
         Some(Limit::Fuel)
@@ -214,7 +214,8 @@ fn limit_of(word: &[u8]) -> Option<Limit>
 /// The fault that has this word.
 fn fault_of(word: &[u8]) -> Option<Fault>
     ensures is { IfSome result (λ fault. word.now ≡ reason_word (fault_reason fault)) }
-    ensures none { IsNone result → (fault : AnyFault) → word.now ≢ reason_word (fault_reason fault) }
+    ensures none { IsNone result → (fault : AnyFault)
+        → word.now ≢ reason_word (fault_reason fault) }
 {
     if is_word(word, "not-whole") {
         Some(Fault::NotWhole)

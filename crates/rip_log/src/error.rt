@@ -1,5 +1,4 @@
-use rip_values::NoMemory;
-use std::alloc::{AllocError, AllocFailed};
+use std::alloc::AllocFailed;
 use thiserror::Error;
 
 /// Why a log was not read.
@@ -21,36 +20,5 @@ impl<T: Drop> From<AllocFailed<T>> for LogRefusal {
 
     fn from(_: AllocFailed<T>) -> LogRefusal {
         LogRefusal::Memory
-    }
-}
-
-/// Why no entry was read of a line.
-#[derive(Clone, Copy, Debug, PartialEq, Eq)]
-pub(crate) enum LineError {
-    /// The line is that of no entry.
-    Other,
-    /// Memory ran out.
-    Memory,
-}
-
-impl From<NoMemory> for LineError {
-    ghost use Rattle.std.specs.Prelude.{◌≡◌};
-    ghost use Rattle.rip_log.specs.declared.error.LineError.TheVariants.{Memory};
-
-    ghost from_gives = { λ _ e. e ≡ Memory };
-
-    fn from(_: NoMemory) -> LineError {
-        LineError::Memory
-    }
-}
-
-impl From<AllocError> for LineError {
-    ghost use Rattle.std.specs.Prelude.{◌≡◌};
-    ghost use Rattle.rip_log.specs.declared.error.LineError.TheVariants.{Memory};
-
-    ghost from_gives = { λ _ e. e ≡ Memory };
-
-    fn from(_: AllocError) -> LineError {
-        LineError::Memory
     }
 }

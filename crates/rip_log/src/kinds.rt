@@ -12,11 +12,10 @@ ghost use Rattle.rip_log.specs.Ranges.{IsRecorded, IsServed, IsNoneOrEnding, IsS
 
 use crate::endings::ended_in;
 use crate::entry::Entry;
-use crate::error::LineError;
 use crate::parts::{args_in, identifier_in, items_in, name_in, reply_in};
 use crate::words::{Words, is_word};
 use rip_data::Datum;
-use rip_wire::{Batch, Call, MOST_BATCHES};
+use rip_wire::{Batch, Call, LineError, MOST_BATCHES};
 use std::alloc::Global;
 
 /// The entry whose line has these words.
@@ -165,7 +164,8 @@ fn served_in(alloc: Global, words: &mut Words<'_>) -> Result<Entry, LineError>
     ensures other { IsErrOf result LineError.Other
         → (turn session batch number : ℕ) (name : Sequence ℕ) (args : Sequence Tree) (time : ℕ)
         → (reply : Tree) → IsRecorded (served turn session batch number name args time reply)
-        → codes "serve" ∷ words.old ≢ entry_words (served turn session batch number name args time reply) }
+        → codes "serve" ∷ words.old ≢ entry_words
+        (served turn session batch number name args time reply) }
 {
     let Some(Head { turn, session }) = head_in(words) else {
         return Err(LineError::Other);

@@ -6,10 +6,11 @@ ghost use Rattle.rip_log.specs.Ranges.{IsRecorded};
 ghost use Rattle.rip_log.specs.Lines.{HasNoFeed};
 
 use crate::entry::{Entries, Entry};
-use crate::error::{LineError, LogRefusal};
+use crate::error::LogRefusal;
 use crate::kinds::entry_of;
 use crate::words::Words;
 use rip_values::List;
+use rip_wire::LineError;
 use std::alloc::Global;
 
 /// The history whose log the text is.

@@ -100,7 +100,8 @@ fn next_number(out: &mut Writer, n: u64) -> Result<(), NoMemory>
 
 /// Writes `WORD T S`.
 fn begin(out: &mut Writer, word: &[u8], turn: u64, session: u32) -> Result<(), NoMemory>
-    ensures { OnOk result (out.new ≡ out.old ++ word.now ++ 32 ∷ decimal turn ++ 32 ∷ decimal session) }
+    ensures { OnOk result
+        (out.new ≡ out.old ++ word.now ++ 32 ∷ decimal turn ++ 32 ∷ decimal session) }
 {
     out.text(word)?;
     next_number(out, turn)?;
@@ -164,7 +165,8 @@ fn write_name(name: &Units, alloc: Global) -> Result<Bytes, NoMemory>
 }
 
 fn write_string(text: &Units, out: &mut json::Writer, alloc: Global) -> Result<(), AllocError>
-    ensures tokens { OnOk result (out.new.tokens ≡ out.old.tokens ++ tokens_of (tree.text text.now)) }
+    ensures tokens { OnOk result
+        (out.new.tokens ≡ out.old.tokens ++ tokens_of (tree.text text.now)) }
     ensures before { out.new.before ≡ out.old.before }
 {
     let text = String::from_utf16_lossy(alloc, text.as_slice())?;

@@ -13,7 +13,7 @@ use Rattle.rip_values.proofs.TextLemmas.{IsSameText-units}
 use Rattle.rip_wire.specs.Items.{event_word, HasDetail}
 use Rattle.rip_wire.specs.declared.gesture.Gesture.{Gesture}
 use Rattle.rip_wire.specs.declared.gesture.Gesture.TheVariants.{Event, Flush}
-use Rattle.rip_trace.specs.declared.error.LineError.{LineError}
+use Rattle.rip_wire.specs.declared.error.LineError.{LineError}
 use Rattle.rip_trace.specs.Spaces.{HasNoSpace}
 use Rattle.rip_trace.specs.Gestures.{AreDetails, IsTarget, IsReported, IsGesture, IsGestureLine}
 use Rattle.rip_trace.proofs.Spaces.{both_true, NoSpace, no_space, decimal_no_space, space_cut, space_within, numeral_same}

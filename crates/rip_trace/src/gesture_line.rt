@@ -7,11 +7,10 @@ ghost use Rattle.rip_wire.specs.Items.{event_word};
 ghost use Rattle.rip_wire.specs.declared.gesture.Gesture.{Gesture as AnyGesture};
 ghost use Rattle.rip_trace.specs.Gestures.{IsTarget, IsReported, IsGestureLine};
 
-use crate::error::LineError;
 use crate::text::{behind, number_then, split_space};
 use rip_numerals::read_number;
 use rip_values::{EventKind, Report, TextError, Units};
-use rip_wire::Gesture;
+use rip_wire::{Gesture, LineError};
 use std::alloc::Global;
 
 /// The gesture that a line spells, or none of a comment.
@@ -67,7 +66,8 @@ fn target_in(alloc: Global, kind: EventKind, bytes: &[u8]) -> Result<Report, Lin
     ensures kind { IfOk result (λ r. r.kind ≡ kind) }
     ensures is { IfOk result (λ r. IsTarget bytes.now r.kind r.node r.text r.place) }
     ensures other { IsErrOf result LineError.Other
-        → (node : ℕ) (text : Option (List ℕ)) (place : Option ℕ) → ¬ IsTarget bytes.now kind node text place }
+        → (node : ℕ) (text : Option (List ℕ)) (place : Option ℕ)
+        → ¬ IsTarget bytes.now kind node text place }
 {
     match kind {
         EventKind::Input => input_in(alloc, bytes),

@@ -2,12 +2,11 @@ ghost use Rattle.std.specs.Prelude.{◌≡◌, ◌++◌, Option, OnOk, IfOk, IfE
 ghost use Rattle.rip_wire.specs.declared.gesture.Gesture.{Gesture as AnyGesture};
 ghost use Rattle.rip_trace.specs.Gestures.{IsGestureLine, lined, AreGestures, IsGestureRefusal};
 
-use crate::error::LineError;
 use crate::gesture_line::read_gesture;
 use crate::trace::TraceRefusal;
 use rip_outer::lines;
 use rip_values::List;
-use rip_wire::Gesture;
+use rip_wire::{Gesture, LineError};
 use std::alloc::Global;
 
 /// A gesture, and the number of the line that tells it, counted from 1.
@@ -45,7 +44,9 @@ fn add_line(
     line: u64,
     bytes: &[u8],
 ) -> Result<(), LineError>
-    ensures ok { OnOk result ((l : Option AnyGesture) × IsGestureLine bytes.now l × (gestures.new.items ≡ gestures.old.items ++ lined line l)) }
+    ensures ok { OnOk result
+        ((l : Option AnyGesture) × IsGestureLine bytes.now l
+        × (gestures.new.items ≡ gestures.old.items ++ lined line l)) }
     ensures other { IsErrOf result LineError.Other
         → (l : Option AnyGesture) → ¬ IsGestureLine bytes.now l }
 {

@@ -16,7 +16,6 @@
 //! proportion to its text, and takes the memory of its pieces.
 #![tactic(auto)]
 
-mod error;
 mod gesture_line;
 mod gestures;
 mod laws;

@@ -4,13 +4,13 @@ ghost use Rattle.rip_trace.specs.Lines.{Asked as Request, Line as AnyLine, momen
 ghost use Rattle.rip_trace.specs.Shown.{line_of};
 ghost use Rattle.rip_trace.specs.Spelling.{IsSpelled, IsWord, IsPiece, IsAsked};
 
-use crate::error::LineError;
 use crate::say::{Asked, asked_in};
 use crate::text::{behind, number_then};
 use hex::FromHexError;
 use rip_numerals::read_number;
 use rip_outer::MAX_PIECE;
 use rip_values::Bytes;
+use rip_wire::LineError;
 use std::alloc::Global;
 
 /// The last moment, in milliseconds.

@@ -9,12 +9,12 @@ ghost use Rattle.rip_trace.specs.Spelling.{IsSpelled};
 ghost use Rattle.rip_trace.specs.Steps.{also, with_line, MayFollowKnocks, IsAdded, AreWords};
 ghost use Rattle.rip_trace.specs.Traces.{IsTrace, IsRefusal};
 
-use crate::error::LineError;
 use crate::line::{Line, read_line, word_told};
 use crate::request::write_request;
 use crate::trace::{Trace, TraceRefusal};
 use rip_outer::{KnockError, KnockList, MAX_PIECE, TraceKnock, lines};
 use rip_values::{Bytes, List, NoMemory, NumberList};
+use rip_wire::LineError;
 use std::alloc::Global;
 use std::marker::Model;
 
@@ -88,7 +88,12 @@ impl Reading {
     /// The trace, with the moment of the turns behind its last knock.
     fn finish(self, words: NumberList) -> Result<Trace, NoMemory>
         ensures { IfOk result
-            (λ t. t ≡ record { knocks = self.knocks; moments = self.moments ++ self.now ∷ []; words = words }) }
+            (λ t. t ≡ record {
+              knocks = self.knocks;
+              moments = self.moments ++ self.now
+                  ∷ [];
+              words = words;
+            }) }
     {
         let mut moments = self.moments;
         moments.push(self.now)?;
@@ -152,7 +157,8 @@ impl Reading {
         ensures ok { OnOk result
             (self.new ≡ also self.old (map (TraceKnock.Bytes c) (in_pieces bytes.now))) }
         ensures allowed { OnOk result (IsLive (map knocked self.old.knocks) [] c) }
-        ensures other { IsErrOf result LineError.Other → ¬ IsLive (map knocked self.old.knocks) [] c }
+        ensures other { IsErrOf result LineError.Other → ¬ IsLive (map knocked self.old.knocks) []
+            c }
     {
         let mut rest = bytes;
         while !rest.is_empty() {

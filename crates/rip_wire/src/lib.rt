@@ -38,7 +38,7 @@ mod write;
 pub use answer::{Answer, ServedCall, ServedList};
 pub use body::{answer_body, write_answer};
 pub use ending::{Ending, Reason};
-pub use error::WireError;
+pub use error::{LineError, WireError};
 pub use gesture::Gesture;
 pub use item::{Batch, Item, ItemList, LONGEST_NAME, MOST_BATCHES, MOST_ITEMS};
 pub use laws::{

@@ -134,7 +134,8 @@ pub fn read_call(alloc: Global, text: &[u8]) -> Result<Call, WireError>
 // The call that the text is, as JSON.
 #[tactic(auto, using(crate::proofs::PartLemmas::no_pair, crate::proofs::PartLemmas::no_name, crate::proofs::PartLemmas::no_args))]
 fn call_of(alloc: Global, text: &[u8]) -> Result<Call, WireError>
-    ensures found { IfOk result (λ c. value_of text.now ≡ Some (call_value c.name (trees_in c.args))) }
+    ensures found { IfOk result
+        (λ c. value_of text.now ≡ Some (call_value c.name (trees_in c.args))) }
     ensures name { IfOk result (λ c. IsName c.name) }
     ensures args { IfOk result (λ c. AreArgs (trees_in c.args)) }
     ensures body { IsErrOf result WireError.Body
