@@ -89,7 +89,8 @@ pub fn load(alloc: Global, page: &[u8], manifest: &[u8]) -> Result<App, AppRefus
     // What is so is answered, unless memory runs out.
     ensures only { (loaded : Loaded) → AppOf page.now manifest.now loaded
         → MatchResult result (λ made. made ≡ loaded) (λ e. e ≡ AppRefusal.Memory) }
-    ensures first { (refusal : AppRefusal') → IsAppRefusal page.now manifest.now refusal → refusal ≢ AppRefusal.Memory
+    ensures first { (refusal : AppRefusal') → IsAppRefusal page.now manifest.now refusal
+        → refusal ≢ AppRefusal.Memory
         → MatchResult result (λ _. ⊥) (IsOrMemory refusal) }
 {
     application_of(alloc, page, manifest)

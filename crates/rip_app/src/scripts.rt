@@ -14,7 +14,9 @@ use std::alloc::Global;
 
 /// The program of the page's scripts, or the first cause why they have none.
 pub fn program_of(alloc: Global, page: &Page) -> Result<Program, AppRefusal>
-    ensures made { IfOk result (λ program. (trees : Items Plant) × AreSound page.now trees × (program ≡ program_of trees)) }
+    ensures made { IfOk result
+        (λ program. (trees : Items Plant) × AreSound page.now trees
+        × (program ≡ program_of trees)) }
     ensures refused { IfErr result (RefusesProgram page.now) }
 {
     let trees = trees_of(alloc, page)?;

@@ -84,7 +84,8 @@ impl<A> Client<A> {
         A: Actor<G>,
         requires { IsGesture gesture.now }
         ensures { IfOk result (λ told. (close : Closes) → ToldSo told.how close
-            → TellsGesture A.session gesture.now self.old.actor giver.old self.old.list.number self.old.waiting.items close
+            → TellsGesture A.session gesture.now self.old.actor giver.old self.old.list.number
+            self.old.waiting.items close
             (batches_of told.batches.items) self.new.actor giver.new self.new.list.number self.new.waiting.items) }
     {
         let number = self.list.number;
@@ -101,7 +102,8 @@ impl<A> Client<A> {
     where
         A: Actor<G>,
         requires { IsGesture gesture.now }
-        ensures { Comes (TellsList A.session gesture.now) (place_of self.old giver.old) result (place_of self.new giver.new) }
+        ensures { Comes (TellsList A.session gesture.now) (place_of self.old giver.old) result
+            (place_of self.new giver.new) }
     {
         let due = mem::replace(&mut self.waiting, Vec::new(alloc));
         self.tell_calls(alloc, giver)?;
@@ -130,7 +132,8 @@ impl<A> Client<A> {
     fn tell_replies<G>(&mut self, alloc: Global, giver: &mut G, due: &[u64]) -> Result<(), Stop>
     where
         A: Actor<G>,
-        ensures { Comes (TellsReplies A.session due.now) (place_of self.old giver.old) result (place_of self.new giver.new) }
+        ensures { Comes (TellsReplies A.session due.now) (place_of self.old giver.old) result
+            (place_of self.new giver.new) }
     {
         for number in due {
             self.tell(alloc, giver, Tale::Reply(*number))?;
@@ -144,7 +147,8 @@ impl<A> Client<A> {
     where
         A: Actor<G>,
         requires { IsGesture gesture.now }
-        ensures { Comes (TellsEvent A.session gesture.now) (place_of self.old giver.old) result (place_of self.new giver.new) }
+        ensures { Comes (TellsEvent A.session gesture.now) (place_of self.old giver.old) result
+            (place_of self.new giver.new) }
     {
         match gesture {
             Gesture::Event(report) => {
@@ -159,7 +163,8 @@ impl<A> Client<A> {
     fn tell_calls<G>(&mut self, alloc: Global, giver: &mut G) -> Result<(), Stop>
     where
         A: Actor<G>,
-        ensures { Comes (TellsCalls A.session) (place_of self.old giver.old) result (place_of self.new giver.new) }
+        ensures { Comes (TellsCalls A.session) (place_of self.old giver.old) result
+            (place_of self.new giver.new) }
     {
         for told in 0..u32::MAX {
             match self.actor.next_call(alloc)? {
@@ -174,7 +179,8 @@ impl<A> Client<A> {
     fn tell_call<G>(&mut self, alloc: Global, giver: &mut G, call: &WaitingCall) -> Result<(), Stop>
     where
         A: Actor<G>,
-        ensures { Comes (TellsCall A.session (waiting_of call.now)) (place_of self.old giver.old) result (place_of self.new giver.new) }
+        ensures { Comes (TellsCall A.session (waiting_of call.now)) (place_of self.old giver.old)
+            result (place_of self.new giver.new) }
     {
         self.tell(alloc, giver, Tale::Call(call))?;
         self.keep_waiting(call)?;
@@ -198,7 +204,8 @@ impl<A> Client<A> {
     where
         A: Actor<G>,
         requires { MayBeTold tale }
-        ensures { Comes (TellsItem A.session (IsTold tale.entry)) (place_of self.old giver.old) result (place_of self.new giver.new) }
+        ensures { Comes (TellsItem A.session (IsTold tale.entry)) (place_of self.old giver.old)
+            result (place_of self.new giver.new) }
     {
         let size = text_size(alloc, tale)?;
         let item = item_of(alloc, tale)?;

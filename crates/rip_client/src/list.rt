@@ -81,7 +81,8 @@ impl Telling {
 
     /// Closes the open batch, and opens the next.
     pub(crate) fn close(&mut self, alloc: Global) -> Result<(), NoMemory>
-        ensures closed { OnOk result (batches_of self.new.closed.items ≡ batches_of self.old.closed.items
+        ensures closed { OnOk result
+            (batches_of self.new.closed.items ≡ batches_of self.old.closed.items
             ++ record { number = self.old.number; items = map reported_of self.old.items.items } ∷ []) }
         ensures number { OnOk result (self.new.number ≡ self.old.number + 1) }
         ensures items { OnOk result (self.new.items.items ≡ []) }

@@ -94,7 +94,8 @@ fn text_of(alloc: Global, report: &Report) -> Result<Option<Units>, NoMemory>
 /// The bytes of the text of the item that tells it.
 pub(crate) fn text_size(alloc: Global, tale: Tale<'_>) -> Result<usize, NoMemory>
     requires { MayBeTold tale }
-    ensures { IfOk result (λ size. (item : Reported) → IsTold tale.entry item → size ≡ size_of item) }
+    ensures { IfOk result
+        (λ size. (item : Reported) → IsTold tale.entry item → size ≡ size_of item) }
 {
     let item = item_of(alloc, tale)?;
     item_size(alloc, item)

@@ -18,11 +18,14 @@ pub trait Service {
     /// The reply to a call of this name with these args, three times. Want of memory leaves all as before.
     fn reply(&mut self, alloc: Global, name: &Units, args: &DatumList) -> Result<Replies, NoMemory>
         requires { AreArgs (trees_in args.now) }
-        ensures replies { (service : Meant) (calls : List Called) → replies_as self.old service calls
+        ensures replies { (service : Meant) (calls : List Called)
+            → replies_as self.old service calls
             → IfOk result (AreReplies (service calls (name.now, trees_in args.now))) }
         ensures called { (service : Meant) (calls : List Called) → replies_as self.old service calls
-            → OnOk result (replies_as self.new service (calls ++ (name.now, trees_in args.now) ∷ [])) }
-        ensures accepted { (service : Meant) (calls : List Called) → replies_as self.old service calls
+            → OnOk result (replies_as self.new service
+            (calls ++ (name.now, trees_in args.now) ∷ [])) }
+        ensures accepted { (service : Meant) (calls : List Called)
+            → replies_as self.old service calls
             → IfOk result AreAcceptedReplies }
         ensures memory { (service : Meant) (calls : List Called) → replies_as self.old service calls
             → OnErr result (replies_as self.new service calls) };

@@ -57,7 +57,8 @@ pub trait Sessions {
     /// Admits a batch to a session. It is handed back for want of memory alone, and then the session is as before.
     fn admit(&self, alloc: Global, session: &mut Self::Session, batch: Batch) -> Result<(), Batch>
         requires { IsBatch (contents_of batch) }
-        ensures admitted { (st : Stage) → stands self.now session.old st → MayAdmit (meaning self.now) st (contents_of batch)
+        ensures admitted { (st : Stage) → stands self.now session.old st
+            → MayAdmit (meaning self.now) st (contents_of batch)
             → OnOk result (stands self.now session.new (with_batch (contents_of batch) st)) }
         ensures memory { OnErr result (session.new ≡ session.old) }
         ensures back { IfErr result (λ b. b ≡ batch) };

@@ -57,7 +57,8 @@ pub fn write_list(list: &DatumList, out: &mut Writer, alloc: Global) -> Result<(
 // The elements and the closing bracket.
 #[cycle(write)]
 fn write_elements(items: &Vec<Datum>, out: &mut Writer, alloc: Global) -> Result<(), AllocError>
-    ensures tokens { OnOk result (out.new.tokens ≡ out.old.tokens ++ element_tokens items.now.items) }
+    ensures tokens { OnOk result
+        (out.new.tokens ≡ out.old.tokens ++ element_tokens items.now.items) }
     ensures before { out.new.before ≡ out.old.before }
 {
     for item in items {
@@ -73,7 +74,8 @@ fn write_fields(
     out: &mut Writer,
     alloc: Global,
 ) -> Result<(), AllocError>
-    ensures tokens { OnOk result (out.new.tokens ≡ out.old.tokens ++ field_tokens fields.now.items) }
+    ensures tokens { OnOk result
+        (out.new.tokens ≡ out.old.tokens ++ field_tokens fields.now.items) }
     ensures before { out.new.before ≡ out.old.before }
 {
     for field in fields {

@@ -147,7 +147,8 @@ impl Dom {
 
     /// A new node with this text, which stands nowhere yet.
     pub fn create_text(&mut self, alloc: Global, text: Span) -> Result<u32, Refused>
-        ensures { Makes (new_node self.old NodeKind.Text None (Some text)) self.old result self.new }
+        ensures { Makes (new_node self.old NodeKind.Text None (Some text)) self.old result
+            self.new }
     {
         self.add_node(NodeRecord {
             kind: NodeKind::Text,

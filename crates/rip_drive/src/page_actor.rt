@@ -40,7 +40,8 @@ impl PageActor {
     pub fn open(&mut self, alloc: Global, store: &mut Store) -> Result<rip_whole::Over, NoMemory>
         ensures { (d : Doing Task Browser) (service : Meant)
             → IsBegun self.old.app d self.old.session.replica → RepliesAs store.old service []
-            → IfOk result (λ over. IsOpened self.new.app d over self.new.session.replica store.new service) }
+            → IfOk result (λ over. IsOpened self.new.app d over self.new.session.replica store.new
+            service) }
     {
         let program = self.app.program();
         play_next(alloc, &mut self.session.replica, program, store, 0)

@@ -37,7 +37,10 @@ pub(crate) fn parents_of(alloc: Global, tree: &Tree) -> Result<Vec<Option<u32>>,
 /// Notes a node as the parent of its children that have none yet.
 fn note_children(parents: &mut Vec<Option<u32>>, children: &[Option<u32>], id: u32)
     ensures many { length parents.new.items ≡ length parents.old.items }
-    ensures noted { (node : ℕ) → node < length parents.old.items → slice_index_or parents.new.items node None ≡ option_or (slice_index_or parents.old.items node None) (if holds node children.now then Some id else None) }
+    ensures noted { (node : ℕ) → node < length parents.old.items
+        → slice_index_or parents.new.items node None
+        ≡ option_or (slice_index_or parents.old.items node None)
+        (if holds node children.now then Some id else None) }
 {
     for child in children {
         note_child(parents, *child, id);
@@ -47,7 +50,10 @@ fn note_children(parents: &mut Vec<Option<u32>>, children: &[Option<u32>], id: u
 /// Notes a node as the parent of a child that has none yet.
 fn note_child(parents: &mut Vec<Option<u32>>, child: Option<u32>, id: u32)
     ensures many { length parents.new.items ≡ length parents.old.items }
-    ensures noted { (node : ℕ) → node < length parents.old.items → slice_index_or parents.new.items node None ≡ option_or (slice_index_or parents.old.items node None) (if holds node (child ∷ []) then Some id else None) }
+    ensures noted { (node : ℕ) → node < length parents.old.items
+        → slice_index_or parents.new.items node None
+        ≡ option_or (slice_index_or parents.old.items node None)
+        (if holds node (child ∷ []) then Some id else None) }
 {
     if let Some(number) = child {
         let place = number as usize;
@@ -64,7 +70,8 @@ pub(crate) fn contexts_of(
     parents: &[Option<u32>],
 ) -> Result<Vec<Context>, NoMemory>
     requires { AreParents tree.now parents.now }
-    ensures { IfOk result (λ contexts. AreContexts tree.now (length tree.now.branches) contexts.items) }
+    ensures { IfOk result
+        (λ contexts. AreContexts tree.now (length tree.now.branches) contexts.items) }
 {
     let mut contexts = Vec::new(alloc);
     for id in 0..tree.count() {

@@ -65,7 +65,8 @@ pub(crate) fn name_of(tree: &Tree, piece: Option<Piece>) -> Option<&[u16]>
 
 /// What a child names as a parameter.
 fn parameter_name(tree: &Tree, child: Option<u32>) -> Option<&[u16]>
-    ensures { option_map (λ n. n.now) result ≡ name_of_child (name_by parameter_piece tree.now) child }
+    ensures { option_map (λ n. n.now) result ≡ name_of_child (name_by parameter_piece tree.now)
+        child }
 {
     match child {
         Some(id) => name_of(tree, parameter_piece(form_of(tree, id))),
@@ -75,7 +76,8 @@ fn parameter_name(tree: &Tree, child: Option<u32>) -> Option<&[u16]>
 
 /// What a child names as a declaration of a function.
 fn declared_name(tree: &Tree, child: Option<u32>) -> Option<&[u16]>
-    ensures { option_map (λ n. n.now) result ≡ name_of_child (name_by declared_piece tree.now) child }
+    ensures { option_map (λ n. n.now) result ≡ name_of_child (name_by declared_piece tree.now)
+        child }
 {
     match child {
         Some(id) => name_of(tree, declared_piece(form_of(tree, id))),
@@ -91,7 +93,8 @@ pub(crate) fn add_parameters<'a>(
 ) -> Result<(), NoMemory>
     requires { IsIndexed names.old }
     ensures kept { OnOk result (IsIndexed names.new) }
-    ensures added { OnOk result (names_of names.new ≡ fold with_name (names_of names.old) (parameter_names tree.now id)) }
+    ensures added { OnOk result
+        (names_of names.new ≡ fold with_name (names_of names.old) (parameter_names tree.now id)) }
 {
     let links = tree.children(id);
     for child in links {
@@ -108,7 +111,8 @@ pub(crate) fn add_functions<'a>(
 ) -> Result<(), NoMemory>
     requires { IsIndexed names.old }
     ensures kept { OnOk result (IsIndexed names.new) }
-    ensures added { OnOk result (names_of names.new ≡ fold with_name (names_of names.old) (function_names tree.now id)) }
+    ensures added { OnOk result
+        (names_of names.new ≡ fold with_name (names_of names.old) (function_names tree.now id)) }
 {
     let links = tree.children(id);
     for child in links {
@@ -141,7 +145,8 @@ pub(crate) fn add_vars<'a>(
     requires listed { order.now ≡ in_text tree.now }
     requires within { All (λ id. id < length tree.now.branches) order.now }
     ensures kept { OnOk result (IsIndexed names.new) }
-    ensures added { OnOk result (names_of names.new ≡ fold with_name (names_of names.old) (var_names tree.now home)) }
+    ensures added { OnOk result
+        (names_of names.new ≡ fold with_name (names_of names.old) (var_names tree.now home)) }
 {
     for id in order {
         let context = contexts[*id as usize];
@@ -179,7 +184,10 @@ fn push_place(
     name: Option<&[u16]>,
 ) -> Result<(), NoMemory>
     requires { IsIndexed names.now }
-    ensures { OnOk result (places.new.items ≡ places.old.items ++ option_to_list (option_and_then (place_in (names_of names.now)) (option_map (λ n. n.now) name.entry))) }
+    ensures { OnOk result
+        (places.new.items ≡ places.old.items
+        ++ option_to_list (option_and_then (place_in (names_of names.now))
+        (option_map (λ n. n.now) name.entry))) }
 {
     if let Some(name) = name {
         if let Some(place) = names.place(name) {

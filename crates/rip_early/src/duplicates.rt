@@ -39,7 +39,8 @@ pub(crate) fn duplicate(
 
 /// The first early error of the names of the parameters of a function.
 fn duplicate_parameter(alloc: Global, tree: &Tree, id: u32) -> Result<Option<Mistake>, NoMemory>
-    ensures { IfOk result (IsLeast (repeated (filter_map (placed_parameter tree.now) (child_nodes tree.now id)))) }
+    ensures { IfOk result
+        (IsLeast (repeated (filter_map (placed_parameter tree.now) (child_nodes tree.now id)))) }
 {
     let names = placed_parameters(alloc, tree, id)?;
     repeated(alloc, &names)
@@ -47,7 +48,8 @@ fn duplicate_parameter(alloc: Global, tree: &Tree, id: u32) -> Result<Option<Mis
 
 /// The first early error of the keys of an object literal.
 fn duplicate_key(alloc: Global, tree: &Tree, id: u32) -> Result<Option<Mistake>, NoMemory>
-    ensures { IfOk result (IsLeast (repeated (filter_map (placed_entry tree.now) (child_nodes tree.now id)))) }
+    ensures { IfOk result
+        (IsLeast (repeated (filter_map (placed_entry tree.now) (child_nodes tree.now id)))) }
 {
     let names = placed_entries(alloc, tree, id)?;
     repeated(alloc, &names)
@@ -55,7 +57,8 @@ fn duplicate_key(alloc: Global, tree: &Tree, id: u32) -> Result<Option<Mistake>,
 
 /// The names of the parameters of a function, each with its place.
 fn placed_parameters(alloc: Global, tree: &Tree, id: u32) -> Result<Vec<Placed>, NoMemory>
-    ensures { IfOk result (λ names. names.items ≡ filter_map (placed_parameter tree.now) (child_nodes tree.now id)) }
+    ensures { IfOk result
+        (λ names. names.items ≡ filter_map (placed_parameter tree.now) (child_nodes tree.now id)) }
 {
     let mut names = Vec::new(alloc);
     let links = tree.children(id);
@@ -67,7 +70,8 @@ fn placed_parameters(alloc: Global, tree: &Tree, id: u32) -> Result<Vec<Placed>,
 
 /// The keys of an object literal, each with its place.
 fn placed_entries(alloc: Global, tree: &Tree, id: u32) -> Result<Vec<Placed>, NoMemory>
-    ensures { IfOk result (λ names. names.items ≡ filter_map (placed_entry tree.now) (child_nodes tree.now id)) }
+    ensures { IfOk result
+        (λ names. names.items ≡ filter_map (placed_entry tree.now) (child_nodes tree.now id)) }
 {
     let mut names = Vec::new(alloc);
     let links = tree.children(id);
@@ -93,7 +97,9 @@ fn placed_parameter(
     tree: &Tree,
     child: Option<u32>,
 ) -> Result<Option<Placed>, NoMemory>
-    ensures { IfOk result (λ placed. placed ≡ option_and_then (placed_parameter tree.now) (option_and_then (node_of tree.now.branches) child)) }
+    ensures { IfOk result
+        (λ placed. placed ≡ option_and_then (placed_parameter tree.now)
+        (option_and_then (node_of tree.now.branches) child)) }
 {
     match node_at(tree, child) {
         Some(node) => placed_by(alloc, tree, &node),
@@ -103,7 +109,9 @@ fn placed_parameter(
 
 /// The key of a child that is an entry, with its place.
 fn placed_entry(alloc: Global, tree: &Tree, child: Option<u32>) -> Result<Option<Placed>, NoMemory>
-    ensures { IfOk result (λ placed. placed ≡ option_and_then (placed_entry tree.now) (option_and_then (node_of tree.now.branches) child)) }
+    ensures { IfOk result
+        (λ placed. placed ≡ option_and_then (placed_entry tree.now)
+        (option_and_then (node_of tree.now.branches) child)) }
 {
     match node_at(tree, child) {
         Some(node) => placed_by_key(alloc, tree, &node),

@@ -35,7 +35,9 @@ pub(crate) enum Looked {
 /// Looks for a name in a scope.
 fn look_in(names: &Names<'_>, up: u32, name: &[u16]) -> Result<Looked, NoMemory>
     requires { IsIndexed names.now }
-    ensures { IfOk result (λ looked. (rest : List Scope) → meaning_in up (scope_of_names (names_of names.now) ∷ rest) name.now ≡ after looked rest name.now) }
+    ensures { IfOk result
+        (λ looked. (rest : List Scope) → meaning_in up (scope_of_names (names_of names.now) ∷ rest)
+        name.now ≡ after looked rest name.now) }
 {
     match names.place(name) {
         Some(place) => Ok(Looked::Found(Meaning {
@@ -48,7 +50,10 @@ fn look_in(names: &Names<'_>, up: u32, name: &[u16]) -> Result<Looked, NoMemory>
 
 /// Looks for a name in a scope of one name.
 fn look_at(own: &[u16], is_own: bool, up: u32, name: &[u16]) -> Result<Looked, NoMemory>
-    ensures { IfOk result (λ looked. (rest : List Scope) → meaning_in up (record { names = own.now ∷ []; is_own = is_own } ∷ rest) name.now ≡ after looked rest name.now) }
+    ensures { IfOk result
+        (λ looked. (rest : List Scope)
+        → meaning_in up (record { names = own.now ∷ []; is_own = is_own } ∷ rest) name.now
+        ≡ after looked rest name.now) }
 {
     if own == name {
         return Ok(Looked::Found(Meaning {
@@ -61,7 +66,9 @@ fn look_at(own: &[u16], is_own: bool, up: u32, name: &[u16]) -> Result<Looked, N
 
 /// Looks for a name in the scope of a function expression's own name, if it has one.
 fn look_at_own(tree: &Tree, own: Option<Piece>, up: u32, name: &[u16]) -> Result<Looked, NoMemory>
-    ensures { IfOk result (λ looked. (rest : List Scope) → meaning_in up (own_scope tree.now own ++ rest) name.now ≡ after looked rest name.now) }
+    ensures { IfOk result
+        (λ looked. (rest : List Scope) → meaning_in up (own_scope tree.now own ++ rest) name.now
+        ≡ after looked rest name.now) }
 {
     match own {
         Some(piece) => look_at(tree.units(piece), true, up, name),
@@ -78,7 +85,10 @@ fn look_in_function(
     name: &[u16],
 ) -> Result<Looked, NoMemory>
     requires { IsIndexed names.now }
-    ensures { IfOk result (λ looked. (rest : List Scope) → meaning_in up (scope_of_names (names_of names.now) ∷ own_scope tree.now own ++ rest) name.now ≡ after looked rest name.now) }
+    ensures { IfOk result
+        (λ looked. (rest : List Scope)
+        → meaning_in up (scope_of_names (names_of names.now) ∷ own_scope tree.now own ++ rest)
+        name.now ≡ after looked rest name.now) }
 {
     match look_in(names, up, name)? {
         Looked::Found(meaning) => Ok(Looked::Found(meaning)),
@@ -98,7 +108,10 @@ fn look_within(
     requires top { IsIndexed top.now }
     requires kept { IsIndexed scope.now }
     requires named { names_of scope.now ≡ function_scope tree.now id }
-    ensures { IfOk result (λ looked. (rest : List Scope) → meaning_in up (scopes_made (names_of top.now) tree.now id (form_of tree.now id) ++ rest) name.now ≡ after looked rest name.now) }
+    ensures { IfOk result
+        (λ looked. (rest : List Scope)
+        → meaning_in up (scopes_made (names_of top.now) tree.now id (form_of tree.now id) ++ rest)
+        name.now ≡ after looked rest name.now) }
 {
     match form_of(tree, id) {
         Form::Script => look_in(top, up, name),
@@ -123,7 +136,9 @@ pub(crate) fn meaning_of(
     requires top { IsIndexed top.now }
     requires contexts { AreContexts tree.now (length tree.now.branches) contexts.now }
     requires scopes { AreScopes tree.now scopes.now }
-    ensures { IfOk result (λ meaning. meaning ≡ meaning_in 0 (scopes_around (names_of top.now) tree.now id) name.now) }
+    ensures { IfOk result
+        (λ meaning. meaning ≡ meaning_in 0 (scopes_around (names_of top.now) tree.now id)
+        name.now) }
 {
     let mut up = 0;
     let mut maker = contexts[id as usize].maker;

@@ -68,7 +68,9 @@ impl<'a> Names<'a> {
     pub fn add_any(&mut self, name: Option<&'a [u16]>) -> Result<(), NoMemory>
         requires { IsIndexed self.old }
         ensures kept { OnOk result (IsIndexed self.new) }
-        ensures added { OnOk result (names_of self.new ≡ with_any (names_of self.old) (option_map (λ n. n.now) name.entry)) }
+        ensures added { OnOk result
+            (names_of self.new ≡ with_any (names_of self.old)
+            (option_map (λ n. n.now) name.entry)) }
     {
         match name {
             Some(name) => self.add(name),

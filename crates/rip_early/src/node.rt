@@ -30,7 +30,9 @@ pub(crate) fn node_mistake(
     requires top { IsIndexed top.now }
     requires contexts { AreContexts tree.now (length tree.now.branches) contexts.now }
     requires scopes { AreScopes tree.now scopes.now }
-    ensures { IfOk result (λ least. IsLeast (mistakes_of (names_of top.now) tree.now id (node_of tree.now.branches id)) least) }
+    ensures { IfOk result
+        (λ least. IsLeast (mistakes_of (names_of top.now) tree.now id
+        (node_of tree.now.branches id)) least) }
 {
     let node = tree.node(id);
     let twice = duplicate(alloc, tree, id, node)?;

@@ -31,7 +31,9 @@ fn list(order: &mut Vec<u32>, tree: &Tree, levels: u32, id: u32) -> Result<(), N
 /// Adds the nodes below a node, so many levels down from each of its children.
 #[cycle(lists)]
 fn list_below(order: &mut Vec<u32>, tree: &Tree, levels: u32, id: u32) -> Result<(), NoMemory>
-    ensures { OnOk result (order.new.items ≡ order.old.items ++ flat_map (in_text_within levels tree.now) (children_of tree.now id)) }
+    ensures { OnOk result
+        (order.new.items ≡ order.old.items ++ flat_map (in_text_within levels tree.now)
+        (children_of tree.now id)) }
 {
     for child in tree.children(id) {
         if let Some(child) = child {

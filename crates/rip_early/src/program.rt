@@ -70,8 +70,11 @@ fn resolution_of(
     requires kept { IsIndexed top.now }
     requires named { names_of top.now ≡ top_scope scripts.now }
     ensures clean { OnOk result (AreClean scripts.now) }
-    ensures scoping { IfOk result (λ said. said.scoping.items ≡ flat_map (script_scoping (top_scope scripts.now)) scripts.now) }
-    ensures vars { IfOk result (λ said. said.vars.items ≡ map (declared_places (top_scope scripts.now)) scripts.now) }
+    ensures scoping { IfOk result
+        (λ said. said.scoping.items ≡ flat_map (script_scoping (top_scope scripts.now))
+        scripts.now) }
+    ensures vars { IfOk result
+        (λ said. said.vars.items ≡ map (declared_places (top_scope scripts.now)) scripts.now) }
     ensures first { IfErr result (IsRefusalOf scripts.now) }
 {
     let mut said = Resolution {
@@ -108,8 +111,12 @@ fn judge(
 ) -> Result<Option<Mistake>, NoMemory>
     requires { IsIndexed top.now }
     ensures least { IfOk result (λ least. IsLeast (mistakes (names_of top.now) tree.now) least) }
-    ensures scoping { IfOk result (λ least. least ≡ None → said.new.scoping.items ≡ said.old.scoping.items ++ script_scoping (names_of top.now) tree.now) }
-    ensures vars { IfOk result (λ least. least ≡ None → said.new.vars.items ≡ said.old.vars.items ++ declared_places (names_of top.now) tree.now ∷ []) }
+    ensures scoping { IfOk result
+        (λ least. least ≡ None → said.new.scoping.items ≡ said.old.scoping.items
+        ++ script_scoping (names_of top.now) tree.now) }
+    ensures vars { IfOk result
+        (λ least. least ≡ None → said.new.vars.items ≡ said.old.vars.items
+        ++ declared_places (names_of top.now) tree.now ∷ []) }
 {
     let parents = parents_of(alloc, tree)?;
     let contexts = contexts_of(alloc, tree, &parents)?;
@@ -136,7 +143,8 @@ fn push_scoping(
     requires top { IsIndexed top.now }
     requires contexts { AreContexts tree.now (length tree.now.branches) contexts.now }
     requires scopes { AreScopes tree.now scopes.now }
-    ensures { OnOk result (scoping.new.items ≡ scoping.old.items ++ script_scoping (names_of top.now) tree.now) }
+    ensures { OnOk result
+        (scoping.new.items ≡ scoping.old.items ++ script_scoping (names_of top.now) tree.now) }
 {
     for id in 0..tree.count() {
         let said = scoping_at(tree, top, contexts, scopes, id)?;
@@ -195,7 +203,8 @@ fn node_meaning(
     requires top { IsIndexed top.now }
     requires contexts { AreContexts tree.now (length tree.now.branches) contexts.now }
     requires scopes { AreScopes tree.now scopes.now }
-    ensures { IfOk result (λ meaning. meaning ≡ node_meaning (names_of top.now) tree.now id (form_of tree.now id)) }
+    ensures { IfOk result
+        (λ meaning. meaning ≡ node_meaning (names_of top.now) tree.now id (form_of tree.now id)) }
 {
     match form_of(tree, id) {
         Form::Name(name) | Form::Declarator(name) | Form::Parameter(name) => {

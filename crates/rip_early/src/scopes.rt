@@ -31,7 +31,9 @@ pub(crate) fn top_names<'a>(alloc: Global, trees: &'a [Tree]) -> Result<Names<'a
 fn add_script<'a>(alloc: Global, names: &mut Names<'a>, tree: &'a Tree) -> Result<(), NoMemory>
     requires { IsIndexed names.old }
     ensures kept { OnOk result (IsIndexed names.new) }
-    ensures added { OnOk result (names_of names.new ≡ fold with_name (fold with_name (names_of names.old) (function_names tree.now 0)) (var_names tree.now 0)) }
+    ensures added { OnOk result
+        (names_of names.new ≡ fold with_name
+        (fold with_name (names_of names.old) (function_names tree.now 0)) (var_names tree.now 0)) }
 {
     let parents = parents_of(alloc, tree)?;
     let contexts = contexts_of(alloc, tree, &parents)?;
@@ -59,7 +61,8 @@ pub(crate) fn scopes_of<'a>(
 
 /// Of each node the names of its parameters and functions.
 fn declared_scopes<'a>(alloc: Global, tree: &'a Tree) -> Result<Vec<Names<'a>>, NoMemory>
-    ensures { IfOk result (λ scopes. AreGathered tree.now 0 (length tree.now.branches) scopes.items) }
+    ensures { IfOk result
+        (λ scopes. AreGathered tree.now 0 (length tree.now.branches) scopes.items) }
 {
     let mut scopes = Vec::new(alloc);
     for id in 0..tree.count() {
@@ -71,7 +74,9 @@ fn declared_scopes<'a>(alloc: Global, tree: &'a Tree) -> Result<Vec<Names<'a>>, 
 /// The names of the parameters and functions of a node.
 fn declared_scope<'a>(alloc: Global, tree: &'a Tree, id: u32) -> Result<Names<'a>, NoMemory>
     ensures kept { IfOk result IsIndexed }
-    ensures named { IfOk result (λ names. names_of names ≡ fold with_name (fold with_name [] (parameter_names tree.now id)) (function_names tree.now id)) }
+    ensures named { IfOk result
+        (λ names. names_of names ≡ fold with_name (fold with_name [] (parameter_names tree.now id))
+        (function_names tree.now id)) }
 {
     let mut names = Names::new(alloc);
     add_parameters(&mut names, tree, id)?;
@@ -106,10 +111,17 @@ fn add_var<'a>(
     home: Option<u32>,
     name: Option<&'a [u16]>,
 ) -> Result<(), NoMemory>
-    requires { (id : ℕ) (d : Names) → id < length scopes.old.items → IsIndexed (slice_index_or scopes.old.items id d) }
+    requires { (id : ℕ) (d : Names) → id < length scopes.old.items
+        → IsIndexed (slice_index_or scopes.old.items id d) }
     ensures many { length scopes.new.items ≡ length scopes.old.items }
-    ensures kept { OnOk result ((id : ℕ) (d : Names) → id < length scopes.old.items → IsIndexed (slice_index_or scopes.new.items id d)) }
-    ensures added { OnOk result ((id : ℕ) (d : Names) → id < length scopes.old.items → names_of (slice_index_or scopes.new.items id d) ≡ with_any (names_of (slice_index_or scopes.old.items id d)) (if is_number home id then option_map (λ n. n.now) name.entry else None)) }
+    ensures kept { OnOk result
+        ((id : ℕ) (d : Names) → id < length scopes.old.items
+        → IsIndexed (slice_index_or scopes.new.items id d)) }
+    ensures added { OnOk result
+        ((id : ℕ) (d : Names) → id < length scopes.old.items
+        → names_of (slice_index_or scopes.new.items id d)
+        ≡ with_any (names_of (slice_index_or scopes.old.items id d))
+        (if is_number home id then option_map (λ n. n.now) name.entry else None)) }
 {
     if let Some(number) = home {
         let place = number as usize;

@@ -35,7 +35,8 @@ fn is_strict(tree: &Tree) -> bool
 /// Whether a statement is the directive, by its first child.
 fn begins_with_text(tree: &Tree, statement: u32) -> bool
     requires { statement < length tree.now.branches }
-    ensures { result ≡ is_directive tree.now (node_of tree.now.branches statement) (first_child tree.now statement) }
+    ensures { result ≡ is_directive tree.now (node_of tree.now.branches statement)
+        (first_child tree.now statement) }
 {
     match tree.child(statement, 0) {
         Some(text) => is_directive(tree, tree.node(statement), tree.node(text)),

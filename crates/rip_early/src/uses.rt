@@ -30,7 +30,8 @@ pub(crate) fn bad_use(
     requires top { IsIndexed top.now }
     requires contexts { AreContexts tree.now (length tree.now.branches) contexts.now }
     requires scopes { AreScopes tree.now scopes.now }
-    ensures { IfOk result (IsLeast (bad_uses (names_of top.now) tree.now id node.now.place node.now.form)) }
+    ensures { IfOk result
+        (IsLeast (bad_uses (names_of top.now) tree.now id node.now.place node.now.form)) }
 {
     let place = node.place;
     let context = contexts[id as usize];
@@ -61,7 +62,8 @@ pub(crate) fn mistake_if(is: bool, place: u32, kind: EarlyKind) -> Option<Mistak
 
 /// The early error of a unary operator: `delete` of a name.
 fn bad_operand(tree: &Tree, id: u32, place: u32, operator: UnaryOperator) -> Option<Mistake>
-    ensures { IsLeast (where_so (is_delete operator && is_name (first_child tree.now id)) (mistake place BadDelete)) result }
+    ensures { IsLeast (where_so (is_delete operator && is_name (first_child tree.now id))
+        (mistake place BadDelete)) result }
 {
     mistake_if(
         matches!(operator, UnaryOperator::Delete) && is_name(first_child(tree, id)),
@@ -111,7 +113,8 @@ fn is_known(
     requires top { IsIndexed top.now }
     requires contexts { AreContexts tree.now (length tree.now.branches) contexts.now }
     requires scopes { AreScopes tree.now scopes.now }
-    ensures { IfOk result (λ known. known ≡ is_some (meaning_at (names_of top.now) tree.now id name).resolved) }
+    ensures { IfOk result
+        (λ known. known ≡ is_some (meaning_at (names_of top.now) tree.now id name).resolved) }
 {
     let meaning = meaning_of(tree, top, contexts, scopes, id, tree.units(name))?;
     Ok(meaning.resolved.is_some())

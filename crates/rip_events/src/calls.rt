@@ -43,7 +43,8 @@ impl Cursor {
     }
 
     fn next_here(&self, pool: &Pool, all: &Listeners) -> Option<(Station, u32)>
-        ensures next { result ≡ called_here pool.now self.now.kind all.now self.now.next self.now.mark
+        ensures next { result ≡ called_here pool.now self.now.kind all.now self.now.next
+            self.now.mark
             self.now.here }
         ensures within { IfSome result (λ r. r.1 < length all.now.registered) }
     {

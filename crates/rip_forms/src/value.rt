@@ -25,7 +25,8 @@ impl Forms {
         pool: &mut Pool,
         n: u32,
     ) -> Result<Span, TextRefused>
-        ensures { ReadsValue dom.now (value_of pool.old dom.now self.now n) pool.old result pool.new }
+        ensures { ReadsValue dom.now (value_of pool.old dom.now self.now n) pool.old result
+            pool.new }
     {
         match self.value_of(dom, pool, n) {
             Value::Stands(text) => Ok(text),

@@ -96,7 +96,8 @@ impl Undelivered {
 
     /// The reply that is due to this call in this batch: it was served in a batch before, and is not delivered.
     pub fn due(&self, number: u64, batch: u64) -> Option<&WaitingReply>
-        ensures { MatchOption result (due number batch self.now ≡ None) (λ r. due number batch self.now ≡ Some r.now) }
+        ensures { MatchOption result (due number batch self.now ≡ None)
+            (λ r. due number batch self.now ≡ Some r.now) }
     {
         let place = self.place(number, batch);
         match place {
@@ -142,7 +143,8 @@ impl Browser {
     /// call has a callback. It takes no memory.
     pub fn serve(&mut self, batch: u64, time: Whole, reply: Datum)
         requires waits { waiting self.old.calls ≢ [] }
-        requires room { front_callback self.old.calls ≢ None → length self.old.undelivered < most_replies }
+        requires room { front_callback self.old.calls ≢ None → length self.old.undelivered
+            < most_replies }
         requires number { self.old.calls.taken + 1 < 2 ^ 64 }
         ensures served { self.new ≡ call_served self.old batch time (tree_of reply) }
         ensures fits { (w : World) → Fits self.old w → Fits self.new w }

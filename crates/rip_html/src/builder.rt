@@ -28,8 +28,12 @@ impl Builder {
 
     /// Adds the node that a token makes, if any.
     fn take(&mut self, alloc: Global, token: Token) -> Result<(), NoMemory>
-        ensures nodes { OnOk result (self.new.nodes.items ≡ self.old.nodes.items ++ token_nodes (parent_of self.old.open.items) token) }
-        ensures open { OnOk result (self.new.open.items ≡ open_after self.old.open.items (length self.old.nodes.items) token) }
+        ensures nodes { OnOk result
+            (self.new.nodes.items ≡ self.old.nodes.items
+            ++ token_nodes (parent_of self.old.open.items) token) }
+        ensures open { OnOk result
+            (self.new.open.items ≡ open_after self.old.open.items (length self.old.nodes.items)
+            token) }
     {
         match token {
             Token::Text(run) => self.add_text(alloc, run.units),
@@ -45,7 +49,9 @@ impl Builder {
 
     /// Adds a text, where texts are kept and it isn't empty.
     fn add_text(&mut self, alloc: Global, units: Units) -> Result<(), NoMemory>
-        ensures nodes { OnOk result (self.new.nodes.items ≡ self.old.nodes.items ++ if_kept (parent_of self.old.open.items) (text_nodes (parent_of self.old.open.items) units)) }
+        ensures nodes { OnOk result
+            (self.new.nodes.items ≡ self.old.nodes.items ++ if_kept (parent_of self.old.open.items)
+            (text_nodes (parent_of self.old.open.items) units)) }
         ensures open { self.new.open.items ≡ self.old.open.items }
     {
         let parent = self.parent();
@@ -58,7 +64,9 @@ impl Builder {
 
     /// Adds a comment, where comments are kept.
     fn add_comment(&mut self, alloc: Global, units: Units) -> Result<(), NoMemory>
-        ensures nodes { OnOk result (self.new.nodes.items ≡ self.old.nodes.items ++ if_kept (parent_of self.old.open.items) (comment_node (parent_of self.old.open.items) units ∷ [])) }
+        ensures nodes { OnOk result
+            (self.new.nodes.items ≡ self.old.nodes.items ++ if_kept (parent_of self.old.open.items)
+            (comment_node (parent_of self.old.open.items) units ∷ [])) }
         ensures open { self.new.open.items ≡ self.old.open.items }
     {
         let parent = self.parent();
@@ -71,8 +79,12 @@ impl Builder {
 
     /// Adds an element, and opens it if it has content.
     fn add_element(&mut self, alloc: Global, tag: StartTag) -> Result<(), NoMemory>
-        ensures nodes { OnOk result (self.new.nodes.items ≡ self.old.nodes.items ++ element_node (parent_of self.old.open.items) tag ∷ []) }
-        ensures open { OnOk result (self.new.open.items ≡ open_after self.old.open.items (length self.old.nodes.items) (Token.StartTag tag)) }
+        ensures nodes { OnOk result
+            (self.new.nodes.items ≡ self.old.nodes.items
+            ++ element_node (parent_of self.old.open.items) tag ∷ []) }
+        ensures open { OnOk result
+            (self.new.open.items ≡ open_after self.old.open.items (length self.old.nodes.items)
+            (Token.StartTag tag)) }
     {
         let Ok(number) = u32::try_from(self.nodes.len()) else {
             return Err(NoMemory);
@@ -101,7 +113,8 @@ fn element_node(alloc: Global, parent: u32, tag: StartTag) -> PageNode
 
 /// A text or a comment.
 fn text_node(alloc: Global, parent: u32, kind: NodeKind, units: Units) -> PageNode
-    ensures { result ≡ record { kind = kind; name = []; text = units; attributes = []; parent = Some parent } }
+    ensures { result ≡ record
+        { kind = kind; name = []; text = units; attributes = []; parent = Some parent } }
 {
     PageNode {
         kind,

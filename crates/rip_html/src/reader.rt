@@ -24,8 +24,10 @@ pub fn read_page(alloc: Global, bytes: &[u8]) -> Result<Page, PageRefusal>
     ensures refused { IfErr result (IsRefusal bytes.now) }
 
     // What is so is answered, unless memory runs out.
-    ensures only { (page : Contents) → PageOf bytes.now page → MatchResult result (λ made. made ≡ page) (λ e. e ≡ PageRefusal.Memory) }
-    ensures first { (place : ℕ) (kind : PageKind) → IsRefusedAt bytes.now place kind → MatchResult result (λ _. ⊥) (IsAt place kind) }
+    ensures only { (page : Contents) → PageOf bytes.now page
+        → MatchResult result (λ made. made ≡ page) (λ e. e ≡ PageRefusal.Memory) }
+    ensures first { (place : ℕ) (kind : PageKind) → IsRefusedAt bytes.now place kind
+        → MatchResult result (λ _. ⊥) (IsAt place kind) }
 {
     let text = read_text(alloc, bytes)?;
     let list = tokens(alloc, text.units.as_slice())?;
@@ -47,7 +49,8 @@ pub fn exactly_one()
 fn refused_at(text: &PageText, fault: Fault) -> PageRefusal
     requires mark { text.now.mark ≤ 3 }
     requires within { text.now.mark + bytes_before false text.now.raw fault.offset < 2 ^ 32 }
-    ensures { result ≡ PageRefusal.At (text.now.mark + bytes_before false text.now.raw fault.offset) fault.kind }
+    ensures { result ≡ PageRefusal.At (text.now.mark + bytes_before false text.now.raw fault.offset)
+        fault.kind }
 {
     PageRefusal::At {
         place: byte_place(text, fault.offset) as u32,

@@ -171,7 +171,8 @@ impl Awaited {
     fn message(&self, alloc: Global, bytes: &[u8]) -> Result<Message, NoMemory>
         requires stage { IsStage bytes.now (BodyStage self.now) }
         requires come { self.now.end + self.now.going.size ≤ length bytes.now }
-        ensures { IfOk result (λ m. IsNext bytes.now (takes (self.now.end + self.now.going.size) m)) }
+        ensures { IfOk result
+            (λ m. IsNext bytes.now (takes (self.now.end + self.now.going.size) m)) }
     {
         let segment = segment_of(self.target.of(head_of(bytes, self.end)));
         let body = &bytes[self.end..self.end + self.going.size as usize];

@@ -28,11 +28,15 @@ pub fn open<E: Evaluator<H> + Drop, I: Works<H, T> + Drop, T: Drop, H: Host + Dr
 ) -> Result<Replica<E, I, T, H>, NoMemory>
     ensures world { IfOk result (λ r. (r.heap ≡ heap) × (r.host ≡ host)) }
     ensures place { IfOk result (λ r. r.place ≡ Place.First) }
-    ensures begun { IfOk result (λ r. (program : E.Program) (doing : ℕ → ℕ → Doing T H) (seed time : ℕ)
+    ensures begun { IfOk result
+        (λ r. (program : E.Program) (doing : ℕ → ℕ → Doing T H) (seed time : ℕ)
         → AreDoneBy doing I.plans I.fact I.served I.ending
-        → (doing seed time).run ≡ (E.evaluation program).run evaluator → (doing seed time).full ≡ full
-        → (doing seed time).opening ≡ opening → (doing seed time).world ≡ heap → (doing seed time).page ≡ host
-        → IsAtStage (E.evaluation program) doing I.item_plan I.under_way I.may_serve r (begun seed time)) }
+        → (doing seed time).run ≡ (E.evaluation program).run evaluator → (doing seed time).full
+        ≡ full
+        → (doing seed time).opening ≡ opening → (doing seed time).world ≡ heap
+        → (doing seed time).page ≡ host
+        → IsAtStage (E.evaluation program) doing I.item_plan I.under_way I.may_serve r
+        (begun seed time)) }
 {
     let mut batch = Vec::new(alloc);
     batch.push(opening)?;
@@ -65,7 +69,8 @@ pub fn admit<E: Evaluator<H>, I: Works<H, T>, T: Drop, H: Host>(
         → number ≡ b.number → batch.items ≡ (doing st.seed st.time).items b
         → IsAtStage (E.evaluation program) doing I.item_plan I.under_way I.may_serve replica.old st
         → MayAdmit (meaning_of doing) st b
-        → IsAtStage (E.evaluation program) doing I.item_plan I.under_way I.may_serve replica.new (with_batch b st) }
+        → IsAtStage (E.evaluation program) doing I.item_plan I.under_way I.may_serve replica.new
+        (with_batch b st) }
 {
     replica.admit(number, batch);
 }
@@ -85,15 +90,19 @@ pub fn resume<E: Evaluator<H>, I: Works<H, T>, T, H: Host, V: Service>(
     ensures page { (number : H → ℕ) → KeepsSteps (E.evaluation program.now) I.under_way number
         → KeepsServed I.served number
         → HasNumberSo result (number replica.old.host) (number replica.new.host) }
-    ensures depth { (doing : ℕ → ℕ → Doing T H) (st : Stage) (meant : Meant) (calls : List Called) (most : ℕ)
+    ensures depth { (doing : ℕ → ℕ → Doing T H) (st : Stage) (meant : Meant) (calls : List Called)
+        (most : ℕ)
         → AreDoneBy doing I.plans I.fact I.served I.ending
-        → IsAtStage (E.evaluation program.now) doing I.item_plan I.under_way I.may_serve replica.old st
+        → IsAtStage (E.evaluation program.now) doing I.item_plan I.under_way I.may_serve replica.old
+        st
         → is_done (meaning_of doing) st ≡ false → V.replies_as service.old meant calls
-        → NestsWithin most (doing st.seed st.time).run → open_of (E.evaluation program.now) replica.old ≤ most
+        → NestsWithin most (doing st.seed st.time).run → open_of (E.evaluation program.now)
+        replica.old ≤ most
         → IsWithinSo result (open_of (E.evaluation program.now) replica.new) most }
     ensures resumed { (doing : ℕ → ℕ → Doing T H) (st : Stage) (meant : Meant) (calls : List Called)
         → AreDoneBy doing I.plans I.fact I.served I.ending
-        → IsAtStage (E.evaluation program.now) doing I.item_plan I.under_way I.may_serve replica.old st
+        → IsAtStage (E.evaluation program.now) doing I.item_plan I.under_way I.may_serve replica.old
+        st
         → is_done (meaning_of doing) st ≡ false → V.replies_as service.old meant calls
         → Resumed (meaning_of doing) st meant calls slice.now made.old made.new result
         (IsAtStage (E.evaluation program.now) doing I.item_plan I.under_way I.may_serve replica.new)

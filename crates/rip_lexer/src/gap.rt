@@ -14,7 +14,8 @@ pub(crate) struct Gap {
 /// The longest gap that the units begin with (ECMA-262 7.2, 7.3, 7.4).
 pub(crate) fn longest_gap(units: &[u16]) -> Gap
     ensures bound { result.count ≤ length units.now }
-    ensures reads { ReadsGap units.now result.count result.holds_line_end (drop result.count units.now) }
+    ensures reads { ReadsGap units.now result.count result.holds_line_end
+        (drop result.count units.now) }
     ensures longest { first_part (drop result.count units.now) ≡ None }
 {
     let mut rest = units;

@@ -34,7 +34,8 @@ pub(crate) fn functions_of(alloc: Global, value: &Value) -> Result<Functions, Ma
 fn declared_by(alloc: Global, members: &Map<String, Value>) -> Result<Functions, ManifestRefusal>
     ensures found { IfOk result (DeclareAll (members_view members.now.entries)) }
     ensures refused { IfErr result (IsKindFrom ManifestKind.Function
-        ((functions : Items Declared) → ¬ DeclareAll (members_view members.now.entries) functions)) }
+        ((functions : Items Declared) → ¬ DeclareAll (members_view members.now.entries)
+        functions)) }
 {
     let mut functions = Vec::with_capacity(alloc, members.len())?;
     for (name, member) in members.iter() {
@@ -63,7 +64,8 @@ fn function_of(alloc: Global, name: &str, value: &Value) -> Result<Function, Man
 fn declared<'a>(name: &str, value: &'a Value) -> Option<(Operation, &'a str)>
     ensures found { IfSome result (λ d. Declares name.now (view value.now)
         (record { name = name.now; op = d.0; prefix = d.1.now })) }
-    ensures none { IfNone result ((function : Declared) → ¬ Declares name.now (view value.now) function) }
+    ensures none { IfNone result
+        ((function : Declared) → ¬ Declares name.now (view value.now) function) }
 {
     let [op, prefix] = value.as_array()?.as_slice() else {
         return None;

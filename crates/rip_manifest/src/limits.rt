@@ -59,7 +59,8 @@ fn is_limit_name(name: &str) -> bool
 // The limit of this name in the object: a whole number from 1 to the most, or the usual one where it is not named.
 fn limit(object: &Value, name: &str, usual: u64, most: u64) -> Option<u64>
     ensures found { IfSome result (IsLimit (get name.now (view object.now)) usual most) }
-    ensures none { IfNone result ((limit : ℕ) → ¬ IsLimit (get name.now (view object.now)) usual most limit) }
+    ensures none { IfNone result
+        ((limit : ℕ) → ¬ IsLimit (get name.now (view object.now)) usual most limit) }
 {
     let Some(value) = object.get(name) else {
         return Some(usual);
@@ -75,7 +76,8 @@ fn limit(object: &Value, name: &str, usual: u64, most: u64) -> Option<u64>
 // The same of a limit of 32 bits.
 fn short_limit(object: &Value, name: &str, usual: u32, most: u32) -> Option<u32>
     ensures found { IfSome result (IsLimit (get name.now (view object.now)) usual most) }
-    ensures none { IfNone result ((limit : ℕ) → ¬ IsLimit (get name.now (view object.now)) usual most limit) }
+    ensures none { IfNone result
+        ((limit : ℕ) → ¬ IsLimit (get name.now (view object.now)) usual most limit) }
 {
     let limit = limit(object, name, u64::from(usual), u64::from(most))?;
     u32::try_from(limit).ok()

@@ -60,7 +60,8 @@ impl Manifest {
 /// [`ManifestRefusal::LimitsTooLarge`] behind these; memory may run out at any text.
 pub fn read_manifest(alloc: Global, bytes: &[u8]) -> Result<Manifest, ManifestRefusal>
     ensures found { IfOk result (ManifestOf bytes.now) }
-    ensures refused { IfErr result (λ refusal. refusal ≢ ManifestRefusal.Memory → IsRefused bytes.now refusal) }
+    ensures refused { IfErr result
+        (λ refusal. refusal ≢ ManifestRefusal.Memory → IsRefused bytes.now refusal) }
     ensures only { (answer : Answer Contents Refusal) → IsAnswer bytes.now answer
         → result ≢ Err ManifestRefusal.Memory → result ≡ answer }
 {

@@ -60,7 +60,9 @@ pub(crate) struct ReadAttribute {
 pub(crate) fn leading_attribute(text: &[u16]) -> Option<AttributeParts<'_>>
     ensures shows { MatchOption result (NoneLeads text.now)
         (λ p. ShowsAttribute text.now p.space p.name.now p.before p.value.now p.rest.now) }
-    ensures bound { IfSome result (λ p. (p.space + length p.name.now + p.before + length p.value.now + length p.rest.now ≤ length text.now) × (length p.rest.now < length text.now) × (p.before ≤ 2)) }
+    ensures bound { IfSome result
+        (λ p. (p.space + length p.name.now + p.before + length p.value.now + length p.rest.now
+        ≤ length text.now) × (length p.rest.now < length text.now) × (p.before ≤ 2)) }
 {
     match attribute_at(text) {
         Some(span) => {
@@ -90,7 +92,8 @@ pub(crate) fn read_attribute(
 ) -> Result<ReadAttribute, NoMemory>
     requires { before ≤ 2 }
     ensures read { IfOk result (λ read. read ≡ read_parts name.now before value.now) }
-    ensures bound { IfOk result (λ read. IfSome read.bad (λ place. place ≤ length name.now + before + length value.now)) }
+    ensures bound { IfOk result
+        (λ read. IfSome read.bad (λ place. place ≤ length name.now + before + length value.now)) }
 {
     let decoded = decode(alloc, value)?;
     Ok(ReadAttribute {

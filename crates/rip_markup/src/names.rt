@@ -12,7 +12,9 @@ pub(crate) fn add_name(
     seen: &mut BTreeSet<Vec<u16>>,
     name: &[u16],
 ) -> Result<bool, NoMemory>
-    ensures { (names : Items (Items ℕ)) → Knows seen.old names → IfOk result (λ double. (double ≡ is_among names name.now) × Knows seen.new (names ++ name.now ∷ [])) }
+    ensures { (names : Items (Items ℕ)) → Knows seen.old names
+        → IfOk result (λ double. (double ≡ is_among names name.now)
+        × Knows seen.new (names ++ name.now ∷ [])) }
 {
     let key = Vec::from_slice(alloc, name)?;
     let added = seen.insert(key)?;

@@ -57,7 +57,8 @@ fn style_text(alloc: Global, text: &[u16]) -> Result<(Token, usize), NoMemory>
 
 /// The text of an element up to its end tag.
 fn element_text(alloc: Global, stop: Stop, text: &[u16]) -> Result<(Token, usize), NoMemory>
-    ensures token { IfOk result (λ made. made.0 ≡ Token.Text (text_run (before (stops stop) text.now))) }
+    ensures token { IfOk result
+        (λ made. made.0 ≡ Token.Text (text_run (before (stops stop) text.now))) }
     ensures count { IfOk result (λ made. made.1 ≡ length (before (stops stop) text.now)) }
     ensures bound { IfOk result (λ made. made.1 ≤ length text.now) }
 {

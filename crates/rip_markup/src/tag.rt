@@ -158,8 +158,11 @@ fn read_attributes(
     text: &[u16],
 ) -> Result<Attributes, NoMemory>
     requires { start + length text.now < 2 ^ 32 }
-    ensures bound { IfOk result (λ made. (start ≤ made.place) × (made.place ≤ start + length text.now)) }
-    ensures read { IfOk result (λ made. (rest : Items ℕ) × AreRead tag.now start text.now rest made.pairs made.fault made.against made.place) }
+    ensures bound { IfOk result
+        (λ made. (start ≤ made.place) × (made.place ≤ start + length text.now)) }
+    ensures read { IfOk result
+        (λ made. (rest : Items ℕ) × AreRead tag.now start text.now rest made.pairs made.fault
+        made.against made.place) }
 {
     let mut pairs = Vec::new(alloc);
     let mut seen = no_names(alloc);
@@ -224,7 +227,8 @@ fn first_fault(found: Option<Fault>, place: usize, fault: Option<Fault>) -> Opti
 /// What is wrong with an attribute, where an earlier one has its name or none has.
 fn attribute_fault(tag: &[u16], double: bool, read: &ReadAttribute) -> Option<Fault>
     ensures value { result ≡ attribute_fault tag.now double read.now }
-    ensures bound { (most : ℕ) → IfSome read.now.bad (λ n. n ≤ most) → IfSome result (λ f. f.offset ≤ most) }
+    ensures bound { (most : ℕ) → IfSome read.now.bad (λ n. n ≤ most)
+        → IfSome result (λ f. f.offset ≤ most) }
 {
     if double {
         refused(PageKind::DoubleAttribute)
@@ -243,7 +247,8 @@ fn refused(kind: PageKind) -> Option<Fault>
 /// What is wrong with an attribute for itself.
 fn own_fault(tag: &[u16], read: &ReadAttribute) -> Option<Fault>
     ensures value { result ≡ own_fault tag.now read.now }
-    ensures bound { (most : ℕ) → IfSome read.now.bad (λ n. n ≤ most) → IfSome result (λ f. f.offset ≤ most) }
+    ensures bound { (most : ℕ) → IfSome read.now.bad (λ n. n ≤ most)
+        → IfSome result (λ f. f.offset ≤ most) }
 {
     if is_ascii(tag, b"script") && is_ascii(read.name.as_slice(), b"src") {
         return refused(PageKind::ExternalScript);

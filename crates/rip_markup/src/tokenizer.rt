@@ -17,7 +17,8 @@ pub fn tokens(alloc: Global, text: &[u16]) -> Result<List<Placed>, NoMemory>
     ensures found { IfOk result (IsTokens text.now) }
 
     // What is so is answered.
-    ensures only { (others : Items Placed) → IsTokens text.now others → IfOk result (λ made. made ≡ others) }
+    ensures only { (others : Items Placed) → IsTokens text.now others
+        → IfOk result (λ made. made ≡ others) }
 {
     let mut made = Vec::new(alloc);
     let mut content = Content::Markup;

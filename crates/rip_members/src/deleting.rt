@@ -58,7 +58,8 @@ fn delete_member(heap: &mut Heap, base: Base, name: Span) -> Result<(), Abrupt>
 }
 
 fn delete_plain(heap: &mut Heap, object: u32, name: Span) -> Result<(), Abrupt>
-    ensures deletes { IsDeleting (deleted_member heap.old (Base.Plain object) name) heap.old result heap.new }
+    ensures deletes { IsDeleting (deleted_member heap.old (Base.Plain object) name) heap.old result
+        heap.new }
     ensures grows { Grows heap.old heap.new }
 {
     if is_barred(heap, name, heap.class(object)) {

@@ -93,7 +93,8 @@ fn write_plain(
     name: Span,
     v: Value,
 ) -> Result<Written, Abrupt>
-    ensures writes { IsWriting (written heap.old (Base.Plain object) name v) heap.old result heap.new }
+    ensures writes { IsWriting (written heap.old (Base.Plain object) name v) heap.old result
+        heap.new }
     ensures grows { Grows heap.old heap.new }
 {
     if is_barred(heap, name, heap.class(object)) {
@@ -110,7 +111,8 @@ fn write_function(
     name: Span,
     v: Value,
 ) -> Result<Written, Abrupt>
-    ensures writes { IsWriting (written heap.old (Base.Function object) name v) heap.old result heap.new }
+    ensures writes { IsWriting (written heap.old (Base.Function object) name v) heap.old result
+        heap.new }
     ensures grows { Grows heap.old heap.new }
 {
     if is_of_functions(heap, name) {
@@ -136,7 +138,8 @@ fn write_array(
     name: Span,
     v: Value,
 ) -> Result<Written, Abrupt>
-    ensures writes { IsWriting (written heap.old (Base.Array array) name v) heap.old result heap.new }
+    ensures writes { IsWriting (written heap.old (Base.Array array) name v) heap.old result
+        heap.new }
     ensures grows { Grows heap.old heap.new }
 {
     match index_of(heap, name) {

@@ -30,8 +30,10 @@ pub(crate) fn capitals(alloc: Global, heap: &mut Heap, name: Span) -> HostDone
 // The text in capitals behind all others, where the limit is known to leave room.
 fn add_capitals(alloc: Global, heap: &mut Heap, name: Span) -> Span
     requires { heap.old.pool.used + length (text_at heap.old.pool name) ≤ heap.old.pool.limit }
-    ensures span { result ≡ span_behind heap.old.pool (text_in Letters.Capital (text_at heap.old.pool name)) }
-    ensures made { heap.new ≡ with_new_text heap.old (text_in Letters.Capital (text_at heap.old.pool name)) }
+    ensures span { result
+        ≡ span_behind heap.old.pool (text_in Letters.Capital (text_at heap.old.pool name)) }
+    ensures made { heap.new
+        ≡ with_new_text heap.old (text_in Letters.Capital (text_at heap.old.pool name)) }
     ensures adds { AddsTexts heap.old heap.new }
 {
     heap.with_texts(&mut |pool| push_in(alloc, pool, name, Letters::Capital))

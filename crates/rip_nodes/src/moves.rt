@@ -22,7 +22,8 @@ pub fn node_of_object(dom: &Dom, n: u32) -> Option<u32>
 /// The node that a value is, if it is one.
 pub fn node_in(dom: &Dom, v: &Value) -> Option<u32>
     ensures node { result ≡ node_in dom.now v.now }
-    ensures there { IfSome result (λ k. (k < length dom.now.nodes) × (v.now ≡ Value.Object (first_node + k))) }
+    ensures there { IfSome result
+        (λ k. (k < length dom.now.nodes) × (v.now ≡ Value.Object (first_node + k))) }
 {
     match v {
         Value::Object(n) => node_of_object(dom, *n),
@@ -49,7 +50,8 @@ fn place_in(dom: &Dom, v: &Value) -> Option<Option<u32>>
 #[tactic(auto, using(crate::proofs::LimitLemmas::limit_of_inserted))]
 pub(crate) fn append_child(heap: &Heap, dom: &mut Dom, parent: u32, child: &Value) -> HostDone
     requires { parent < length dom.old.nodes }
-    ensures answer { (result, heap.now, dom.new) ≡ child_appended heap.now dom.old parent child.now }
+    ensures answer { (result, heap.now, dom.new) ≡ child_appended heap.now dom.old parent
+        child.now }
     ensures answered { IsAnswered heap.now result heap.now }
     ensures kept { KeepsTree dom.old result dom.new }
 {
@@ -73,7 +75,8 @@ pub(crate) fn insert_before(
     reference: &Value,
 ) -> HostDone
     requires { parent < length dom.old.nodes }
-    ensures answer { (result, heap.now, dom.new) ≡ child_inserted heap.now dom.old parent child.now reference.now }
+    ensures answer { (result, heap.now, dom.new) ≡ child_inserted heap.now dom.old parent child.now
+        reference.now }
     ensures answered { IsAnswered heap.now result heap.now }
     ensures kept { KeepsTree dom.old result dom.new }
 {
@@ -100,7 +103,8 @@ pub(crate) fn replace_child(
     old_child: &Value,
 ) -> HostDone
     requires { parent < length dom.old.nodes }
-    ensures answer { (result, heap.now, dom.new) ≡ child_replaced heap.now dom.old parent new_child.now old_child.now }
+    ensures answer { (result, heap.now, dom.new) ≡ child_replaced heap.now dom.old parent
+        new_child.now old_child.now }
     ensures answered { IsAnswered heap.now result heap.now }
     ensures kept { KeepsTree dom.old result dom.new }
 {

@@ -100,7 +100,8 @@ fn type_value(kind: NodeKind) -> Value
 
 // Of an element its name in capitals, of other nodes a fixed text.
 fn node_name(alloc: Global, heap: &mut Heap, dom: &Dom, n: u32) -> HostDone
-    ensures answer { (result, heap.new) ≡ node_name heap.old (node_at dom.now n).kind (node_at dom.now n).name }
+    ensures answer { (result, heap.new) ≡ node_name heap.old (node_at dom.now n).kind
+        (node_at dom.now n).name }
     ensures adds { AddsTexts heap.old heap.new }
     ensures answered { IsAnswered heap.old result heap.new }
 {
@@ -116,7 +117,8 @@ fn node_name(alloc: Global, heap: &mut Heap, dom: &Dom, n: u32) -> HostDone
 }
 
 fn tag_name(alloc: Global, heap: &mut Heap, dom: &Dom, n: u32) -> HostDone
-    ensures answer { (result, heap.new) ≡ tag_name heap.old (node_at dom.now n).kind (node_at dom.now n).name }
+    ensures answer { (result, heap.new) ≡ tag_name heap.old (node_at dom.now n).kind
+        (node_at dom.now n).name }
     ensures adds { AddsTexts heap.old heap.new }
     ensures answered { IsAnswered heap.old result heap.new }
 {

@@ -67,7 +67,8 @@ fn and_text(alloc: Global, heap: &mut Heap, a: Value, y: Span) -> Result<Value, 
 
 // The two texts joined to a new one.
 fn join(alloc: Global, heap: &mut Heap, x: Span, y: Span) -> Result<Value, Abrupt>
-    ensures answers { Answers (judged heap.old (joined heap.old.pool x y)) heap.old result heap.new }
+    ensures answers { Answers (judged heap.old (joined heap.old.pool x y)) heap.old result
+        heap.new }
     ensures grows { Grows heap.old heap.new }
 {
     let pool = heap.pool();

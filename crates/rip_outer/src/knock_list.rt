@@ -63,7 +63,8 @@ impl KnockList {
     pub fn push(&mut self, knock: TraceKnock) -> Result<(), KnockError>
         ensures pushed { OnOk result (self.new ≡ self.old ++ knock ∷ []) }
         ensures allowed { OnOk result (MayFollow (map knocked self.old) knock) }
-        ensures refused { IsErrOf result KnockError.NotAllowed → ¬ MayFollow (map knocked self.old) knock }
+        ensures refused { IsErrOf result KnockError.NotAllowed → ¬ MayFollow (map knocked self.old)
+            knock }
         ensures kept { OnErr result (self.new ≡ self.old) }
     {
         if !may_follow(&self.gone, &knock) {

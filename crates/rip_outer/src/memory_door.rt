@@ -156,7 +156,8 @@ impl Door for MemoryDoor {
         ensures knocks { self.new.next_calls ≡ self.old.next_calls }
         ensures sent { Sends result bytes.now (sent_to self.old c) (sent_to self.new c) }
         ensures others { (d : ℕ) → d ≢ c → sent_to self.new d ≡ sent_to self.old d }
-        ensures told { (telling_of self.new).told ≡ also (loses result c) (telling_of self.old).told }
+        ensures told { (telling_of self.new).told
+            ≡ also (loses result c) (telling_of self.old).told }
         ensures left { (telling_of self.new).left ≡ left_after result c (telling_of self.old).left }
         ensures asked { Some self.new.busy ≡ Some self.old.busy }
         ensures shuts { Some self.new.shuts ≡ Some self.old.shuts }

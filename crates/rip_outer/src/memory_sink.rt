@@ -65,7 +65,8 @@ impl Sink for MemorySink {
     }
 
     fn put(&mut self, bytes: &[u8]) -> Result<(), SinkError>
-        ensures failed { IsErrOf result SinkError.Failed ↔ Contains self.old.failing (self.old.calls + 1) }
+        ensures failed { IsErrOf result SinkError.Failed
+            ↔ Contains self.old.failing (self.old.calls + 1) }
         ensures after { self.new ≡ after_put result bytes.now self.old }
         ensures later { self.old.faults ≤ self.new.faults }
     {

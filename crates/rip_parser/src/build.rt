@@ -24,9 +24,12 @@ pub(crate) fn build(
     events: &[Event],
 ) -> Result<Built, BuildError>
     requires tokens { IsTokens script.now tokens.now }
-    ensures shown { (body : Phrase) → IsBody script.now tokens.now body → reverse events.now ≡ emit body [] → IfOk result (λ built. ShowsScript script.now built.tree body) }
-    ensures deep { (body : Phrase) → IsBody script.now tokens.now body → reverse events.now ≡ emit body [] → IfOk result (λ built. built.depth ≡ min (depth body) 201) }
-    ensures refused { (body : Phrase) → IsBody script.now tokens.now body → reverse events.now ≡ emit body [] → IfErr result (λ e. e ≡ BuildError.Memory) }
+    ensures shown { (body : Phrase) → IsBody script.now tokens.now body → reverse events.now
+        ≡ emit body [] → IfOk result (λ built. ShowsScript script.now built.tree body) }
+    ensures deep { (body : Phrase) → IsBody script.now tokens.now body → reverse events.now
+        ≡ emit body [] → IfOk result (λ built. built.depth ≡ min (depth body) 201) }
+    ensures refused { (body : Phrase) → IsBody script.now tokens.now body → reverse events.now
+        ≡ emit body [] → IfErr result (λ e. e ≡ BuildError.Memory) }
 {
     let Some(total) = node_total(events) else {
         return Err(BuildError::Memory);
@@ -51,7 +54,9 @@ fn node_total(events: &[Event]) -> Option<u32>
 
 /// One node more, if what is told is one.
 fn counted(total: u32, event: Event) -> Option<u32>
-    ensures { IfSome result (λ more. (told : List Event') → total ≡ node_count told + 1 → more ≡ node_count (event ∷ told) + 1) }
+    ensures { IfSome result
+        (λ more. (told : List Event') → total ≡ node_count told + 1 → more
+        ≡ node_count (event ∷ told) + 1) }
 {
     match event {
         Event::Node { .. } => total.checked_add(1),

@@ -63,7 +63,9 @@ impl Builder {
         requires fits { Fits self.old }
         requires room { HasRoom event self.old }
         ensures taken { OnOk result (Takes script.now event self.old self.new) }
-        ensures refused { IfErr result (λ e. e ≡ BuildError.NoPhrase → AreInOrder tokens.now → IsTakeable script.now tokens.now event self.old → ⊥) }
+        ensures refused { IfErr result
+            (λ e. e ≡ BuildError.NoPhrase → AreInOrder tokens.now
+            → IsTakeable script.now tokens.now event self.old → ⊥) }
     {
         match event {
             Event::Absent => self.leave_out(),
@@ -100,7 +102,8 @@ impl Builder {
 
     /// A part is not there.
     fn leave_out(&mut self) -> Result<(), BuildError>
-        ensures left_out { OnOk result (self.new ≡ record self.old { parts = self.old.parts ++ absent ∷ [] }) }
+        ensures left_out { OnOk result
+            (self.new ≡ record self.old { parts = self.old.parts ++ absent ∷ [] }) }
         ensures memory { IfErr result (λ e. e ≡ BuildError.Memory) }
     {
         self.parts.push(Part {
@@ -114,7 +117,8 @@ impl Builder {
     /// Parentheses stand around the last part.
     fn wrap(&mut self, place: u32) -> Result<(), BuildError>
         ensures wrapped { OnOk result (Wraps place self.old self.new) }
-        ensures refused { IfErr result (λ e. e ≡ BuildError.NoPhrase → 0 < length self.old.parts → ⊥) }
+        ensures refused { IfErr result
+            (λ e. e ≡ BuildError.NoPhrase → 0 < length self.old.parts → ⊥) }
     {
         match self.parts.pop() {
             Some(part) => {
@@ -142,7 +146,9 @@ impl Builder {
         requires fits { Fits self.old }
         requires room { length self.old.growth.branches < self.old.growth.total }
         ensures made { OnOk result (Makes script.now place head count self.old self.new) }
-        ensures refused { IfErr result (λ e. e ≡ BuildError.NoPhrase → AreInOrder tokens.now → (count ≤ length self.old.parts) × HasForm script.now tokens.now head → ⊥) }
+        ensures refused { IfErr result
+            (λ e. e ≡ BuildError.NoPhrase → AreInOrder tokens.now → (count ≤ length self.old.parts)
+            × HasForm script.now tokens.now head → ⊥) }
     {
         let count = count as usize;
         if count > self.parts.len() {
@@ -176,10 +182,13 @@ fn form_of(
     head: Head,
 ) -> Result<Form, BuildError>
     requires { All (IsTokenOf script.now) tokens.now }
-    ensures is_form { IfOk result (λ form. (more : List ℕ) → IsFormOf script.now (maker.new.units ++ more) head form) }
+    ensures is_form { IfOk result
+        (λ form. (more : List ℕ) → IsFormOf script.now (maker.new.units ++ more) head form) }
     ensures grown { GrowsBy maker.old maker.new }
     ensures put { IfOk result (λ form. IsPut (text_of form) maker.old.units maker.new.units) }
-    ensures refused { IfErr result (λ e. e ≡ BuildError.NoPhrase → AreInOrder tokens.now → HasForm script.now tokens.now head → ⊥) }
+    ensures refused { IfErr result
+        (λ e. e ≡ BuildError.NoPhrase → AreInOrder tokens.now → HasForm script.now tokens.now head
+        → ⊥) }
 {
     match head {
         Head::Single(lexeme) => single_form(maker, text, script, tokens, lexeme),
@@ -200,10 +209,14 @@ fn single_form(
     lexeme: Lexeme,
 ) -> Result<Form, BuildError>
     requires { All (IsTokenOf script.now) tokens.now }
-    ensures is_form { IfOk result (λ form. (more : List ℕ) → IsSingle script.now (maker.new.units ++ more) lexeme lexeme.word form) }
+    ensures is_form { IfOk result
+        (λ form. (more : List ℕ) → IsSingle script.now (maker.new.units ++ more) lexeme lexeme.word
+        form) }
     ensures grown { GrowsBy maker.old maker.new }
     ensures put { IfOk result (λ form. IsPut (text_of form) maker.old.units maker.new.units) }
-    ensures refused { IfErr result (λ e. e ≡ BuildError.NoPhrase → AreInOrder tokens.now → (is_single lexeme.word ≡ true) × IsReadable script.now tokens.now lexeme lexeme.word → ⊥) }
+    ensures refused { IfErr result
+        (λ e. e ≡ BuildError.NoPhrase → AreInOrder tokens.now → (is_single lexeme.word ≡ true)
+        × IsReadable script.now tokens.now lexeme lexeme.word → ⊥) }
 {
     match lexeme.word {
         Word::This => Ok(Form::This),
@@ -226,10 +239,15 @@ fn key_of(
     lexeme: Lexeme,
 ) -> Result<Key, BuildError>
     requires { All (IsTokenOf script.now) tokens.now }
-    ensures is_key { IfOk result (λ key. (more : List ℕ) → IsKey script.now (maker.new.units ++ more) lexeme lexeme.word key) }
+    ensures is_key { IfOk result
+        (λ key. (more : List ℕ) → IsKey script.now (maker.new.units ++ more) lexeme lexeme.word
+        key) }
     ensures grown { GrowsBy maker.old maker.new }
-    ensures put { IfOk result (λ key. IsPut (text_of (Form.Entry key)) maker.old.units maker.new.units) }
-    ensures refused { IfErr result (λ e. e ≡ BuildError.NoPhrase → AreInOrder tokens.now → IsReadable script.now tokens.now lexeme lexeme.word → ⊥) }
+    ensures put { IfOk result
+        (λ key. IsPut (text_of (Form.Entry key)) maker.old.units maker.new.units) }
+    ensures refused { IfErr result
+        (λ e. e ≡ BuildError.NoPhrase → AreInOrder tokens.now
+        → IsReadable script.now tokens.now lexeme lexeme.word → ⊥) }
 {
     match lexeme.word {
         Word::Text => Ok(Key::Text(literal_of(maker, text, script, tokens, lexeme)?)),

@@ -18,7 +18,8 @@ impl Machine {
     /// Ends the open operators that hold at least this tightly, the latest first. Answers the shape of what is left, or
     /// none where one of them may not end with its operand.
     fn reduce(&mut self, level: u32, shape: Shape) -> Result<Option<Shape>, NoMemory>
-        ensures { IfOk result (λ left. Reduces left self.new (reduce level shape self.old.stack self.old.events)) }
+        ensures { IfOk result
+            (λ left. Reduces left self.new (reduce level shape self.old.stack self.old.events)) }
     {
         let mut shape = shape;
         'operators: loop {
@@ -51,7 +52,9 @@ impl Machine {
 
     /// The innermost of the open forms ends, an operator.
     fn end_operator(&mut self, pending: Pending) -> Result<(), NoMemory>
-        ensures { OnOk result (self.new ≡ record self.old { stack = others self.old.stack; events = told pending ∷ self.old.events }) }
+        ensures { OnOk result
+            (self.new ≡ record self.old
+            { stack = others self.old.stack; events = told pending ∷ self.old.events }) }
     {
         self.stack.pop();
         self.tell(told(pending))
@@ -59,7 +62,8 @@ impl Machine {
 
     /// All open operators end, and then what the expression stands in goes on or ends.
     fn leave(&mut self, shape: Shape, lexeme: Lexeme) -> Result<bool, NoMemory>
-        ensures { IfOk result (λ taken. Takes taken self.new (leave shape self.old.stack self.old.events lexeme)) }
+        ensures { IfOk result
+            (λ taken. Takes taken self.new (leave shape self.old.stack self.old.events lexeme)) }
     {
         match self.reduce(COMMA, shape)? {
             Some(shape) => self.close(shape, lexeme),
@@ -69,7 +73,8 @@ impl Machine {
 
     /// An operator between two operands begins its last operand.
     fn operator_begins(&mut self, word: Word) -> Result<bool, NoMemory>
-        ensures { IfOk result (λ taken. Takes taken self.new (operator_begins word self.old.stack self.old.events)) }
+        ensures { IfOk result
+            (λ taken. Takes taken self.new (operator_begins word self.old.stack self.old.events)) }
     {
         let bars = self.top_bars();
         self.open(Frame::Operator(Pending::Infix(word), bars), Mode::Operand)
@@ -77,7 +82,9 @@ impl Machine {
 
     /// An operator of this level; a bare `in` is refused in the init of a `for` (ECMA-262 11.8, 12.6.3).
     fn operator(&mut self, level: u32, shape: Shape, lexeme: Lexeme) -> Result<bool, NoMemory>
-        ensures { IfOk result (λ taken. Takes taken self.new (operator level shape self.old.stack self.old.events lexeme)) }
+        ensures { IfOk result
+            (λ taken. Takes taken self.new
+            (operator level shape self.old.stack self.old.events lexeme)) }
     {
         if matches!(lexeme.word, Word::Infix(BinaryOperator::In)) && self.top_bars() {
             return Ok(false);
@@ -90,7 +97,8 @@ impl Machine {
 
     /// A comma is an operator where the form takes one, and else it ends a part of the form (ECMA-262 11.14).
     fn separate(&mut self, shape: Shape, lexeme: Lexeme) -> Result<bool, NoMemory>
-        ensures { IfOk result (λ taken. Takes taken self.new (separate shape self.old.stack self.old.events lexeme)) }
+        ensures { IfOk result
+            (λ taken. Takes taken self.new (separate shape self.old.stack self.old.events lexeme)) }
     {
         if self.top_floor() <= COMMA {
             self.operator_begins(lexeme.word)
@@ -101,7 +109,8 @@ impl Machine {
 
     /// A comma stands behind an operand.
     fn comma(&mut self, shape: Shape, lexeme: Lexeme) -> Result<bool, NoMemory>
-        ensures { IfOk result (λ taken. Takes taken self.new (comma shape self.old.stack self.old.events lexeme)) }
+        ensures { IfOk result
+            (λ taken. Takes taken self.new (comma shape self.old.stack self.old.events lexeme)) }
     {
         match self.reduce(COMMA, shape)? {
             Some(shape) => self.separate(shape, lexeme),
@@ -111,7 +120,8 @@ impl Machine {
 
     /// A target is assigned to, where an assignment may stand (ECMA-262 11.13).
     fn assign(&mut self, shape: Shape, lexeme: Lexeme) -> Result<bool, NoMemory>
-        ensures { IfOk result (λ taken. Takes taken self.new (assign shape self.old.stack self.old.events lexeme)) }
+        ensures { IfOk result
+            (λ taken. Takes taken self.new (assign shape self.old.stack self.old.events lexeme)) }
     {
         if matches!(shape, Shape::Target) && self.top_floor() <= ASSIGNMENT {
             let bars = self.top_bars();
@@ -124,7 +134,8 @@ impl Machine {
 
     /// The test of `? :` ends (ECMA-262 11.12).
     fn question(&mut self, shape: Shape) -> Result<bool, NoMemory>
-        ensures { IfOk result (λ taken. Takes taken self.new (question shape self.old.stack self.old.events)) }
+        ensures { IfOk result
+            (λ taken. Takes taken self.new (question shape self.old.stack self.old.events)) }
     {
         match self.reduce(OR, shape)? {
             Some(_) => self.open(Frame::Test, Mode::Operand),
@@ -135,7 +146,8 @@ impl Machine {
     /// Arguments begin: those of the nearest `new`, if the operand stands behind one, or else those of a call
     /// (ECMA-262 11.2.2, 11.2.3).
     fn call(&mut self) -> Result<bool, NoMemory>
-        ensures { IfOk result (λ taken. Takes taken self.new (call self.old.stack self.old.events)) }
+        ensures { IfOk result
+            (λ taken. Takes taken self.new (call self.old.stack self.old.events)) }
     {
         match self.top() {
             Some(Frame::Operator(Pending::New(place), _)) => {
@@ -148,7 +160,8 @@ impl Machine {
 
     /// `++` or `--` behind a target, where it may stand (ECMA-262 11.3).
     fn postfix(&mut self, shape: Shape, lexeme: Lexeme) -> Result<bool, NoMemory>
-        ensures { IfOk result (λ taken. Takes taken self.new (postfix shape self.old.stack self.old.events lexeme)) }
+        ensures { IfOk result
+            (λ taken. Takes taken self.new (postfix shape self.old.stack self.old.events lexeme)) }
     {
         if matches!(shape, Shape::Target) && self.top_floor() <= POSTFIX {
             self.end(
@@ -162,7 +175,9 @@ impl Machine {
 
     /// What is neither an operator between two operands nor an assignment.
     fn after_mark(&mut self, shape: Shape, lexeme: Lexeme) -> Result<bool, NoMemory>
-        ensures { IfOk result (λ taken. Takes taken self.new (after_mark lexeme.word shape self.old.stack self.old.events lexeme)) }
+        ensures { IfOk result
+            (λ taken. Takes taken self.new
+            (after_mark lexeme.word shape self.old.stack self.old.events lexeme)) }
     {
         match lexeme.word {
             Word::Question => self.question(shape),
@@ -191,7 +206,8 @@ impl Machine {
 
     /// An operand was read (ECMA-262 11).
     pub(crate) fn after(&mut self, shape: Shape, lexeme: Lexeme) -> Result<bool, NoMemory>
-        ensures { IfOk result (λ taken. Takes taken self.new (after shape self.old.stack self.old.events lexeme)) }
+        ensures { IfOk result
+            (λ taken. Takes taken self.new (after shape self.old.stack self.old.events lexeme)) }
     {
         match binds(lexeme.word) {
             0 => {
@@ -210,7 +226,8 @@ impl Machine {
 
     /// No operator is open: what the expression stands in goes on or ends with this lexeme.
     fn close(&mut self, shape: Shape, lexeme: Lexeme) -> Result<bool, NoMemory>
-        ensures { IfOk result (λ taken. Takes taken self.new (close shape self.old.stack self.old.events lexeme)) }
+        ensures { IfOk result
+            (λ taken. Takes taken self.new (close shape self.old.stack self.old.events lexeme)) }
     {
         let inserted = is_inserted_behind(matches!(shape, Shape::Postfix), lexeme);
         match self.pop() {
@@ -266,7 +283,8 @@ impl Machine {
 
     /// Behind the part of `? :` before `:`.
     fn test_by(&mut self, word: Word) -> Result<bool, NoMemory>
-        ensures { IfOk result (λ taken. Takes taken self.new (test_by word self.old.stack self.old.events)) }
+        ensures { IfOk result
+            (λ taken. Takes taken self.new (test_by word self.old.stack self.old.events)) }
     {
         match word {
             Word::Colon => {
@@ -279,7 +297,9 @@ impl Machine {
 
     /// Behind what stands in parentheses (ECMA-262 11.1.6).
     fn parenthesis_by(&mut self, word: Word, place: u32, shape: Shape) -> Result<bool, NoMemory>
-        ensures { IfOk result (λ taken. Takes taken self.new (parenthesis_by word place shape self.old.stack self.old.events)) }
+        ensures { IfOk result
+            (λ taken. Takes taken self.new
+            (parenthesis_by word place shape self.old.stack self.old.events)) }
     {
         match word {
             Word::CloseParenthesis => self.end(
@@ -292,7 +312,8 @@ impl Machine {
 
     /// Behind what stands in the brackets of a member (ECMA-262 11.2.1).
     fn index_by(&mut self, word: Word) -> Result<bool, NoMemory>
-        ensures { IfOk result (λ taken. Takes taken self.new (index_by word self.old.stack self.old.events)) }
+        ensures { IfOk result
+            (λ taken. Takes taken self.new (index_by word self.old.stack self.old.events)) }
     {
         match word {
             Word::CloseBracket => {
@@ -309,7 +330,9 @@ impl Machine {
         invocation: Invocation,
         count: u32,
     ) -> Result<bool, NoMemory>
-        ensures { IfOk result (λ taken. Takes taken self.new (arguments_by word invocation count self.old.stack self.old.events)) }
+        ensures { IfOk result
+            (λ taken. Takes taken self.new
+            (arguments_by word invocation count self.old.stack self.old.events)) }
     {
         match word {
             Word::Comma => self.open(Frame::Arguments(invocation, count), Mode::Operand),
@@ -320,7 +343,9 @@ impl Machine {
 
     /// Behind so many elements.
     fn elements_by(&mut self, word: Word, place: u32, count: u32) -> Result<bool, NoMemory>
-        ensures { IfOk result (λ taken. Takes taken self.new (elements_by word place count self.old.stack self.old.events)) }
+        ensures { IfOk result
+            (λ taken. Takes taken self.new
+            (elements_by word place count self.old.stack self.old.events)) }
     {
         match word {
             Word::Comma => self.open(Frame::Elements(place, count), Mode::Element),
@@ -334,7 +359,9 @@ impl Machine {
 
     /// Behind so many entries.
     fn entries_by(&mut self, word: Word, place: u32, count: u32) -> Result<bool, NoMemory>
-        ensures { IfOk result (λ taken. Takes taken self.new (entries_by word place count self.old.stack self.old.events)) }
+        ensures { IfOk result
+            (λ taken. Takes taken self.new
+            (entries_by word place count self.old.stack self.old.events)) }
     {
         match word {
             Word::Comma => self.open(Frame::Object(place, count), Mode::Key),
@@ -348,7 +375,9 @@ impl Machine {
 
     /// Behind the expression of a header.
     fn header_by(&mut self, word: Word, header: Header, place: u32) -> Result<bool, NoMemory>
-        ensures { IfOk result (λ taken. Takes taken self.new (header_by word header place self.old.stack self.old.events)) }
+        ensures { IfOk result
+            (λ taken. Takes taken self.new
+            (header_by word header place self.old.stack self.old.events)) }
     {
         match word {
             Word::CloseParenthesis => self.header_ends(header, place),
@@ -358,7 +387,9 @@ impl Machine {
 
     /// A header ends.
     fn header_ends(&mut self, header: Header, place: u32) -> Result<bool, NoMemory>
-        ensures { IfOk result (λ taken. Takes taken self.new (header_ends header place self.old.stack self.old.events)) }
+        ensures { IfOk result
+            (λ taken. Takes taken self.new
+            (header_ends header place self.old.stack self.old.events)) }
     {
         match header {
             Header::If => self.open(Frame::Then(place), Mode::Statement),
@@ -370,7 +401,8 @@ impl Machine {
 
     /// Behind the test of a `for`.
     fn for_test_ended(&mut self, word: Word) -> Result<bool, NoMemory>
-        ensures { IfOk result (λ taken. Takes taken self.new (for_test_ended word self.old.stack self.old.events)) }
+        ensures { IfOk result
+            (λ taken. Takes taken self.new (for_test_ended word self.old.stack self.old.events)) }
     {
         match word {
             Word::Semicolon => self.test_ended(),
@@ -380,7 +412,8 @@ impl Machine {
 
     /// Behind the update of a `for`.
     fn for_update_ended(&mut self, word: Word) -> Result<bool, NoMemory>
-        ensures { IfOk result (λ taken. Takes taken self.new (for_update_ended word self.old.stack self.old.events)) }
+        ensures { IfOk result
+            (λ taken. Takes taken self.new (for_update_ended word self.old.stack self.old.events)) }
     {
         match word {
             Word::CloseParenthesis => self.update_ended(),
@@ -390,7 +423,8 @@ impl Machine {
 
     /// Behind the expression of a `case`.
     fn case_by(&mut self, word: Word, place: u32) -> Result<bool, NoMemory>
-        ensures { IfOk result (λ taken. Takes taken self.new (case_by word place self.old.stack self.old.events)) }
+        ensures { IfOk result
+            (λ taken. Takes taken self.new (case_by word place self.old.stack self.old.events)) }
     {
         match word {
             Word::Colon => self.open(Frame::CaseBody(place, 0), Mode::Statement),

@@ -87,7 +87,8 @@ impl Finder {
     /// What the next part stands in; it is no longer to come.
     fn next(&mut self) -> Result<Standing, NoMemory>
         ensures standing { IfOk result (λ standing. standing ≡ next_standing self.old.around) }
-        ensures left { OnOk result (self.new ≡ record self.old { around = next_around self.old.around }) }
+        ensures left { OnOk result
+            (self.new ≡ record self.old { around = next_around self.old.around }) }
     {
         match self.around.pop() {
             Some(around) => {
@@ -100,7 +101,8 @@ impl Finder {
 
     /// So many parts are to come, before all others.
     fn expect(&mut self, count: u32, standing: Standing) -> Result<(), NoMemory>
-        ensures { OnOk result (self.new ≡ record self.old { around = pushed count standing self.old.around }) }
+        ensures { OnOk result
+            (self.new ≡ record self.old { around = pushed count standing self.old.around }) }
     {
         if count > 0 {
             self.around.push(Around {

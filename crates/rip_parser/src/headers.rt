@@ -13,7 +13,8 @@ use rip_values::NoMemory;
 impl Machine {
     /// The init of a `for` has ended, before this lexeme (ECMA-262 12.6.3).
     pub(crate) fn init_ended(&mut self, lexeme: Lexeme) -> Result<bool, NoMemory>
-        ensures { IfOk result (λ taken. Takes taken self.new (init_ended self.old.stack self.old.events lexeme)) }
+        ensures { IfOk result
+            (λ taken. Takes taken self.new (init_ended self.old.stack self.old.events lexeme)) }
     {
         match self.pop() {
             Some(Frame::ForInit(place)) => match lexeme.word {
@@ -33,7 +34,9 @@ impl Machine {
         count: u32,
         lexeme: Lexeme,
     ) -> Result<bool, NoMemory>
-        ensures { IfOk result (λ taken. Takes taken self.new (declarators_ended role inserted place count self.old.stack self.old.events lexeme)) }
+        ensures { IfOk result
+            (λ taken. Takes taken self.new
+            (declarators_ended role inserted place count self.old.stack self.old.events lexeme)) }
     {
         match role {
             VarRole::Statement => {
@@ -49,7 +52,9 @@ impl Machine {
 
     /// A declarator has ended, before this lexeme.
     pub(crate) fn declared(&mut self, inserted: bool, lexeme: Lexeme) -> Result<bool, NoMemory>
-        ensures { IfOk result (λ taken. Takes taken self.new (declared inserted self.old.stack self.old.events lexeme)) }
+        ensures { IfOk result
+            (λ taken. Takes taken self.new
+            (declared inserted self.old.stack self.old.events lexeme)) }
     {
         match self.pop() {
             Some(Frame::Declarators(role, place, count)) => {
@@ -67,7 +72,9 @@ impl Machine {
 
     /// The name of a declarator is wanted.
     pub(crate) fn declarator_name(&mut self, lexeme: Lexeme) -> Result<bool, NoMemory>
-        ensures { IfOk result (λ taken. Takes taken self.new (declarator_name self.old.stack self.old.events lexeme)) }
+        ensures { IfOk result
+            (λ taken. Takes taken self.new
+            (declarator_name self.old.stack self.old.events lexeme)) }
     {
         match lexeme.word {
             Word::Name => self.want(Mode::AfterName(lexeme)),
@@ -77,7 +84,9 @@ impl Machine {
 
     /// Behind the name of a declarator.
     pub(crate) fn after_name(&mut self, name: Lexeme, lexeme: Lexeme) -> Result<bool, NoMemory>
-        ensures { IfOk result (λ taken. Takes taken self.new (after_name name self.old.stack self.old.events lexeme)) }
+        ensures { IfOk result
+            (λ taken. Takes taken self.new
+            (after_name name self.old.stack self.old.events lexeme)) }
     {
         match lexeme.word {
             Word::Assign => {
@@ -93,7 +102,9 @@ impl Machine {
 
     /// A `return` with no expression ends (ECMA-262 12.9).
     fn return_ends(&mut self, inserted: bool, lexeme: Lexeme) -> Result<bool, NoMemory>
-        ensures { IfOk result (λ taken. Takes taken self.new (return_ends inserted self.old.stack self.old.events lexeme)) }
+        ensures { IfOk result
+            (λ taken. Takes taken self.new
+            (return_ends inserted self.old.stack self.old.events lexeme)) }
     {
         match self.pop() {
             Some(Frame::Return(place)) => {
@@ -107,7 +118,8 @@ impl Machine {
 
     /// Behind `return`: it ends here, or an expression begins on its line (ECMA-262 7.9.1, 12.9).
     pub(crate) fn returning(&mut self, lexeme: Lexeme) -> Result<bool, NoMemory>
-        ensures { IfOk result (λ taken. Takes taken self.new (returning self.old.stack self.old.events lexeme)) }
+        ensures { IfOk result
+            (λ taken. Takes taken self.new (returning self.old.stack self.old.events lexeme)) }
     {
         match lexeme.word {
             Word::Semicolon => self.return_ends(false, lexeme),
@@ -123,7 +135,8 @@ impl Machine {
 
     /// Behind `throw`: an expression begins on its line (ECMA-262 7.9.1, 12.13).
     pub(crate) fn throwing(&mut self, lexeme: Lexeme) -> Result<bool, NoMemory>
-        ensures { IfOk result (λ taken. Takes taken self.new (throwing self.old.stack self.old.events lexeme)) }
+        ensures { IfOk result
+            (λ taken. Takes taken self.new (throwing self.old.stack self.old.events lexeme)) }
     {
         if lexeme.line_before {
             Ok(false)
@@ -134,7 +147,8 @@ impl Machine {
 
     /// The `(` of a header is wanted.
     pub(crate) fn open_header(&mut self, lexeme: Lexeme) -> Result<bool, NoMemory>
-        ensures { IfOk result (λ taken. Takes taken self.new (open_header self.old.stack self.old.events lexeme)) }
+        ensures { IfOk result
+            (λ taken. Takes taken self.new (open_header self.old.stack self.old.events lexeme)) }
     {
         match lexeme.word {
             Word::OpenParenthesis => self.want(Mode::Operand),
@@ -144,7 +158,8 @@ impl Machine {
 
     /// The `{` of a `switch` is wanted.
     pub(crate) fn open_switch(&mut self, lexeme: Lexeme) -> Result<bool, NoMemory>
-        ensures { IfOk result (λ taken. Takes taken self.new (open_switch self.old.stack self.old.events lexeme)) }
+        ensures { IfOk result
+            (λ taken. Takes taken self.new (open_switch self.old.stack self.old.events lexeme)) }
     {
         match lexeme.word {
             Word::OpenBrace => self.want(Mode::Clause),
@@ -154,7 +169,8 @@ impl Machine {
 
     /// The `(` behind `for` is wanted.
     pub(crate) fn open_for(&mut self, lexeme: Lexeme) -> Result<bool, NoMemory>
-        ensures { IfOk result (λ taken. Takes taken self.new (open_for self.old.stack self.old.events lexeme)) }
+        ensures { IfOk result
+            (λ taken. Takes taken self.new (open_for self.old.stack self.old.events lexeme)) }
     {
         match lexeme.word {
             Word::OpenParenthesis => self.want(Mode::ForInit),
@@ -164,7 +180,8 @@ impl Machine {
 
     /// The init of a `for` is wanted, or `;`.
     pub(crate) fn for_init(&mut self, lexeme: Lexeme) -> Result<bool, NoMemory>
-        ensures { IfOk result (λ taken. Takes taken self.new (for_init self.old.stack self.old.events lexeme)) }
+        ensures { IfOk result
+            (λ taken. Takes taken self.new (for_init self.old.stack self.old.events lexeme)) }
     {
         match lexeme.word {
             Word::Semicolon => {
@@ -181,7 +198,8 @@ impl Machine {
 
     /// The test of a `for` has ended.
     pub(crate) fn test_ended(&mut self) -> Result<bool, NoMemory>
-        ensures { IfOk result (λ taken. Takes taken self.new (test_ended self.old.stack self.old.events)) }
+        ensures { IfOk result
+            (λ taken. Takes taken self.new (test_ended self.old.stack self.old.events)) }
     {
         match self.pop() {
             Some(Frame::ForTest(place)) => self.open(Frame::ForUpdate(place), Mode::ForUpdate),
@@ -191,7 +209,8 @@ impl Machine {
 
     /// The test of a `for` is wanted, or `;`.
     pub(crate) fn for_test(&mut self, lexeme: Lexeme) -> Result<bool, NoMemory>
-        ensures { IfOk result (λ taken. Takes taken self.new (for_test self.old.stack self.old.events lexeme)) }
+        ensures { IfOk result
+            (λ taken. Takes taken self.new (for_test self.old.stack self.old.events lexeme)) }
     {
         match lexeme.word {
             Word::Semicolon => {
@@ -204,7 +223,8 @@ impl Machine {
 
     /// The update of a `for` has ended.
     pub(crate) fn update_ended(&mut self) -> Result<bool, NoMemory>
-        ensures { IfOk result (λ taken. Takes taken self.new (update_ended self.old.stack self.old.events)) }
+        ensures { IfOk result
+            (λ taken. Takes taken self.new (update_ended self.old.stack self.old.events)) }
     {
         match self.pop() {
             Some(Frame::ForUpdate(place)) => self.open(Frame::For(place), Mode::Statement),
@@ -214,7 +234,8 @@ impl Machine {
 
     /// The update of a `for` is wanted, or `)`.
     pub(crate) fn for_update(&mut self, lexeme: Lexeme) -> Result<bool, NoMemory>
-        ensures { IfOk result (λ taken. Takes taken self.new (for_update self.old.stack self.old.events lexeme)) }
+        ensures { IfOk result
+            (λ taken. Takes taken self.new (for_update self.old.stack self.old.events lexeme)) }
     {
         match lexeme.word {
             Word::CloseParenthesis => {

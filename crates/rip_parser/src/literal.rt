@@ -28,8 +28,10 @@ fn spelling_of(script: &[u16], lexeme: Lexeme) -> &[u16]
 
 /// The value of a numeral (ECMA-262 7.8.3). What is too large for a numeral is none.
 pub(crate) fn numeral_of(script: &[u16], lexeme: Lexeme) -> Result<Whole, BuildError>
-    ensures value { IfOk result (λ whole. whole ≡ pos (numeral_value (spelling_of script.now lexeme))) }
-    ensures refused { IfErr result (λ _. numeral_value (spelling_of script.now lexeme) ≤ 9007199254740991 → ⊥) }
+    ensures value { IfOk result
+        (λ whole. whole ≡ pos (numeral_value (spelling_of script.now lexeme))) }
+    ensures refused { IfErr result
+        (λ _. numeral_value (spelling_of script.now lexeme) ≤ 9007199254740991 → ⊥) }
 {
     match numeral_value(spelling_of(script, lexeme)) {
         Some(value) => Ok(value),
@@ -88,10 +90,13 @@ pub(crate) fn literal_of(
     lexeme: Lexeme,
 ) -> Result<TextLiteral, BuildError>
     requires { All (IsTokenOf script.now) tokens.now }
-    ensures text { IfOk result (λ literal. (more : List ℕ) → IsText (maker.new.units ++ more) (spelling_of script.now lexeme) literal) }
+    ensures text { IfOk result
+        (λ literal. (more : List ℕ)
+        → IsText (maker.new.units ++ more) (spelling_of script.now lexeme) literal) }
     ensures grown { GrowsBy maker.old maker.new }
     ensures put { IfOk result (λ literal. IsPut (Some literal) maker.old.units maker.new.units) }
-    ensures refused { IfErr result (λ e. e ≡ BuildError.NoPhrase → AreInOrder tokens.now → IsListed tokens.now lexeme → ⊥) }
+    ensures refused { IfErr result
+        (λ e. e ≡ BuildError.NoPhrase → AreInOrder tokens.now → IsListed tokens.now lexeme → ⊥) }
 {
     if !is_text_token(tokens, lexeme) {
         return Err(BuildError::NoPhrase);

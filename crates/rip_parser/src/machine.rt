@@ -51,7 +51,9 @@ pub(crate) fn one_more(count: u32) -> Result<u32, NoMemory>
 impl Machine {
     /// Wants a statement of a script, of which nothing is told yet.
     pub(crate) fn new(alloc: Global) -> Result<Machine, NoMemory>
-        ensures { IfOk result (λ machine. machine ≡ record { mode = Mode.Statement; stack = Frame.Script ∷ []; events = [] }) }
+        ensures { IfOk result
+            (λ machine. machine ≡ record
+            { mode = Mode.Statement; stack = Frame.Script ∷ []; events = [] }) }
     {
         let mut machine = Machine {
             mode: Mode::Statement,
@@ -72,7 +74,8 @@ impl Machine {
 
     /// Takes the latest of the open forms from the stack.
     pub(crate) fn pop(&mut self) -> Option<Frame>
-        ensures { MatchOption result (self.old.stack ≡ []) (λ frame. self.old ≡ record self.new { stack = frame ∷ self.new.stack }) }
+        ensures { MatchOption result (self.old.stack ≡ [])
+            (λ frame. self.old ≡ record self.new { stack = frame ∷ self.new.stack }) }
     {
         self.stack.pop()
     }
@@ -118,7 +121,8 @@ impl Machine {
 
     /// Goes on to want this.
     pub(crate) fn want(&mut self, mode: Mode) -> Result<bool, NoMemory>
-        ensures { IfOk result (λ taken. Takes taken self.new (Some (At mode self.old.stack self.old.events))) }
+        ensures { IfOk result
+            (λ taken. Takes taken self.new (Some (At mode self.old.stack self.old.events))) }
     {
         self.mode = mode;
         Ok(true)
@@ -126,7 +130,9 @@ impl Machine {
 
     /// Opens a form, and goes on to want this.
     pub(crate) fn open(&mut self, frame: Frame, mode: Mode) -> Result<bool, NoMemory>
-        ensures { IfOk result (λ taken. Takes taken self.new (Some (At mode (frame ∷ self.old.stack) self.old.events))) }
+        ensures { IfOk result
+            (λ taken. Takes taken self.new
+            (Some (At mode (frame ∷ self.old.stack) self.old.events))) }
     {
         self.push(frame)?;
         self.want(mode)
@@ -134,7 +140,9 @@ impl Machine {
 
     /// Tells what has ended, and goes on to want this.
     pub(crate) fn end(&mut self, event: Event, mode: Mode) -> Result<bool, NoMemory>
-        ensures { IfOk result (λ taken. Takes taken self.new (Some (At mode self.old.stack (event ∷ self.old.events)))) }
+        ensures { IfOk result
+            (λ taken. Takes taken self.new
+            (Some (At mode self.old.stack (event ∷ self.old.events)))) }
     {
         self.tell(event)?;
         self.want(mode)

@@ -14,7 +14,8 @@ use rip_values::NoMemory;
 impl Machine {
     /// An operand is wanted (ECMA-262 11.1, 11.2.2, 11.4, 13).
     pub(crate) fn operand(&mut self, lexeme: Lexeme) -> Result<bool, NoMemory>
-        ensures { IfOk result (λ taken. Takes taken self.new (operand self.old.stack self.old.events lexeme)) }
+        ensures { IfOk result
+            (λ taken. Takes taken self.new (operand self.old.stack self.old.events lexeme)) }
     {
         if is_prefix(lexeme.word) {
             self.prefix(lexeme)
@@ -30,7 +31,8 @@ impl Machine {
 
     /// An operator before its operand, where it may stand.
     fn prefix(&mut self, lexeme: Lexeme) -> Result<bool, NoMemory>
-        ensures { IfOk result (λ taken. Takes taken self.new (prefix self.old.stack self.old.events lexeme)) }
+        ensures { IfOk result
+            (λ taken. Takes taken self.new (prefix self.old.stack self.old.events lexeme)) }
     {
         if self.top_floor() <= PREFIX {
             let bars = self.top_bars();
@@ -43,7 +45,9 @@ impl Machine {
 
     /// What begins an operand and is neither an operator nor an operand alone.
     fn opening(&mut self, lexeme: Lexeme) -> Result<bool, NoMemory>
-        ensures { IfOk result (λ taken. Takes taken self.new (opening lexeme.word self.old.stack self.old.events lexeme)) }
+        ensures { IfOk result
+            (λ taken. Takes taken self.new
+            (opening lexeme.word self.old.stack self.old.events lexeme)) }
     {
         let place = lexeme.start;
         match lexeme.word {
@@ -61,7 +65,8 @@ impl Machine {
 
     /// The name behind `.` is wanted (ECMA-262 11.2.1).
     pub(crate) fn member(&mut self, lexeme: Lexeme) -> Result<bool, NoMemory>
-        ensures { IfOk result (λ taken. Takes taken self.new (member self.old.stack self.old.events lexeme)) }
+        ensures { IfOk result
+            (λ taken. Takes taken self.new (member self.old.stack self.old.events lexeme)) }
     {
         if is_identifier_name(lexeme.word) {
             self.end(
@@ -79,7 +84,9 @@ impl Machine {
         invocation: Invocation,
         count: u32,
     ) -> Result<bool, NoMemory>
-        ensures { IfOk result (λ taken. Takes taken self.new (arguments_end invocation count self.old.stack self.old.events)) }
+        ensures { IfOk result
+            (λ taken. Takes taken self.new
+            (arguments_end invocation count self.old.stack self.old.events)) }
     {
         let parts = sum_of_counts(1, count)?;
         let event = match invocation {
@@ -91,7 +98,8 @@ impl Machine {
 
     /// A call or a `new` has no argument.
     fn no_argument(&mut self) -> Result<bool, NoMemory>
-        ensures { IfOk result (λ taken. Takes taken self.new (no_argument self.old.stack self.old.events)) }
+        ensures { IfOk result
+            (λ taken. Takes taken self.new (no_argument self.old.stack self.old.events)) }
     {
         match self.pop() {
             Some(Frame::Arguments(invocation, count)) => self.arguments_end(invocation, count),
@@ -101,7 +109,8 @@ impl Machine {
 
     /// The first argument is wanted, or `)`.
     pub(crate) fn argument(&mut self, lexeme: Lexeme) -> Result<bool, NoMemory>
-        ensures { IfOk result (λ taken. Takes taken self.new (argument self.old.stack self.old.events lexeme)) }
+        ensures { IfOk result
+            (λ taken. Takes taken self.new (argument self.old.stack self.old.events lexeme)) }
     {
         match lexeme.word {
             Word::CloseParenthesis => self.no_argument(),
@@ -111,7 +120,8 @@ impl Machine {
 
     /// An array literal ends, at once or behind a comma (ECMA-262 11.1.4).
     fn elements_end(&mut self) -> Result<bool, NoMemory>
-        ensures { IfOk result (λ taken. Takes taken self.new (elements_end self.old.stack self.old.events)) }
+        ensures { IfOk result
+            (λ taken. Takes taken self.new (elements_end self.old.stack self.old.events)) }
     {
         match self.pop() {
             Some(Frame::Elements(place, count)) => self.end(
@@ -124,7 +134,8 @@ impl Machine {
 
     /// An element is wanted, or `]`.
     pub(crate) fn element(&mut self, lexeme: Lexeme) -> Result<bool, NoMemory>
-        ensures { IfOk result (λ taken. Takes taken self.new (element self.old.stack self.old.events lexeme)) }
+        ensures { IfOk result
+            (λ taken. Takes taken self.new (element self.old.stack self.old.events lexeme)) }
     {
         match lexeme.word {
             Word::CloseBracket => self.elements_end(),
@@ -134,7 +145,8 @@ impl Machine {
 
     /// An object literal goes on with this key (ECMA-262 11.1.5).
     fn entry_begins(&mut self, lexeme: Lexeme) -> Result<bool, NoMemory>
-        ensures { IfOk result (λ taken. Takes taken self.new (entry_begins self.old.stack self.old.events lexeme)) }
+        ensures { IfOk result
+            (λ taken. Takes taken self.new (entry_begins self.old.stack self.old.events lexeme)) }
     {
         match self.pop() {
             Some(Frame::Object(place, count)) => {
@@ -146,7 +158,8 @@ impl Machine {
 
     /// An object literal ends, at once or behind a comma.
     fn entries_end(&mut self) -> Result<bool, NoMemory>
-        ensures { IfOk result (λ taken. Takes taken self.new (entries_end self.old.stack self.old.events)) }
+        ensures { IfOk result
+            (λ taken. Takes taken self.new (entries_end self.old.stack self.old.events)) }
     {
         match self.pop() {
             Some(Frame::Object(place, count)) => self.end(
@@ -159,7 +172,8 @@ impl Machine {
 
     /// A key is wanted, or `}`.
     pub(crate) fn key(&mut self, lexeme: Lexeme) -> Result<bool, NoMemory>
-        ensures { IfOk result (λ taken. Takes taken self.new (key self.old.stack self.old.events lexeme)) }
+        ensures { IfOk result
+            (λ taken. Takes taken self.new (key self.old.stack self.old.events lexeme)) }
     {
         match lexeme.word {
             Word::CloseBrace => self.entries_end(),
@@ -175,7 +189,8 @@ impl Machine {
 
     /// The `:` behind a key is wanted.
     pub(crate) fn entry_colon(&mut self, lexeme: Lexeme) -> Result<bool, NoMemory>
-        ensures { IfOk result (λ taken. Takes taken self.new (entry_colon self.old.stack self.old.events lexeme)) }
+        ensures { IfOk result
+            (λ taken. Takes taken self.new (entry_colon self.old.stack self.old.events lexeme)) }
     {
         match lexeme.word {
             Word::Colon => self.want(Mode::Operand),
@@ -185,7 +200,9 @@ impl Machine {
 
     /// Behind `function`, in an expression: a name or `(` is wanted (ECMA-262 13).
     pub(crate) fn function_name(&mut self, place: u32, lexeme: Lexeme) -> Result<bool, NoMemory>
-        ensures { IfOk result (λ taken. Takes taken self.new (function_name place self.old.stack self.old.events lexeme)) }
+        ensures { IfOk result
+            (λ taken. Takes taken self.new
+            (function_name place self.old.stack self.old.events lexeme)) }
     {
         match lexeme.word {
             Word::Name => {
@@ -202,7 +219,9 @@ impl Machine {
 
     /// The name of a declaration is wanted.
     pub(crate) fn declaration_name(&mut self, place: u32, lexeme: Lexeme) -> Result<bool, NoMemory>
-        ensures { IfOk result (λ taken. Takes taken self.new (declaration_name place self.old.stack self.old.events lexeme)) }
+        ensures { IfOk result
+            (λ taken. Takes taken self.new
+            (declaration_name place self.old.stack self.old.events lexeme)) }
     {
         match lexeme.word {
             Word::Name => {
@@ -215,7 +234,9 @@ impl Machine {
 
     /// The `(` before parameters is wanted.
     pub(crate) fn open_parameters(&mut self, lexeme: Lexeme) -> Result<bool, NoMemory>
-        ensures { IfOk result (λ taken. Takes taken self.new (open_parameters self.old.stack self.old.events lexeme)) }
+        ensures { IfOk result
+            (λ taken. Takes taken self.new
+            (open_parameters self.old.stack self.old.events lexeme)) }
     {
         match lexeme.word {
             Word::OpenParenthesis => self.want(Mode::FirstParameter),
@@ -225,7 +246,8 @@ impl Machine {
 
     /// One parameter more.
     fn parameter_read(&mut self, lexeme: Lexeme) -> Result<bool, NoMemory>
-        ensures { IfOk result (λ taken. Takes taken self.new (parameter_read self.old.stack self.old.events lexeme)) }
+        ensures { IfOk result
+            (λ taken. Takes taken self.new (parameter_read self.old.stack self.old.events lexeme)) }
     {
         match self.pop() {
             Some(Frame::Parameters(owner, count)) => {
@@ -241,7 +263,9 @@ impl Machine {
 
     /// The first parameter is wanted, or `)`.
     pub(crate) fn first_parameter(&mut self, lexeme: Lexeme) -> Result<bool, NoMemory>
-        ensures { IfOk result (λ taken. Takes taken self.new (first_parameter self.old.stack self.old.events lexeme)) }
+        ensures { IfOk result
+            (λ taken. Takes taken self.new
+            (first_parameter self.old.stack self.old.events lexeme)) }
     {
         match lexeme.word {
             Word::CloseParenthesis => self.want(Mode::OpenBody),
@@ -252,7 +276,8 @@ impl Machine {
 
     /// A parameter is wanted.
     pub(crate) fn parameter(&mut self, lexeme: Lexeme) -> Result<bool, NoMemory>
-        ensures { IfOk result (λ taken. Takes taken self.new (parameter self.old.stack self.old.events lexeme)) }
+        ensures { IfOk result
+            (λ taken. Takes taken self.new (parameter self.old.stack self.old.events lexeme)) }
     {
         match lexeme.word {
             Word::Name => self.parameter_read(lexeme),
@@ -262,7 +287,9 @@ impl Machine {
 
     /// `,` or `)` is wanted behind a parameter.
     pub(crate) fn after_parameter(&mut self, lexeme: Lexeme) -> Result<bool, NoMemory>
-        ensures { IfOk result (λ taken. Takes taken self.new (after_parameter self.old.stack self.old.events lexeme)) }
+        ensures { IfOk result
+            (λ taken. Takes taken self.new
+            (after_parameter self.old.stack self.old.events lexeme)) }
     {
         match lexeme.word {
             Word::Comma => self.want(Mode::Parameter),
@@ -273,7 +300,8 @@ impl Machine {
 
     /// A body begins behind its parameters.
     fn body_begins(&mut self) -> Result<bool, NoMemory>
-        ensures { IfOk result (λ taken. Takes taken self.new (body_begins self.old.stack self.old.events)) }
+        ensures { IfOk result
+            (λ taken. Takes taken self.new (body_begins self.old.stack self.old.events)) }
     {
         match self.pop() {
             Some(Frame::Parameters(owner, count)) => {
@@ -285,7 +313,8 @@ impl Machine {
 
     /// The `{` of a body is wanted.
     pub(crate) fn open_body(&mut self, lexeme: Lexeme) -> Result<bool, NoMemory>
-        ensures { IfOk result (λ taken. Takes taken self.new (open_body self.old.stack self.old.events lexeme)) }
+        ensures { IfOk result
+            (λ taken. Takes taken self.new (open_body self.old.stack self.old.events lexeme)) }
     {
         match lexeme.word {
             Word::OpenBrace => self.body_begins(),

@@ -26,9 +26,12 @@ pub fn parse(alloc: Global, text: &[u16], tokens: &[Token]) -> Result<Tree, Pars
     ensures refused { IfErr result (IsRefused text.now tokens.now) }
 
     // And it is so of each phrase of the script: they show one tree.
-    ensures shown { (body : Phrase) → IsBody text.now tokens.now body → IfOk result (λ tree. ShowsScript text.now tree body) }
-    ensures shallow { (body : Phrase) → IsBody text.now tokens.now body → IfOk result (λ tree. IsShallow body) }
-    ensures deep { (body : Phrase) → IsBody text.now tokens.now body → IfErr result (IsTooDeep body) }
+    ensures shown { (body : Phrase) → IsBody text.now tokens.now body
+        → IfOk result (λ tree. ShowsScript text.now tree body) }
+    ensures shallow { (body : Phrase) → IsBody text.now tokens.now body
+        → IfOk result (λ tree. IsShallow body) }
+    ensures deep { (body : Phrase) → IsBody text.now tokens.now body
+        → IfErr result (IsTooDeep body) }
 {
     let lexemes = lexemes(alloc, text, tokens)?;
     let events = run(alloc, lexemes.as_slice())?;

@@ -18,7 +18,9 @@ use std::alloc::Global;
 impl Machine {
     /// Takes one lexeme, or refuses it.
     pub(crate) fn step(&mut self, lexeme: Lexeme) -> Result<bool, NoMemory>
-        ensures { IfOk result (λ taken. Takes taken self.new (step self.old.mode self.old.stack self.old.events lexeme)) }
+        ensures { IfOk result
+            (λ taken. Takes taken self.new
+            (step self.old.mode self.old.stack self.old.events lexeme)) }
     {
         match self.mode {
             Mode::Operand => self.operand(lexeme),
@@ -62,7 +64,9 @@ impl Machine {
 /// What is told of a script, or the first lexeme with which no script goes on.
 pub(crate) fn run(alloc: Global, lexemes: &[Lexeme]) -> Result<Vec<Event>, ParseRefusal>
     requires { EndsInEnd lexemes.now }
-    ensures told { IfOk result (λ events. (stack : List Frame') × (go begins lexemes.now ≡ Some (At Mode.Done stack (reverse events.items)))) }
+    ensures told { IfOk result
+        (λ events. (stack : List Frame')
+        × (go begins lexemes.now ≡ Some (At Mode.Done stack (reverse events.items)))) }
     ensures refused { IfErr result (IsUnexpectedBy lexemes.now) }
 {
     let mut machine = Machine::new(alloc)?;

@@ -29,7 +29,9 @@ impl Machine {
         default: bool,
         lexeme: Lexeme,
     ) -> Result<bool, NoMemory>
-        ensures { IfOk result (λ taken. Takes taken self.new (clause_by lexeme.word place count default self.old.stack self.old.events lexeme)) }
+        ensures { IfOk result
+            (λ taken. Takes taken self.new
+            (clause_by lexeme.word place count default self.old.stack self.old.events lexeme)) }
     {
         match lexeme.word {
             Word::Case => {
@@ -53,7 +55,8 @@ impl Machine {
 
     /// `case`, `default` or `}` is wanted.
     pub(crate) fn clause(&mut self, lexeme: Lexeme) -> Result<bool, NoMemory>
-        ensures { IfOk result (λ taken. Takes taken self.new (clause self.old.stack self.old.events lexeme)) }
+        ensures { IfOk result
+            (λ taken. Takes taken self.new (clause self.old.stack self.old.events lexeme)) }
     {
         match self.pop() {
             Some(Frame::Switch(place, count, default)) => {
@@ -65,7 +68,8 @@ impl Machine {
 
     /// A clause has ended.
     fn clause_told(&mut self, lexeme: Lexeme) -> Result<bool, NoMemory>
-        ensures { IfOk result (λ taken. Takes taken self.new (clause_told self.old.stack self.old.events lexeme)) }
+        ensures { IfOk result
+            (λ taken. Takes taken self.new (clause_told self.old.stack self.old.events lexeme)) }
     {
         match self.pop() {
             Some(Frame::Switch(place, count, default)) => {
@@ -78,7 +82,9 @@ impl Machine {
 
     /// The statements of a `case` end before this lexeme.
     fn case_ends(&mut self, place: u32, count: u32, lexeme: Lexeme) -> Result<bool, NoMemory>
-        ensures { IfOk result (λ taken. Takes taken self.new (clause_ends (Frame.CaseBody place count ∷ self.old.stack) self.old.events lexeme)) }
+        ensures { IfOk result
+            (λ taken. Takes taken self.new
+            (clause_ends (Frame.CaseBody place count ∷ self.old.stack) self.old.events lexeme)) }
     {
         let parts = sum_of_counts(1, count)?;
         self.tell(node_at(place, Head::Case, parts))?;
@@ -87,7 +93,9 @@ impl Machine {
 
     /// The statements of a `default` end before this lexeme.
     fn default_ends(&mut self, place: u32, count: u32, lexeme: Lexeme) -> Result<bool, NoMemory>
-        ensures { IfOk result (λ taken. Takes taken self.new (clause_ends (Frame.Default place count ∷ self.old.stack) self.old.events lexeme)) }
+        ensures { IfOk result
+            (λ taken. Takes taken self.new
+            (clause_ends (Frame.Default place count ∷ self.old.stack) self.old.events lexeme)) }
     {
         self.tell(node_at(place, Head::Default, count))?;
         self.clause_told(lexeme)
@@ -95,7 +103,8 @@ impl Machine {
 
     /// The statements of a clause end before this lexeme.
     fn clause_ends(&mut self, lexeme: Lexeme) -> Result<bool, NoMemory>
-        ensures { IfOk result (λ taken. Takes taken self.new (clause_ends self.old.stack self.old.events lexeme)) }
+        ensures { IfOk result
+            (λ taken. Takes taken self.new (clause_ends self.old.stack self.old.events lexeme)) }
     {
         match self.pop() {
             Some(Frame::CaseBody(place, count)) => self.case_ends(place, count, lexeme),
@@ -106,7 +115,9 @@ impl Machine {
 
     /// A function with so many parameters and statements has ended (ECMA-262 13).
     fn function_ends(&mut self, owner: Owner, parameters: u32, count: u32) -> Result<bool, NoMemory>
-        ensures { IfOk result (λ taken. Takes taken self.new (function_ends owner parameters count self.old.stack self.old.events)) }
+        ensures { IfOk result
+            (λ taken. Takes taken self.new
+            (function_ends owner parameters count self.old.stack self.old.events)) }
     {
         let parts = sum_of_counts(parameters, count)?;
         match owner {
@@ -123,7 +134,8 @@ impl Machine {
 
     /// `}` ends a list of statements.
     fn brace_ends(&mut self, lexeme: Lexeme) -> Result<bool, NoMemory>
-        ensures { IfOk result (λ taken. Takes taken self.new (brace_ends self.old.stack self.old.events lexeme)) }
+        ensures { IfOk result
+            (λ taken. Takes taken self.new (brace_ends self.old.stack self.old.events lexeme)) }
     {
         match self.pop() {
             Some(Frame::Block(place, count)) => {
@@ -140,7 +152,8 @@ impl Machine {
 
     /// The end ends the script.
     fn script_ends(&mut self) -> Result<bool, NoMemory>
-        ensures { IfOk result (λ taken. Takes taken self.new (script_ends self.old.stack self.old.events)) }
+        ensures { IfOk result
+            (λ taken. Takes taken self.new (script_ends self.old.stack self.old.events)) }
     {
         match self.pop() {
             Some(Frame::Script) => self.want(Mode::Done),
@@ -150,7 +163,9 @@ impl Machine {
 
     /// A function declaration begins, in a script or a body (ECMA-262 14).
     fn declaration_begins(&mut self, lexeme: Lexeme) -> Result<bool, NoMemory>
-        ensures { IfOk result (λ taken. Takes taken self.new (declaration_begins self.old.stack self.old.events lexeme)) }
+        ensures { IfOk result
+            (λ taken. Takes taken self.new
+            (declaration_begins self.old.stack self.old.events lexeme)) }
     {
         let mode = Mode::DeclarationName(lexeme.start);
         match self.pop() {
@@ -164,7 +179,8 @@ impl Machine {
 
     /// A statement is wanted, or the end of a list of them (ECMA-262 12, 14).
     pub(crate) fn start(&mut self, lexeme: Lexeme) -> Result<bool, NoMemory>
-        ensures { IfOk result (λ taken. Takes taken self.new (start self.old.stack self.old.events lexeme)) }
+        ensures { IfOk result
+            (λ taken. Takes taken self.new (start self.old.stack self.old.events lexeme)) }
     {
         let place = lexeme.start;
         match lexeme.word {
@@ -197,7 +213,9 @@ impl Machine {
 
     /// Behind the statement of a `do` (ECMA-262 12.6.1).
     fn do_ended(&mut self, place: u32, lexeme: Lexeme) -> Result<bool, NoMemory>
-        ensures { IfOk result (λ taken. Takes taken self.new (do_ended lexeme.word place self.old.stack self.old.events)) }
+        ensures { IfOk result
+            (λ taken. Takes taken self.new
+            (do_ended lexeme.word place self.old.stack self.old.events)) }
     {
         match lexeme.word {
             Word::While => self.open(Frame::Condition(Header::DoWhile, place), Mode::OpenHeader),
@@ -207,7 +225,9 @@ impl Machine {
 
     /// Behind the block of a `try` (ECMA-262 12.14).
     fn try_ended(&mut self, place: u32, lexeme: Lexeme) -> Result<bool, NoMemory>
-        ensures { IfOk result (λ taken. Takes taken self.new (try_ended lexeme lexeme.word place self.old.stack self.old.events)) }
+        ensures { IfOk result
+            (λ taken. Takes taken self.new
+            (try_ended lexeme lexeme.word place self.old.stack self.old.events)) }
     {
         match lexeme.word {
             Word::Catch => self.open(Frame::Handled(place), Mode::OpenCatch(lexeme.start)),
@@ -222,7 +242,8 @@ impl Machine {
     /// A statement has ended before this lexeme: so have those that it ends, and then a statement is wanted. An `else`
     /// belongs to the nearest `if` (ECMA-262 12.5).
     pub(crate) fn ended(&mut self, lexeme: Lexeme) -> Result<bool, NoMemory>
-        ensures { IfOk result (λ taken. Takes taken self.new (ended self.old.stack self.old.events lexeme)) }
+        ensures { IfOk result
+            (λ taken. Takes taken self.new (ended self.old.stack self.old.events lexeme)) }
     {
         'forms: loop {
             match self.form_ended(lexeme)? {
@@ -234,8 +255,10 @@ impl Machine {
 
     /// The innermost of the open forms ends with the statement in it, or goes on with this lexeme.
     fn form_ended(&mut self, lexeme: Lexeme) -> Result<Ending, NoMemory>
-        ensures ends { IfOk result (λ ending. Ends ending self.new lexeme (ended self.old.stack self.old.events lexeme)) }
-        ensures fewer { IfOk result (λ ending. ending ≡ Ending.On → length self.new.stack < length self.old.stack) }
+        ensures ends { IfOk result
+            (λ ending. Ends ending self.new lexeme (ended self.old.stack self.old.events lexeme)) }
+        ensures fewer { IfOk result
+            (λ ending. ending ≡ Ending.On → length self.new.stack < length self.old.stack) }
     {
         match self.pop() {
             Some(Frame::Then(place)) => self.branch_ended(place, lexeme),
@@ -273,7 +296,8 @@ impl Machine {
     /// A form has ended with the statement in it.
     fn told_ended(&mut self, event: Event) -> Result<Ending, NoMemory>
         ensures on { IfOk result (λ ending. ending ≡ Ending.On) }
-        ensures told { OnOk result (self.new ≡ record self.old { events = event ∷ self.old.events }) }
+        ensures told { OnOk result
+            (self.new ≡ record self.old { events = event ∷ self.old.events }) }
     {
         self.tell(event)?;
         Ok(Ending::On)
@@ -281,7 +305,9 @@ impl Machine {
 
     /// A list of statements goes on, or ends.
     fn list_goes_on(&mut self, list: Frame, lexeme: Lexeme) -> Result<Ending, NoMemory>
-        ensures { IfOk result (λ ending. (taken : Bool) × (ending ≡ Ending.Done taken) × Takes taken self.new (start (list ∷ self.old.stack) self.old.events lexeme)) }
+        ensures { IfOk result
+            (λ ending. (taken : Bool) × (ending ≡ Ending.Done taken)
+            × Takes taken self.new (start (list ∷ self.old.stack) self.old.events lexeme)) }
     {
         self.push(list)?;
         Ok(Ending::Done(self.start(lexeme)?))
@@ -289,8 +315,11 @@ impl Machine {
 
     /// The statement of an `if` has ended (ECMA-262 12.5).
     fn branch_ended(&mut self, place: u32, lexeme: Lexeme) -> Result<Ending, NoMemory>
-        ensures ends { IfOk result (λ ending. Ends ending self.new lexeme (ended (Frame.Then place ∷ self.old.stack) self.old.events lexeme)) }
-        ensures same { IfOk result (λ ending. ending ≡ Ending.On → self.new.stack ≡ self.old.stack) }
+        ensures ends { IfOk result
+            (λ ending. Ends ending self.new lexeme
+            (ended (Frame.Then place ∷ self.old.stack) self.old.events lexeme)) }
+        ensures same { IfOk result
+            (λ ending. ending ≡ Ending.On → self.new.stack ≡ self.old.stack) }
     {
         match lexeme.word {
             Word::Else => Ok(Ending::Done(self.open(Frame::Otherwise(place), Mode::Statement)?)),
@@ -300,8 +329,11 @@ impl Machine {
 
     /// The catch clause of a `try` has ended (ECMA-262 12.14).
     fn handled(&mut self, place: u32, lexeme: Lexeme) -> Result<Ending, NoMemory>
-        ensures ends { IfOk result (λ ending. Ends ending self.new lexeme (ended (Frame.Handled place ∷ self.old.stack) self.old.events lexeme)) }
-        ensures same { IfOk result (λ ending. ending ≡ Ending.On → self.new.stack ≡ self.old.stack) }
+        ensures ends { IfOk result
+            (λ ending. Ends ending self.new lexeme
+            (ended (Frame.Handled place ∷ self.old.stack) self.old.events lexeme)) }
+        ensures same { IfOk result
+            (λ ending. ending ≡ Ending.On → self.new.stack ≡ self.old.stack) }
     {
         match lexeme.word {
             Word::Finally => Ok(Ending::Done(self.open(Frame::Finally(place), Mode::OpenBlock)?)),
@@ -314,7 +346,9 @@ impl Machine {
 
     /// A statement ends here, with `;` or with the empty spelling: then this lexeme stands behind it (ECMA-262 7.9).
     pub(crate) fn finish(&mut self, inserted: bool, lexeme: Lexeme) -> Result<bool, NoMemory>
-        ensures { IfOk result (λ taken. Takes taken self.new (finish inserted self.old.stack self.old.events lexeme)) }
+        ensures { IfOk result
+            (λ taken. Takes taken self.new
+            (finish inserted self.old.stack self.old.events lexeme)) }
     {
         match lexeme.word {
             Word::Semicolon => self.want(Mode::Ended),
@@ -330,14 +364,16 @@ impl Machine {
 
     /// The `;` of a statement that nothing continues is wanted.
     pub(crate) fn semicolon(&mut self, lexeme: Lexeme) -> Result<bool, NoMemory>
-        ensures { IfOk result (λ taken. Takes taken self.new (semicolon self.old.stack self.old.events lexeme)) }
+        ensures { IfOk result
+            (λ taken. Takes taken self.new (semicolon self.old.stack self.old.events lexeme)) }
     {
         self.finish(is_inserted(lexeme), lexeme)
     }
 
     /// The `:` behind `default` is wanted.
     pub(crate) fn default_colon(&mut self, lexeme: Lexeme) -> Result<bool, NoMemory>
-        ensures { IfOk result (λ taken. Takes taken self.new (default_colon self.old.stack self.old.events lexeme)) }
+        ensures { IfOk result
+            (λ taken. Takes taken self.new (default_colon self.old.stack self.old.events lexeme)) }
     {
         match lexeme.word {
             Word::Colon => self.want(Mode::Statement),
@@ -347,7 +383,8 @@ impl Machine {
 
     /// The `{` of a block in a `try` is wanted.
     pub(crate) fn open_block(&mut self, lexeme: Lexeme) -> Result<bool, NoMemory>
-        ensures { IfOk result (λ taken. Takes taken self.new (open_block self.old.stack self.old.events lexeme)) }
+        ensures { IfOk result
+            (λ taken. Takes taken self.new (open_block self.old.stack self.old.events lexeme)) }
     {
         match lexeme.word {
             Word::OpenBrace => self.open(Frame::Block(lexeme.start, 0), Mode::Statement),
@@ -357,7 +394,9 @@ impl Machine {
 
     /// The `(` behind `catch` is wanted.
     pub(crate) fn open_catch(&mut self, place: u32, lexeme: Lexeme) -> Result<bool, NoMemory>
-        ensures { IfOk result (λ taken. Takes taken self.new (open_catch place self.old.stack self.old.events lexeme)) }
+        ensures { IfOk result
+            (λ taken. Takes taken self.new
+            (open_catch place self.old.stack self.old.events lexeme)) }
     {
         match lexeme.word {
             Word::OpenParenthesis => self.want(Mode::CatchName(place)),
@@ -367,7 +406,9 @@ impl Machine {
 
     /// The name that a `catch` binds is wanted.
     pub(crate) fn catch_name(&mut self, place: u32, lexeme: Lexeme) -> Result<bool, NoMemory>
-        ensures { IfOk result (λ taken. Takes taken self.new (catch_name place self.old.stack self.old.events lexeme)) }
+        ensures { IfOk result
+            (λ taken. Takes taken self.new
+            (catch_name place self.old.stack self.old.events lexeme)) }
     {
         match lexeme.word {
             Word::Name => self.open(Frame::Catch(place, lexeme), Mode::CloseCatch),
@@ -377,7 +418,8 @@ impl Machine {
 
     /// The `)` behind that name is wanted.
     pub(crate) fn close_catch(&mut self, lexeme: Lexeme) -> Result<bool, NoMemory>
-        ensures { IfOk result (λ taken. Takes taken self.new (close_catch self.old.stack self.old.events lexeme)) }
+        ensures { IfOk result
+            (λ taken. Takes taken self.new (close_catch self.old.stack self.old.events lexeme)) }
     {
         match lexeme.word {
             Word::CloseParenthesis => self.want(Mode::OpenBlock),

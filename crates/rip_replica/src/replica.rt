@@ -61,7 +61,8 @@ impl<E, I, T, H> Replica<E, I, T, H> {
         ensures grows { Grows self.old.heap self.new.heap }
         ensures turns { TurnsSo (E.evaluation program.now)
             (spot I.item_plan I.under_way self.old) (spot I.item_plan I.under_way self.new) n result }
-        ensures onward { IsOnward (length self.old.runner.planner.batch.items) self.old.place self.old.runner.planner.begun
+        ensures onward { IsOnward (length self.old.runner.planner.batch.items) self.old.place
+            self.old.runner.planner.begun
             (length self.new.runner.planner.batch.items) self.new.place self.new.runner.planner.begun result }
         ensures number { self.new.number ≡ self.old.number }
         ensures page { (number : H → ℕ) → KeepsSteps (E.evaluation program.now) I.under_way number
@@ -89,7 +90,8 @@ impl<E, I, T, H> Replica<E, I, T, H> {
         requires { self.old.place ≡ Place.Between }
         ensures turns { (program : E.Program) → TurnsSo (E.evaluation program)
             (spot I.item_plan I.under_way self.old) (spot I.item_plan I.under_way self.new) n result }
-        ensures onward { IsOnward (length self.old.runner.planner.batch.items) self.old.place self.old.runner.planner.begun
+        ensures onward { IsOnward (length self.old.runner.planner.batch.items) self.old.place
+            self.old.runner.planner.begun
             (length self.new.runner.planner.batch.items) self.new.place self.new.runner.planner.begun result }
         ensures number { self.new.number ≡ self.old.number }
         ensures idle { StandsIdle result self.new.place }
@@ -122,7 +124,8 @@ impl<E, I, T, H> Replica<E, I, T, H> {
         ensures grows { Grows self.old.heap self.new.heap }
         ensures turns { TurnsSo (E.evaluation program.now)
             (spot I.item_plan I.under_way self.old) (spot I.item_plan I.under_way self.new) n result }
-        ensures onward { IsOnward (length self.old.runner.planner.batch.items) self.old.place self.old.runner.planner.begun
+        ensures onward { IsOnward (length self.old.runner.planner.batch.items) self.old.place
+            self.old.runner.planner.begun
             (length self.new.runner.planner.batch.items) self.new.place self.new.runner.planner.begun result }
         ensures number { self.new.number ≡ self.old.number }
         ensures page { (number : H → ℕ) → KeepsSteps (E.evaluation program.now) I.under_way number

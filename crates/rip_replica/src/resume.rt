@@ -63,14 +63,19 @@ impl<E, I, T, H> Replica<E, I, T, H> {
         ensures grows { Grows self.old.heap self.new.heap }
         ensures number { self.new.number ≡ self.old.number }
         ensures page { (number : H → ℕ) → KeepsSteps (E.evaluation program.now) I.under_way number
-            → KeepsServed I.served number → HasNumberSo result (number self.old.host) (number self.new.host) }
+            → KeepsServed I.served number → HasNumberSo result (number self.old.host)
+            (number self.new.host) }
         ensures idle { StandsIdleSo result self.new.place }
-        ensures slice { SlicedSo (E.evaluation program.now) I.fact I.served I.ending I.may_serve self.old.number
+        ensures slice { SlicedSo (E.evaluation program.now) I.fact I.served I.ending I.may_serve
+            self.old.number
             (spot I.item_plan I.under_way self.old) (spot I.item_plan I.under_way self.new)
             slice.now.units slice.now made.old made.new result (V.replies_as service.old) (V.replies_as service.new) }
-        ensures resumed { (doing : ℕ → ℕ → Doing T H) (st : Stage) (meant : Meant) (calls : List Called)
-            → Agrees (doing st.seed st.time) I.fact I.served I.ending → self.old.number ≡ length st.batches
-            → IsBusy (E.evaluation program.now) (doing st.seed st.time) I.may_serve (spot I.item_plan I.under_way self.old) st
+        ensures resumed { (doing : ℕ → ℕ → Doing T H) (st : Stage) (meant : Meant)
+            (calls : List Called)
+            → Agrees (doing st.seed st.time) I.fact I.served I.ending → self.old.number
+            ≡ length st.batches
+            → IsBusy (E.evaluation program.now) (doing st.seed st.time) I.may_serve
+            (spot I.item_plan I.under_way self.old) st
             → 1 ≤ slice.now.units → V.replies_as service.old meant calls
             → Resumed (meaning_of doing) st meant calls slice.now made.old made.new result
             (IsAt (E.evaluation program.now) doing I.may_serve (spot I.item_plan I.under_way self.new))
@@ -97,9 +102,11 @@ impl<E, I, T, H> Replica<E, I, T, H> {
         ensures grows { Grows self.old.heap self.new.heap }
         ensures number { self.new.number ≡ self.old.number }
         ensures page { (number : H → ℕ) → KeepsSteps (E.evaluation program.now) I.under_way number
-            → KeepsServed I.served number → HasNumberSo result (number self.old.host) (number self.new.host) }
+            → KeepsServed I.served number → HasNumberSo result (number self.old.host)
+            (number self.new.host) }
         ensures idle { StandsIdleSo result self.new.place }
-        ensures slice { SlicedSo (E.evaluation program.now) I.fact I.served I.ending I.may_serve self.old.number
+        ensures slice { SlicedSo (E.evaluation program.now) I.fact I.served I.ending I.may_serve
+            self.old.number
             (spot I.item_plan I.under_way self.old) (spot I.item_plan I.under_way self.new)
             slice.now.units slice.now made.old made.new result (V.replies_as service.old) (V.replies_as service.new) }
     {
@@ -124,7 +131,8 @@ impl<E, I, T, H> Replica<E, I, T, H> {
     where
         H: Host,
         I: Works<H, T>,
-        ensures call { (item : T) → slice_get self.now.runner.planner.batch.items (self.now.runner.planner.begun - 1) ≡ Some item
+        ensures call { (item : T) → slice_get self.now.runner.planner.batch.items
+            (self.now.runner.planner.begun - 1) ≡ Some item
             → IfOk result (IsCallOf (I.fact item)) }
         ensures args { IfOk result HasArgs }
     {
@@ -148,20 +156,29 @@ impl<E, I, T, H> Replica<E, I, T, H> {
         I: Works<H, T>,
         requires { H.fits self.old.host self.old.heap }
         ensures fits { H.fits self.new.host self.new.heap }
-        ensures kept { (self.new.runner ≡ self.old.runner) × (self.new.heap ≡ self.old.heap) × (self.new.number ≡ self.old.number) }
+        ensures kept { (self.new.runner ≡ self.old.runner) × (self.new.heap ≡ self.old.heap)
+            × (self.new.number ≡ self.old.number) }
         ensures place { OnOk result (self.new.place ≡ Place.Between) }
         ensures page { (number : H → ℕ) → KeepsServed I.served number
             → OnOk result (number self.new.host ≡ number self.old.host) }
-        ensures served { (meant : Meant) (calls : List Called) (item : T) (number : ℕ) (name : List ℕ) (args : List Tree)
-            → slice_get self.old.runner.planner.batch.items (self.old.runner.planner.begun - 1) ≡ Some item
+        ensures served { (meant : Meant) (calls : List Called) (item : T) (number : ℕ)
+            (name : List ℕ) (args : List Tree)
+            → slice_get self.old.runner.planner.batch.items (self.old.runner.planner.begun - 1)
+            ≡ Some item
             → I.fact item ≡ serves number name args → V.replies_as service.old meant calls
-            → OnOk result (IsServed slice.now self.old.number number name args (given_to meant calls slice.now.time name args)
+            → OnOk result (IsServed slice.now self.old.number number name args
+            (given_to meant calls slice.now.time name args)
             calls made.old made.new (V.replies_as service.new meant)) }
-        ensures host { (meant : Meant) (calls : List Called) (item : T) (number : ℕ) (name : List ℕ) (args : List Tree)
-            → slice_get self.old.runner.planner.batch.items (self.old.runner.planner.begun - 1) ≡ Some item
+        ensures host { (meant : Meant) (calls : List Called) (item : T) (number : ℕ) (name : List ℕ)
+            (args : List Tree)
+            → slice_get self.old.runner.planner.batch.items (self.old.runner.planner.begun - 1)
+            ≡ Some item
             → I.fact item ≡ serves number name args → V.replies_as service.old meant calls
-            → OnOk result (self.new.host ≡ I.served self.old.number (given_to meant calls slice.now.time name args) self.old.host) }
-        ensures unserved { (meant : Meant) (calls : List Called) → V.replies_as service.old meant calls
+            → OnOk result (self.new.host
+            ≡ I.served self.old.number (given_to meant calls slice.now.time name args)
+            self.old.host) }
+        ensures unserved { (meant : Meant) (calls : List Called)
+            → V.replies_as service.old meant calls
             → OnErr result (IsUnserved calls made.old made.new (V.replies_as service.new meant)) }
     {
         let call = match self.call_under_way(alloc)? {
@@ -190,9 +207,12 @@ impl<E, I, T, H> Replica<E, I, T, H> {
     where
         H: Host,
         I: Works<H, T>,
-        ensures ends { (result ≡ Progress.Finished (Some (I.ending self.old.runner.planner.batch.items close self.old.host)))
+        ensures ends { (result
+            ≡ Progress.Finished (Some
+            (I.ending self.old.runner.planner.batch.items close self.old.host)))
             ⊎ (result ≡ Progress.Finished (Some (Ends.Memory self.old.runner.planner.begun))) }
-        ensures kept { (self.new.runner ≡ self.old.runner) × (self.new.heap ≡ self.old.heap) × (self.new.host ≡ self.old.host) }
+        ensures kept { (self.new.runner ≡ self.old.runner) × (self.new.heap ≡ self.old.heap)
+            × (self.new.host ≡ self.old.host) }
         ensures number { self.new.number ≡ self.old.number }
     {
         let planner = &self.runner.planner;
@@ -204,8 +224,10 @@ impl<E, I, T, H> Replica<E, I, T, H> {
 
     /// The end of the session for want of memory in the item under way.
     fn lack(&mut self) -> Progress
-        ensures lacks { result ≡ Progress.Finished (Some (Ends.Memory self.old.runner.planner.begun)) }
-        ensures kept { (self.new.runner ≡ self.old.runner) × (self.new.heap ≡ self.old.heap) × (self.new.host ≡ self.old.host) }
+        ensures lacks { result
+            ≡ Progress.Finished (Some (Ends.Memory self.old.runner.planner.begun)) }
+        ensures kept { (self.new.runner ≡ self.old.runner) × (self.new.heap ≡ self.old.heap)
+            × (self.new.host ≡ self.old.host) }
         ensures number { self.new.number ≡ self.old.number }
     {
         self.place = Place::Idle;

@@ -58,12 +58,14 @@ pub trait Works<H: Host, T>: Items<H, T> {
         requires fits { H.fits host.old heap.now }
         requires may { may_serve host.old ≡ true }
         ensures fits { H.fits host.new heap.now }
-        ensures served { host.new ≡ served batch (record { time = time; reply = tree_of reply }) host.old };
+        ensures served { host.new ≡ served batch (record { time = time; reply = tree_of reply })
+            host.old };
 
     /// The ending where an item of this batch closed so.
     fn ending(alloc: Global, batch: &Vec<T>, close: Close, host: &H) -> Result<Ending, NoMemory>
         ensures { IfOk result (λ e. e ≡ ending batch.now.items close host.now) };
 
     // A call alone waits, and no item takes a unit but for its fuel.
-    ghost shapes: { (batch : ℕ) (item : T) (n : ℕ) (w : World) (s : H) → IsItemPlan may_serve (fact item) (plans batch item n w s) };
+    ghost shapes: { (batch : ℕ) (item : T) (n : ℕ) (w : World) (s : H)
+        → IsItemPlan may_serve (fact item) (plans batch item n w s) };
 }

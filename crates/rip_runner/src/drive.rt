@@ -28,9 +28,12 @@ impl<E, P> Runner<E, P> {
         requires { H.fits host.old heap.old }
         ensures fits { H.fits host.new heap.new }
         ensures grows { Grows heap.old heap.new }
-        ensures keeps { Keeps (E.evaluation program.now) (going P.plan self.old) (going P.plan self.new) }
+        ensures keeps { Keeps (E.evaluation program.now) (going P.plan self.old)
+            (going P.plan self.new) }
         ensures kept { P.kept self.old.planner self.new.planner }
-        ensures law { Drives (E.evaluation program.now) (going P.plan self.old) heap.old host.old n (O.changes outside.old) (O.changes outside.new) (going P.plan self.new) heap.new host.new result }
+        ensures law { Drives (E.evaluation program.now) (going P.plan self.old) heap.old host.old n
+            (O.changes outside.old) (O.changes outside.new) (going P.plan self.new) heap.new
+            host.new result }
         ensures within { IsWithin n result }
     {
         let mut left = n;

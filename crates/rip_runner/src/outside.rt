@@ -19,6 +19,9 @@ pub trait Outside<H: Host, P> {
     ) -> Result<(), NoMemory>
         requires { H.fits host.old heap.now }
         ensures fits { H.fits host.new heap.now }
-        ensures changes { OnOk result ((change : H → H) × (changes self.new ≡ changes self.old ++ (change ∷ [])) × (host.new ≡ change host.old)) }
-        ensures memory { OnErr result ((changes self.new ≡ changes self.old) × (host.new ≡ host.old)) };
+        ensures changes { OnOk result
+            ((change : H → H) × (changes self.new ≡ changes self.old ++ (change ∷ []))
+            × (host.new ≡ change host.old)) }
+        ensures memory { OnErr result
+            ((changes self.new ≡ changes self.old) × (host.new ≡ host.old)) };
 }

@@ -25,10 +25,14 @@ pub trait Planner<H: Host> {
         requires { H.fits host.old heap.old }
         ensures fits { H.fits host.new heap.new }
         ensures grows { Grows heap.old heap.new }
-        ensures plan { IfOk result (λ step. plan self.old heap.old host.old ≡ ahead (plan self.new) step heap.new host.new) }
+        ensures plan { IfOk result
+            (λ step. plan self.old heap.old host.old ≡ ahead (plan self.new) step heap.new
+            host.new) }
         ensures fewer { IfOk result (λ step. IsFewer step (steps self.new) (steps self.old)) }
         ensures kept { kept self.old self.new }
-        ensures memory { OnErr result ((plan self.new ≡ plan self.old) × (steps self.new ≡ steps self.old) × (heap.new ≡ heap.old) × (host.new ≡ host.old)) };
+        ensures memory { OnErr result
+            ((plan self.new ≡ plan self.old) × (steps self.new ≡ steps self.old)
+            × (heap.new ≡ heap.old) × (host.new ≡ host.old)) };
 
     // No step keeps all, and two steps what each keeps.
     ghost same: { (p : Self) → kept p p };

@@ -47,7 +47,14 @@ enum Moved {
 impl<E, P> Runner<E, P> {
     /// A runner at the beginning of what this planner plans, with so much fuel for an item.
     pub fn new(evaluator: E, planner: P, full: u64) -> Self
-        ensures { result ≡ record { evaluator = evaluator; planner = planner; phase = Phase.Asking; fuel = full; full = full } }
+        ensures { result ≡ record {
+          evaluator = evaluator;
+          planner = planner;
+          phase = Phase.Asking;
+          fuel = full;
+          full =
+              full;
+        } }
     {
         Runner {
             evaluator,
@@ -73,11 +80,14 @@ impl<E, P> Runner<E, P> {
         requires { H.fits host.old heap.old }
         ensures fits { H.fits host.new heap.new }
         ensures grows { Grows heap.old heap.new }
-        ensures keeps { Keeps (E.evaluation program.now) (going P.plan self.old) (going P.plan self.new) }
+        ensures keeps { Keeps (E.evaluation program.now) (going P.plan self.old)
+            (going P.plan self.new) }
         ensures kept { P.kept self.old.planner self.new.planner }
-        ensures law { Rests (E.evaluation program.now) [] (going P.plan self.old) heap.old host.old n (going P.plan self.new) heap.new host.new result }
+        ensures law { Rests (E.evaluation program.now) [] (going P.plan self.old) heap.old host.old
+            n (going P.plan self.new) heap.new host.new result }
         ensures within { IsWithin n result }
-        ensures later { turns (P.steps self.new.planner) self.new.phase ≤ turns (P.steps self.old.planner) self.old.phase }
+        ensures later { turns (P.steps self.new.planner) self.new.phase
+            ≤ turns (P.steps self.old.planner) self.old.phase }
         ensures number { (number : H → ℕ) → KeepsNumber (E.evaluation program.now) P.plan number
             → HasNumber result (number host.old) (number host.new) }
     {
@@ -105,11 +115,14 @@ impl<E, P> Runner<E, P> {
         requires { H.fits host.old heap.old }
         ensures fits { H.fits host.new heap.new }
         ensures grows { Grows heap.old heap.new }
-        ensures keeps { Keeps (E.evaluation program.now) (going P.plan self.old) (going P.plan self.new) }
+        ensures keeps { Keeps (E.evaluation program.now) (going P.plan self.old)
+            (going P.plan self.new) }
         ensures kept { P.kept self.old.planner self.new.planner }
-        ensures moves { Moves (E.evaluation program.now) (going P.plan self.old) heap.old host.old n (going P.plan self.new) heap.new host.new result }
+        ensures moves { Moves (E.evaluation program.now) (going P.plan self.old) heap.old host.old n
+            (going P.plan self.new) heap.new host.new result }
         ensures within { IsWithinTurn n result }
-        ensures onward { IsOnward result (turns (P.steps self.new.planner) self.new.phase) (turns (P.steps self.old.planner) self.old.phase) }
+        ensures onward { IsOnward result (turns (P.steps self.new.planner) self.new.phase)
+            (turns (P.steps self.old.planner) self.old.phase) }
         ensures number { (number : H → ℕ) → KeepsNumber (E.evaluation program.now) P.plan number
             → HasNumberSo result (number host.old) (number host.new) }
     {
@@ -143,11 +156,14 @@ impl<E, P> Runner<E, P> {
         requires asking { self.old.phase ≡ Phase.Asking }
         ensures fits { H.fits host.new heap.new }
         ensures grows { Grows heap.old heap.new }
-        ensures keeps { Keeps (E.evaluation program.now) (going P.plan self.old) (going P.plan self.new) }
+        ensures keeps { Keeps (E.evaluation program.now) (going P.plan self.old)
+            (going P.plan self.new) }
         ensures kept { P.kept self.old.planner self.new.planner }
-        ensures moves { Moves (E.evaluation program.now) (going P.plan self.old) heap.old host.old n (going P.plan self.new) heap.new host.new result }
+        ensures moves { Moves (E.evaluation program.now) (going P.plan self.old) heap.old host.old n
+            (going P.plan self.new) heap.new host.new result }
         ensures within { IsWithinTurn n result }
-        ensures onward { IsOnward result (turns (P.steps self.new.planner) self.new.phase) (turns (P.steps self.old.planner) Phase.Asking) }
+        ensures onward { IsOnward result (turns (P.steps self.new.planner) self.new.phase)
+            (turns (P.steps self.old.planner) Phase.Asking) }
         ensures number { (number : H → ℕ) → KeepsNumber (E.evaluation program.now) P.plan number
             → HasNumberSo result (number host.old) (number host.new) }
     {
@@ -180,9 +196,11 @@ impl<E, P> Runner<E, P> {
         E: Evaluator<H>,
         P: Planner<H>,
         ensures grows { Grows heap.old heap.new }
-        ensures keeps { Keeps (E.evaluation program.now) (going P.plan self.old) (going P.plan self.new) }
+        ensures keeps { Keeps (E.evaluation program.now) (going P.plan self.old)
+            (going P.plan self.new) }
         ensures planner { self.new.planner ≡ self.old.planner }
-        ensures begins { BeginsRun (E.evaluation program.now) item (opened opening.now) (going P.plan self.old) heap.old n (going P.plan self.new) heap.new result }
+        ensures begins { BeginsRun (E.evaluation program.now) item (opened opening.now)
+            (going P.plan self.old) heap.old n (going P.plan self.new) heap.new result }
         ensures weighs { weight self.new.phase ≤ 2 }
     {
         match self
@@ -222,11 +240,14 @@ impl<E, P> Runner<E, P> {
         requires running { self.old.phase ≡ Phase.Running item }
         ensures fits { H.fits host.new heap.new }
         ensures grows { Grows heap.old heap.new }
-        ensures keeps { Keeps (E.evaluation program.now) (going P.plan self.old) (going P.plan self.new) }
+        ensures keeps { Keeps (E.evaluation program.now) (going P.plan self.old)
+            (going P.plan self.new) }
         ensures kept { P.kept self.old.planner self.new.planner }
-        ensures moves { Moves (E.evaluation program.now) (going P.plan self.old) heap.old host.old n (going P.plan self.new) heap.new host.new result }
+        ensures moves { Moves (E.evaluation program.now) (going P.plan self.old) heap.old host.old n
+            (going P.plan self.new) heap.new host.new result }
         ensures within { IsWithinTurn n result }
-        ensures onward { IsOnward result (turns (P.steps self.new.planner) self.new.phase) (turns (P.steps self.old.planner) (Phase.Running item)) }
+        ensures onward { IsOnward result (turns (P.steps self.new.planner) self.new.phase)
+            (turns (P.steps self.old.planner) (Phase.Running item)) }
         ensures number { (number : H → ℕ) → KeepsNumber (E.evaluation program.now) P.plan number
             → HasNumberSo result (number host.old) (number host.new) }
     {

@@ -42,8 +42,10 @@ pub trait Evaluator<H: Host> {
         opening: &Opening,
         fuel: u64,
     ) -> Result<(), Refused>
-        ensures keeps { (evaluation program.now).run self.new ≡ (evaluation program.now).run self.old }
-        ensures begins { Begins (evaluation program.now) (opened opening.now) fuel self.old heap.old self.new heap.new result }
+        ensures keeps { (evaluation program.now).run self.new
+            ≡ (evaluation program.now).run self.old }
+        ensures begins { Begins (evaluation program.now) (opened opening.now) fuel self.old heap.old
+            self.new heap.new result }
         ensures grows { Grows heap.old heap.new };
 
     /// Goes on with the run for at most `n` units.
@@ -57,13 +59,17 @@ pub trait Evaluator<H: Host> {
     ) -> Advance
         requires { H.fits host.old heap.old }
         ensures fits { H.fits host.new heap.new }
-        ensures keeps { (evaluation program.now).run self.new ≡ (evaluation program.now).run self.old }
-        ensures advances { Advances (evaluation program.now) n self.old heap.old host.old self.new heap.new host.new result }
+        ensures keeps { (evaluation program.now).run self.new
+            ≡ (evaluation program.now).run self.old }
+        ensures advances { Advances (evaluation program.now) n self.old heap.old host.old self.new
+            heap.new host.new result }
         ensures grows { Grows heap.old heap.new };
 
     // More units change no run that has come to its end.
-    ghost once: { (program : Self.Program) (evaluator : Self) → RunsOnce (evaluation program) evaluator };
+    ghost once: { (program : Self.Program) (evaluator : Self)
+        → RunsOnce (evaluation program) evaluator };
 
     // A run with as many units as fuel comes to its end.
-    ghost ends: { (program : Self.Program) (evaluator : Self) → EndsByFuel (evaluation program) evaluator };
+    ghost ends: { (program : Self.Program) (evaluator : Self)
+        → EndsByFuel (evaluation program) evaluator };
 }

@@ -22,7 +22,11 @@ pub trait Planner<H: Host> {
         requires { H.fits host.old heap.old }
         ensures fits { H.fits host.new heap.new }
         ensures grows { Grows heap.old heap.new }
-        ensures plan { IfOk result (λ step. plan self.old heap.old host.old ≡ ahead (plan self.new) step heap.new host.new) }
+        ensures plan { IfOk result
+            (λ step. plan self.old heap.old host.old ≡ ahead (plan self.new) step heap.new
+            host.new) }
         ensures fewer { IfOk result (λ step. IsFewer step (steps self.new) (steps self.old)) }
-        ensures memory { OnErr result ((plan self.new ≡ plan self.old) × (steps self.new ≡ steps self.old) × (heap.new ≡ heap.old) × (host.new ≡ host.old)) };
+        ensures memory { OnErr result
+            ((plan self.new ≡ plan self.old) × (steps self.new ≡ steps self.old)
+            × (heap.new ≡ heap.old) × (host.new ≡ host.old)) };
 }

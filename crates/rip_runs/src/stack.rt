@@ -139,7 +139,10 @@ impl Stack {
     /// Puts a frame with no values in place of the innermost one and its values. Where there is none, nothing is done.
     pub fn replace(&mut self, frame: &Frame)
         ensures replaced { 0 < length self.old.frames → self.new
-            ≡ record self.old { frames = without_last self.old.frames ++ framed frame.now [] ∷ [] } }
+            ≡ record self.old {
+              frames = without_last self.old.frames ++ framed frame.now []
+                  ∷ [];
+            } }
         ensures none { self.old.frames ≡ [] → self.new ≡ self.old }
     {
         if let Some(last) = self.entries.last_mut() {

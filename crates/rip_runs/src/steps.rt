@@ -20,7 +20,8 @@ use rip_values::{Limit, NoMemory, Value};
 /// Puts a frame behind the others, which has room.
 pub(crate) fn pushed(stack: &mut Stack, frame: &Frame)
     requires { length stack.old.frames < stack.old.most }
-    ensures { stack.new ≡ record stack.old { frames = stack.old.frames ++ framed frame.now [] ∷ [] } }
+    ensures { stack.new ≡ record stack.old
+        { frames = stack.old.frames ++ framed frame.now [] ∷ [] } }
 {
     match stack.push(*frame) {
         Ok(()) => {},

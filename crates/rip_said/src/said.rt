@@ -27,7 +27,8 @@ pub fn write_batch_line(
     session: u64,
     batch: &Batch,
 ) -> Result<(), NoMemory>
-    ensures { OnOk result (text.new ≡ text.old ++ batch_line connection session (contents_of batch.now)) }
+    ensures { OnOk result
+        (text.new ≡ text.old ++ batch_line connection session (contents_of batch.now)) }
 {
     let body = write_batch(batch, alloc)?;
     text.text(b"say ")?;

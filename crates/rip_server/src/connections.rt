@@ -180,9 +180,11 @@ impl Connections {
         requires links { AreLinks (D.is_open door.old) (links_of self.old) }
         ensures links { OnOk result (AreLinks (D.is_open door.new) (links_of self.new)) }
         ensures opened { self.new.opened ≡ self.old.opened }
-        ensures after { (c : Connection) → slice_get self.old.list.items place ≡ Some c → OnOk result
+        ensures after { (c : Connection) → slice_get self.old.list.items place ≡ Some c
+            → OnOk result
             (there_of self.new.list.items
-            ≡ (if is_gone result || answer.now.close then without c.number (there_of self.old.list.items)
+            ≡ (if is_gone result || answer.now.close then without c.number
+            (there_of self.old.list.items)
             else there_of self.old.list.items)) }
         ensures acted { (c : Connection) → slice_get self.old.list.items place ≡ Some c →
             Acted result (answer_acts (is_gone result) answer.now.close c.number (answer_text answer.now))
@@ -215,8 +217,10 @@ impl Connections {
         ensures links { OnOk result (AreLinks (D.is_open door.new) (links_of self.new)) }
         ensures opened { self.new.opened ≡ self.old.opened }
         ensures after { let there = there_of self.old.list.items in OnOk result
-            (there_of self.new.list.items ≡ answered_there (is_gone result) (owing session there) there) }
-        ensures acted { Acted result (answered_with (is_gone result) (owing session (there_of self.old.list.items)) answer)
+            (there_of self.new.list.items ≡ answered_there (is_gone result) (owing session there)
+            there) }
+        ensures acted { Acted result
+            (answered_with (is_gone result) (owing session (there_of self.old.list.items)) answer)
             (seen (D.sent door.old) (D.knocks door.old) (D.shuts door.old) (D.asked door.old) None)
             (seen (D.sent door.new) (D.knocks door.new) (D.shuts door.new) (D.asked door.new) None) }
         ensures counted { Counts result (D.count door.old) (D.count door.new) }

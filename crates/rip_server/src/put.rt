@@ -19,7 +19,8 @@ pub fn put_line<K: Sink>(out: &mut K, line: Bytes) -> Result<(), Halt>
 
 /// Puts an entry to the sink.
 pub fn put_entry<K: Sink>(alloc: Global, out: &mut K, entry: &Entry) -> Result<(), Halt>
-    ensures put { IsPut result (entry_text (recorded_of entry.now)) (K.held out.old) (K.held out.new) }
+    ensures put { IsPut result (entry_text (recorded_of entry.now)) (K.held out.old)
+        (K.held out.new) }
     ensures counted { Counts result (K.count out.old) (K.count out.new) }
 {
     let line = write_entry(entry, alloc)?;

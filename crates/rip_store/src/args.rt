@@ -23,7 +23,8 @@ pub(crate) fn bytes_of(alloc: Global, text: &Units) -> Result<Vec<u8>, AllocErro
 /// The place that a key names behind the prefix.
 pub(crate) fn place_of(alloc: Global, prefix: &[u8], key: &Datum) -> Result<Vec<u8>, Failure>
     ensures place { IfOk result (λ p. place_of prefix.now (tree_of key.now) ≡ Some p.items) }
-    ensures refused { IfErr result (λ f. IsCause f (ok_or (place_of prefix.now (tree_of key.now)) Arguments)) }
+    ensures refused { IfErr result
+        (λ f. IsCause f (ok_or (place_of prefix.now (tree_of key.now)) Arguments)) }
 {
     let Datum::Text(key) = key else {
         return Err(Failure::Refused(Refusal::Arguments));
@@ -40,7 +41,8 @@ pub(crate) fn place_of(alloc: Global, prefix: &[u8], key: &Datum) -> Result<Vec<
 /// The place that args `[key]` name.
 pub(crate) fn one_key(alloc: Global, prefix: &[u8], args: &[Datum]) -> Result<Vec<u8>, Failure>
     ensures place { IfOk result (λ p. one_key prefix.now (map tree_of args.now) ≡ Some p.items) }
-    ensures refused { IfErr result (λ f. IsCause f (ok_or (one_key prefix.now (map tree_of args.now)) Arguments)) }
+    ensures refused { IfErr result
+        (λ f. IsCause f (ok_or (one_key prefix.now (map tree_of args.now)) Arguments)) }
 {
     match args {
         [key] => place_of(alloc, prefix, key),
@@ -54,8 +56,10 @@ pub(crate) fn key_and_value<'a>(
     prefix: &[u8],
     args: &'a [Datum],
 ) -> Result<(Vec<u8>, &'a Datum), Failure>
-    ensures found { IfOk result (λ a. key_and_value prefix.now (map tree_of args.now) ≡ Some (a.0.items, tree_of a.1.now)) }
-    ensures refused { IfErr result (λ f. IsCause f (ok_or (key_and_value prefix.now (map tree_of args.now)) Arguments)) }
+    ensures found { IfOk result
+        (λ a. key_and_value prefix.now (map tree_of args.now) ≡ Some (a.0.items, tree_of a.1.now)) }
+    ensures refused { IfErr result
+        (λ f. IsCause f (ok_or (key_and_value prefix.now (map tree_of args.now)) Arguments)) }
 {
     match args {
         [key, value] => {

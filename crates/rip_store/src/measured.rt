@@ -29,7 +29,8 @@ impl Model for Measured {
 
     ghost view = { λ m. m.datum };
 
-    ghost invariant = { λ m. m.bytes ≡ min (length (canonical_text (tree_of m.datum))) 18446744073709551615 };
+    ghost invariant = { λ m. m.bytes ≡ min (length (canonical_text (tree_of m.datum)))
+        18446744073709551615 };
 }
 
 impl Measured {
@@ -57,7 +58,8 @@ impl Measured {
 
     /// The bytes of the text that the datum has with one more element, where it is a list.
     pub fn bytes_with(&self, item: &Datum) -> usize
-        ensures { result ≡ min (length (canonical_text (with_item (tree_of self.now) (tree_of item.now)))) usize.MAX }
+        ensures { result ≡ min
+            (length (canonical_text (with_item (tree_of self.now) (tree_of item.now)))) usize.MAX }
     {
         match &self.datum {
             Datum::List(list) => {
@@ -71,7 +73,8 @@ impl Measured {
 
     /// A list gets one more element behind the others, without a copy of them. Another datum stays as it is.
     pub fn push(&mut self, item: Datum) -> Result<(), NoMemory>
-        ensures pushed { OnOk result (tree_of self.new ≡ with_item (tree_of self.old) (tree_of item)) }
+        ensures pushed { OnOk result
+            (tree_of self.new ≡ with_item (tree_of self.old) (tree_of item)) }
         ensures no_memory { OnErr result (tree_of self.new ≡ tree_of self.old) }
     {
         let bytes = self.bytes_with(&item);

@@ -24,8 +24,11 @@ pub(crate) fn operate(
     prefix: &[u8],
     args: &[Datum],
 ) -> Result<Done, Failure>
-    ensures done { IfOk result (λ d. operate op (stored_in places.now) prefix.now (map tree_of args.now) ≡ Ok (outcome_of (stored_in places.now) d)) }
-    ensures refused { IfErr result (λ f. IsCause f (operate op (stored_in places.now) prefix.now (map tree_of args.now))) }
+    ensures done { IfOk result
+        (λ d. operate op (stored_in places.now) prefix.now (map tree_of args.now)
+        ≡ Ok (outcome_of (stored_in places.now) d)) }
+    ensures refused { IfErr result
+        (λ f. IsCause f (operate op (stored_in places.now) prefix.now (map tree_of args.now))) }
 {
     match op {
         Operation::Get => get(alloc, places, prefix, args),
@@ -38,8 +41,11 @@ pub(crate) fn operate(
 }
 
 fn get(alloc: Global, places: &Places, prefix: &[u8], args: &[Datum]) -> Result<Done, Failure>
-    ensures done { IfOk result (λ d. get (stored_in places.now) prefix.now (map tree_of args.now) ≡ Ok (outcome_of (stored_in places.now) d)) }
-    ensures refused { IfErr result (λ f. IsCause f (get (stored_in places.now) prefix.now (map tree_of args.now))) }
+    ensures done { IfOk result
+        (λ d. get (stored_in places.now) prefix.now (map tree_of args.now)
+        ≡ Ok (outcome_of (stored_in places.now) d)) }
+    ensures refused { IfErr result
+        (λ f. IsCause f (get (stored_in places.now) prefix.now (map tree_of args.now))) }
 {
     let place = one_key(alloc, prefix, args)?;
     let reply = copy_or_null(alloc, places.get(place.as_slice()))?;
@@ -50,8 +56,11 @@ fn get(alloc: Global, places: &Places, prefix: &[u8], args: &[Datum]) -> Result<
 }
 
 fn put(alloc: Global, places: &Places, prefix: &[u8], args: &[Datum]) -> Result<Done, Failure>
-    ensures done { IfOk result (λ d. put (stored_in places.now) prefix.now (map tree_of args.now) ≡ Ok (outcome_of (stored_in places.now) d)) }
-    ensures refused { IfErr result (λ f. IsCause f (put (stored_in places.now) prefix.now (map tree_of args.now))) }
+    ensures done { IfOk result
+        (λ d. put (stored_in places.now) prefix.now (map tree_of args.now)
+        ≡ Ok (outcome_of (stored_in places.now) d)) }
+    ensures refused { IfErr result
+        (λ f. IsCause f (put (stored_in places.now) prefix.now (map tree_of args.now))) }
 {
     let (place, value) = key_and_value(alloc, prefix, args)?;
     let datum = copy_datum(alloc, value)?;
@@ -59,8 +68,11 @@ fn put(alloc: Global, places: &Places, prefix: &[u8], args: &[Datum]) -> Result<
 }
 
 fn add(alloc: Global, places: &Places, prefix: &[u8], args: &[Datum]) -> Result<Done, Failure>
-    ensures done { IfOk result (λ d. add (stored_in places.now) prefix.now (map tree_of args.now) ≡ Ok (outcome_of (stored_in places.now) d)) }
-    ensures refused { IfErr result (λ f. IsCause f (add (stored_in places.now) prefix.now (map tree_of args.now))) }
+    ensures done { IfOk result
+        (λ d. add (stored_in places.now) prefix.now (map tree_of args.now)
+        ≡ Ok (outcome_of (stored_in places.now) d)) }
+    ensures refused { IfErr result
+        (λ f. IsCause f (add (stored_in places.now) prefix.now (map tree_of args.now))) }
 {
     let (place, value) = key_and_value(alloc, prefix, args)?;
     let Some(n) = number_of(value) else {
@@ -76,8 +88,11 @@ fn add(alloc: Global, places: &Places, prefix: &[u8], args: &[Datum]) -> Result<
 }
 
 fn take(alloc: Global, places: &Places, prefix: &[u8], args: &[Datum]) -> Result<Done, Failure>
-    ensures done { IfOk result (λ d. take (stored_in places.now) prefix.now (map tree_of args.now) ≡ Ok (outcome_of (stored_in places.now) d)) }
-    ensures refused { IfErr result (λ f. IsCause f (take (stored_in places.now) prefix.now (map tree_of args.now))) }
+    ensures done { IfOk result
+        (λ d. take (stored_in places.now) prefix.now (map tree_of args.now)
+        ≡ Ok (outcome_of (stored_in places.now) d)) }
+    ensures refused { IfErr result
+        (λ f. IsCause f (take (stored_in places.now) prefix.now (map tree_of args.now))) }
 {
     let place = one_key(alloc, prefix, args)?;
     let reply = copy_or_null(alloc, places.get(place.as_slice()))?;
@@ -88,8 +103,11 @@ fn take(alloc: Global, places: &Places, prefix: &[u8], args: &[Datum]) -> Result
 }
 
 fn push(alloc: Global, places: &Places, prefix: &[u8], args: &[Datum]) -> Result<Done, Failure>
-    ensures done { IfOk result (λ d. push (stored_in places.now) prefix.now (map tree_of args.now) ≡ Ok (outcome_of (stored_in places.now) d)) }
-    ensures refused { IfErr result (λ f. IsCause f (push (stored_in places.now) prefix.now (map tree_of args.now))) }
+    ensures done { IfOk result
+        (λ d. push (stored_in places.now) prefix.now (map tree_of args.now)
+        ≡ Ok (outcome_of (stored_in places.now) d)) }
+    ensures refused { IfErr result
+        (λ f. IsCause f (push (stored_in places.now) prefix.now (map tree_of args.now))) }
 {
     let (place, value) = key_and_value(alloc, prefix, args)?;
     let count = longer_count(places.measured(place.as_slice()), value)?;
@@ -104,8 +122,11 @@ fn push(alloc: Global, places: &Places, prefix: &[u8], args: &[Datum]) -> Result
 }
 
 fn list(alloc: Global, places: &Places, prefix: &[u8], args: &[Datum]) -> Result<Done, Failure>
-    ensures done { IfOk result (λ d. list (stored_in places.now) prefix.now (map tree_of args.now) ≡ Ok (outcome_of (stored_in places.now) d)) }
-    ensures refused { IfErr result (λ f. IsCause f (list (stored_in places.now) prefix.now (map tree_of args.now))) }
+    ensures done { IfOk result
+        (λ d. list (stored_in places.now) prefix.now (map tree_of args.now)
+        ≡ Ok (outcome_of (stored_in places.now) d)) }
+    ensures refused { IfErr result
+        (λ f. IsCause f (list (stored_in places.now) prefix.now (map tree_of args.now))) }
 {
     if !args.is_empty() {
         return Err(Failure::Refused(Refusal::Arguments));
@@ -122,7 +143,8 @@ fn list(alloc: Global, places: &Places, prefix: &[u8], args: &[Datum]) -> Result
 // The place gets the datum, unless the store is full.
 fn kept(places: &Places, place: Vec<u8>, datum: Datum, reply: Datum) -> Result<Done, Failure>
     ensures done { IfOk result
-        (λ d. kept (stored_in places.now) place.items (tree_of datum) (tree_of reply) ≡ Ok (outcome_of (stored_in places.now) d)) }
+        (λ d. kept (stored_in places.now) place.items (tree_of datum) (tree_of reply)
+        ≡ Ok (outcome_of (stored_in places.now) d)) }
     ensures refused { IfErr result
         (λ f. IsCause f (kept (stored_in places.now) place.items (tree_of datum) (tree_of reply))) }
 {
@@ -157,7 +179,9 @@ fn number_or_zero(datum: Option<&Datum>) -> Option<Whole>
 
 // How many elements the list has with one more, where its text stays short enough.
 fn longer_count(held: Option<&Measured>, value: &Datum) -> Result<Whole, Failure>
-    ensures count { IfOk result (λ n. longer_count (list_or_empty (option_map (λ m. tree_of m.now) held.entry)) (tree_of value.now) ≡ Ok n) }
+    ensures count { IfOk result
+        (λ n. longer_count (list_or_empty (option_map (λ m. tree_of m.now) held.entry))
+        (tree_of value.now) ≡ Ok n) }
     ensures refused { IfErr result
         (λ f. IsCause f (longer_count (list_or_empty (option_map (λ m. tree_of m.now) held.entry)) (tree_of value.now))) }
 {
@@ -172,7 +196,8 @@ fn longer_count(held: Option<&Measured>, value: &Datum) -> Result<Whole, Failure
 
 // How large the list is with one more element, where an absent one counts as `[]`.
 fn longer_size(held: Option<&Measured>, value: &Datum) -> Option<ListSize>
-    ensures { MatchOption (list_or_empty (option_map (λ m. tree_of m.now) held.entry)) (result ≡ None)
+    ensures { MatchOption (list_or_empty (option_map (λ m. tree_of m.now) held.entry))
+        (result ≡ None)
         (λ es. IsSomeAnd result (IsSizeOf (with_last es (tree_of value.now)))) }
 {
     let Some(held) = held else {

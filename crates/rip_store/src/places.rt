@@ -56,7 +56,8 @@ impl Places {
     /// Does what a call gave; want of memory changes nothing.
     pub fn change(&mut self, alloc: Global, write: Write) -> Result<(), NoMemory>
         ensures done { OnOk result
-            (stored_in self.new ≡ changed (stored_in self.old) (change_of (stored_in self.old) write)) }
+            (stored_in self.new ≡ changed (stored_in self.old)
+            (change_of (stored_in self.old) write)) }
         ensures no_memory { OnErr result (stored_in self.new ≡ stored_in self.old) }
     {
         match write {
@@ -72,7 +73,8 @@ impl Places {
 
     // The place holds the datum.
     fn keep(&mut self, place: Vec<u8>, datum: Datum) -> Result<(), NoMemory>
-        ensures done { OnOk result (stored_in self.new ≡ changed (stored_in self.old) (keep place.items (tree_of datum))) }
+        ensures done { OnOk result
+            (stored_in self.new ≡ changed (stored_in self.old) (keep place.items (tree_of datum))) }
         ensures no_memory { OnErr result (stored_in self.new ≡ stored_in self.old) }
     {
         self.held.insert(place, Measured::new(datum))?;
@@ -100,7 +102,9 @@ impl Places {
 
     /// The keys under a prefix, as texts, in order of their bytes.
     pub fn keys_under(&self, alloc: Global, prefix: &[u8]) -> Result<Vec<Datum>, NoMemory>
-        ensures { IfOk result (λ ds. map tree_of ds.items ≡ map text_of (keys_under prefix.now (stored_in self.now))) }
+        ensures { IfOk result
+            (λ ds. map tree_of ds.items
+            ≡ map text_of (keys_under prefix.now (stored_in self.now))) }
     {
         let from = Vec::from_slice(alloc, prefix)?;
         let mut keys = Vec::new(alloc);
@@ -126,7 +130,8 @@ fn list_of_one(alloc: Global, item: Datum) -> Result<Datum, NoMemory>
 
 // Adds the bytes as a text, where they are a key.
 fn add_key(alloc: Global, keys: &mut Vec<Datum>, bytes: &[u8]) -> Result<(), NoMemory>
-    ensures { OnOk result (map tree_of keys.new.items ≡ with_any (map tree_of keys.old.items) (key_text bytes.now)) }
+    ensures { OnOk result
+        (map tree_of keys.new.items ≡ with_any (map tree_of keys.old.items) (key_text bytes.now)) }
 {
     if let Some(key) = key_text(alloc, bytes)? {
         keys.push(Datum::Text(key))?;

@@ -54,7 +54,8 @@ impl Store {
         args: &DatumList,
     ) -> Result<Replies, NoMemory>
         ensures stored { OnOk result
-            (stored_of self.new ≡ (apply (functions_of self.old) (stored_of self.old) name.now (args_of args.now)).0) }
+            (stored_of self.new ≡ (apply (functions_of self.old) (stored_of self.old) name.now
+            (args_of args.now)).0) }
         ensures replies { IfOk result
             (AreReplies (apply (functions_of self.old) (stored_of self.old) name.now (args_of args.now)).1) }
         ensures functions { functions_of self.new ≡ functions_of self.old }
@@ -70,7 +71,8 @@ impl Store {
     // The same, whatever the args are.
     fn call(&mut self, alloc: Global, name: &Units, args: &DatumList) -> Result<Replies, NoMemory>
         ensures stored { OnOk result
-            (stored_of self.new ≡ (apply (functions_of self.old) (stored_of self.old) name.now (args_of args.now)).0) }
+            (stored_of self.new ≡ (apply (functions_of self.old) (stored_of self.old) name.now
+            (args_of args.now)).0) }
         ensures replies { IfOk result
             (AreReplies (apply (functions_of self.old) (stored_of self.old) name.now (args_of args.now)).1) }
         ensures functions { functions_of self.new ≡ functions_of self.old }
@@ -93,7 +95,8 @@ impl Store {
     // What a call gives: the change is not made yet.
     fn answer(&self, alloc: Global, name: &Units, args: &[Datum]) -> Result<Done, Failure>
         ensures done { IfOk result
-            (λ d. answer (functions_of self.now) (stored_of self.now) name.now (map tree_of args.now) ≡ Ok (outcome_of (stored_of self.now) d)) }
+            (λ d. answer (functions_of self.now) (stored_of self.now) name.now
+            (map tree_of args.now) ≡ Ok (outcome_of (stored_of self.now) d)) }
         ensures refused { IfErr result
             (λ f. IsCause f (answer (functions_of self.now) (stored_of self.now) name.now (map tree_of args.now))) }
     {

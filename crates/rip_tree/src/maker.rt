@@ -32,7 +32,8 @@ impl TreeMaker {
     /// No node yet of a tree of `total` nodes, over the units of its script. A script whose units 32 bits cannot count is
     /// refused as want of memory.
     pub fn new(alloc: Global, total: u32, script: &[u16]) -> Result<TreeMaker, NoMemory>
-        ensures { IfOk result (λ maker. maker ≡ record { total = total; branches = []; units = script.now }) }
+        ensures { IfOk result
+            (λ maker. maker ≡ record { total = total; branches = []; units = script.now }) }
     {
         if script.len() > u32::MAX as usize {
             return Err(NoMemory);
@@ -74,7 +75,8 @@ impl TreeMaker {
     /// Makes the next node, whose children are made, and answers its number.
     pub fn push(&mut self, node: Node, children: &[Option<u32>]) -> Result<u32, NoMemory>
         requires room { length self.old.branches < self.old.total }
-        requires above { AreBetween (self.old.total - (length self.old.branches + 1)) self.old.total children.now }
+        requires above { AreBetween (self.old.total - (length self.old.branches + 1)) self.old.total
+            children.now }
         ensures number { IfOk result (λ id. id + length self.old.branches + 1 ≡ self.old.total) }
         ensures made { OnOk result (self.new ≡ with_branch self.old node children.now) }
         ensures err { OnErr result (self.new ≡ self.old) }

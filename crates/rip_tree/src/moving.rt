@@ -107,7 +107,8 @@ fn push_children(
     children: &[Option<u32>],
     branches: u32,
 ) -> Result<(), NoMemory>
-    ensures { OnOk result (links.new.items ≡ links.old.items ++ map (moved_child branches) children.now) }
+    ensures { OnOk result
+        (links.new.items ≡ links.old.items ++ map (moved_child branches) children.now) }
 {
     for link in children {
         links.push(child(*link, branches)?)?;
@@ -126,7 +127,10 @@ fn push_branch(
     requires room { by.units + by.there < 2 ^ 32 }
     requires within { LieWithin (length links.old.items) rows.old.items }
     ensures within { OnOk result (LieWithin (length links.new.items) rows.new.items) }
-    ensures moved { OnOk result (branches_at links.new.items rows.new.items ≡ branches_at links.old.items rows.old.items ++ moved_branch by.there by.branches by.units (record { node = node; children = children.now }) ∷ []) }
+    ensures moved { OnOk result
+        (branches_at links.new.items rows.new.items ≡ branches_at links.old.items rows.old.items
+        ++ moved_branch by.there by.branches by.units
+        (record { node = node; children = children.now }) ∷ []) }
 {
     let start = links.len();
     push_children(links, children, by.branches)?;
@@ -154,7 +158,10 @@ pub(crate) fn push_branches(
     requires within { LieWithin (length links.old.items) rows.old.items }
     requires tree_within { LieWithin (length tree_links.now) tree_rows.now }
     ensures within { OnOk result (LieWithin (length links.new.items) rows.new.items) }
-    ensures moved { OnOk result (branches_at links.new.items rows.new.items ≡ branches_at links.old.items rows.old.items ++ map (moved_branch by.there by.branches by.units) (branches_at tree_links.now tree_rows.now)) }
+    ensures moved { OnOk result
+        (branches_at links.new.items rows.new.items ≡ branches_at links.old.items rows.old.items
+        ++ map (moved_branch by.there by.branches by.units)
+        (branches_at tree_links.now tree_rows.now)) }
 {
     for row in tree_rows {
         let children = range_of(tree_links, row.start, row.end);

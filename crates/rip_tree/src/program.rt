@@ -63,7 +63,14 @@ impl Program {
         vars: Vec<List<u32>>,
         scoping: Vec<Scoping>,
     ) -> Result<Program, NoMemory>
-        ensures { IfOk result (λ program. program ≡ record { grove = joined trees.now; top = top.items; vars = vars.items; scoping = scoping.items }) }
+        ensures { IfOk result
+            (λ program. program ≡ record {
+              grove = joined trees.now;
+              top = top.items;
+              vars = vars.items;
+              scoping =
+                  scoping.items;
+            }) }
     {
         if top.len() > u32::MAX as usize {
             return Err(NoMemory);

@@ -64,7 +64,8 @@ fn run_depth(machine: &Machine, phase: Phase) -> u32
 
 /// How much of the depth is open.
 fn depth<I, T>(replica: &Replica<Machine, I, T, Browser>) -> u32
-    ensures open { result ≡ open_in replica.now.place replica.now.runner.phase replica.now.runner.evaluator }
+    ensures open { result ≡ open_in replica.now.place replica.now.runner.phase
+        replica.now.runner.evaluator }
     ensures within { result ≤ replica.now.runner.evaluator.depth }
 {
     match replica.place {
@@ -79,7 +80,8 @@ fn depth<I, T>(replica: &Replica<Machine, I, T, Browser>) -> u32
 pub fn used_by<I, T>(replica: &Replica<Machine, I, T, Browser>) -> Used
     ensures used { result ≡ used_in replica.now.heap
         (open_in replica.now.place replica.now.runner.phase replica.now.runner.evaluator) replica.now.host }
-    ensures within { IsWithin result replica.now.heap replica.now.runner.evaluator replica.now.host }
+    ensures within { IsWithin result replica.now.heap replica.now.runner.evaluator
+        replica.now.host }
 {
     Used {
         cells: cells(&replica.heap),
@@ -97,7 +99,8 @@ pub fn used_by_session(session: &Session) -> Used
     ensures used { result ≡ used_in session.now.replica.heap
         (open_in session.now.replica.place session.now.replica.runner.phase session.now.replica.runner.evaluator)
         session.now.replica.host }
-    ensures within { IsWithin result session.now.replica.heap session.now.replica.runner.evaluator session.now.replica.host }
+    ensures within { IsWithin result session.now.replica.heap session.now.replica.runner.evaluator
+        session.now.replica.host }
     ensures allowed { (app : Loaded) (st : Stage) → StandsAt app session.now.replica st
         → IsAllowed app.manifest.limits result }
     ensures page { (app : Loaded) (st : Stage) → StandsAt app session.now.replica st

@@ -41,8 +41,10 @@ const INFINITY: [u16; 8] = [0x49, 0x6E, 0x66, 0x69, 0x6E, 0x69, 0x74, 0x79];
 /// The number that a text spells: ToNumber of a text (ECMA-262 9.3.1) where it is whole and in range.
 pub fn number_of_text(text: &[u16]) -> Result<Numeral, Fault>
     ensures value { IsNumberOf (trimmed text.now) result }
-    ensures only { (answer : Result Numeral Fault) → IsNumberOf (trimmed text.now) answer → answer ≡ result }
-    ensures written { (number : ℤ) → IsWhole number → text.now ≡ signed_decimal number → result ≡ Ok (Num number) }
+    ensures only { (answer : Result Numeral Fault) → IsNumberOf (trimmed text.now) answer → answer
+        ≡ result }
+    ensures written { (number : ℤ) → IsWhole number → text.now ≡ signed_decimal number → result
+        ≡ Ok (Num number) }
 {
     number_of_trimmed(trim(text))
 }

@@ -40,7 +40,9 @@ impl Pool {
     /// A pool of the fixed texts alone, in which `limit` units can be charged. `text` is the longest text that a run
     /// makes, in units.
     pub fn make(alloc: Global, limit: u32, text: u32) -> Result<Pool, NoMemory>
-        ensures { IfOk result (λ pool. pool ≡ record { units = fixed_units; used = 0; limit = limit; text_limit = text }) }
+        ensures { IfOk result
+            (λ pool. pool ≡ record
+            { units = fixed_units; used = 0; limit = limit; text_limit = text }) }
     {
         let mut units = fixed_units(alloc)?;
         if limit as usize > u32::MAX as usize - units.len() {
@@ -157,7 +159,8 @@ impl Pool {
 
     /// Adds a text and charges its length. It takes no memory: its room was taken when the pool was made.
     pub fn add(&mut self, alloc: Global, text: &[u16]) -> Result<Span, Refused>
-        ensures limit { (result ≡ Err (Refused.Limit Limit.Units)) ↔ (self.old.limit < self.old.used + length text.now) }
+        ensures limit { (result ≡ Err (Refused.Limit Limit.Units))
+            ↔ (self.old.limit < self.old.used + length text.now) }
         ensures only_limit { IfErr result (λ refused. refused ≡ Refused.Limit Limit.Units) }
         ensures span { IfOk result (λ span. span ≡ span_behind self.old text.now) }
         ensures added { OnOk result (self.new ≡ with_text self.old text.now (length text.now)) }
@@ -179,11 +182,16 @@ impl Pool {
 
     /// Adds two texts of the pool joined to one, and charges its length. It takes no memory.
     pub fn add_joined(&mut self, first: Span, second: Span) -> Result<Span, Limit>
-        ensures limit { IsErr result ↔ (self.old.limit < self.old.used + length (joined self.old first second)) }
+        ensures limit { IsErr result
+            ↔ (self.old.limit < self.old.used + length (joined self.old first second)) }
         ensures only_units { IfErr result (λ limit. limit ≡ Limit.Units) }
-        ensures span { IfOk result (λ span. span ≡ span_behind self.old (joined self.old first second)) }
-        ensures added { OnOk result (self.new ≡ with_text self.old (joined self.old first second) (length (joined self.old first second))) }
-        ensures stands { IfOk result (λ span. text_at self.new span ≡ joined self.old first second) }
+        ensures span { IfOk result
+            (λ span. span ≡ span_behind self.old (joined self.old first second)) }
+        ensures added { OnOk result
+            (self.new ≡ with_text self.old (joined self.old first second)
+            (length (joined self.old first second))) }
+        ensures stands { IfOk result
+            (λ span. text_at self.new span ≡ joined self.old first second) }
         ensures older { KeepsTexts self.old self.new }
         ensures err { OnErr result (self.new ≡ self.old) }
     {

@@ -13,7 +13,8 @@ impl List<u16> {
     /// The text that the bytes spell in UTF-8 (RFC 3629), as units of UTF-16.
     pub fn from_utf8(alloc: Global, bytes: &[u8]) -> Result<Units, TextError>
         ensures text { IfOk result (λ units. IsSameText bytes.now units) }
-        ensures only { (units : Items ℕ) → IsSameText bytes.now units → IfOk result (λ made. made ≡ units) }
+        ensures only { (units : Items ℕ) → IsSameText bytes.now units
+            → IfOk result (λ made. made ≡ units) }
         ensures not_utf8 { (result ≡ Err TextError.NotUtf8) ↔ (¬ (IsUtf8 bytes.now)) }
         ensures paired { result ≢ Err TextError.LoneSurrogate }
     {
@@ -26,8 +27,10 @@ impl List<u16> {
     /// The UTF-8 of the text (RFC 3629).
     pub fn to_utf8(&self, alloc: Global) -> Result<Bytes, TextError>
         ensures text { IfOk result (λ bytes. IsSameText bytes self.now) }
-        ensures only { (bytes : Items ℕ) → IsSameText bytes self.now → IfOk result (λ made. made ≡ bytes) }
-        ensures lone { result ≡ Err TextError.LoneSurrogate → has_unpaired_surrogate self.now ≡ true }
+        ensures only { (bytes : Items ℕ) → IsSameText bytes self.now
+            → IfOk result (λ made. made ≡ bytes) }
+        ensures lone { result ≡ Err TextError.LoneSurrogate → has_unpaired_surrogate self.now
+            ≡ true }
         ensures refused { has_unpaired_surrogate self.now ≡ true → IsErr result }
         ensures unpaired { has_unpaired_surrogate self.now ≡ true → ¬ (IsUtf16 self.now) }
         ensures encoded { result ≢ Err TextError.NotUtf8 }

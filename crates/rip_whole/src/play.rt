@@ -46,7 +46,8 @@ pub fn put_item<H: Host, T: Drop, I: Works<H, T>, E>(
 ) -> Result<(), NoMemory>
     requires { length replica.old.runner.planner.batch.items < 64 }
     ensures batch { OnOk result
-        (replica.new.runner.planner.batch.items ≡ replica.old.runner.planner.batch.items ++ item ∷ []) }
+        (replica.new.runner.planner.batch.items ≡ replica.old.runner.planner.batch.items ++ item
+        ∷ []) }
     ensures items { (replica.new.runner.planner.items ≡ replica.old.runner.planner.items)
         × (replica.new.runner.planner.begun ≡ replica.old.runner.planner.begun) }
     ensures number { replica.new.number ≡ replica.old.number }
@@ -72,17 +73,22 @@ pub fn play_next<H: Host, T, I: Works<H, T>, E: Evaluator<H>, V: Service>(
     ensures grows { Grows replica.old.heap replica.new.heap }
     ensures batch { (replica.new.runner.planner.batch ≡ replica.old.runner.planner.batch)
         × (replica.new.number ≡ replica.old.number) }
-    ensures begun { IfOk result (λ _. replica.new.runner.planner.begun ≡ replica.old.runner.planner.begun + 1) }
+    ensures begun { IfOk result
+        (λ _. replica.new.runner.planner.begun ≡ replica.old.runner.planner.begun + 1) }
     ensures runs { (E.evaluation program.now).run replica.new.runner.evaluator
         ≡ (E.evaluation program.now).run replica.old.runner.evaluator }
     ensures full { replica.new.runner.full ≡ replica.old.runner.full }
-    ensures plans { I.item_plan replica.new.runner.planner.items ≡ I.item_plan replica.old.runner.planner.items }
+    ensures plans { I.item_plan replica.new.runner.planner.items
+        ≡ I.item_plan replica.old.runner.planner.items }
     ensures whole { (d : Doing T H) (meant : Meant) (calls : Sequence Called) (item : T)
-        → IsDoing d ((E.evaluation program.now).run replica.old.runner.evaluator) replica.old.runner.full I.plans I.fact I.served
+        → IsDoing d ((E.evaluation program.now).run replica.old.runner.evaluator)
+        replica.old.runner.full I.plans I.fact I.served
         → I.item_plan replica.old.runner.planner.items ≡ I.plans replica.old.number
-        → slice_get replica.old.runner.planner.batch.items replica.old.runner.planner.begun ≡ Some item
+        → slice_get replica.old.runner.planner.batch.items replica.old.runner.planner.begun
+        ≡ Some item
         → V.replies_as service.old meant calls
-        → IfOk result (λ over. IsWhole d replica.old.number item (replica.old.runner.planner.begun + 1)
+        → IfOk result (λ over. IsWhole d replica.old.number item
+        (replica.old.runner.planner.begun + 1)
         replica.old.heap replica.old.host (given_for meant calls time (I.fact item)) over replica.new.heap replica.new.host
         × V.replies_as service.new meant (calls_behind (I.fact item) over.close calls)) }
 {
@@ -108,10 +114,14 @@ pub fn play_next<H: Host, T, I: Works<H, T>, E: Evaluator<H>, V: Service>(
 fn begin_next<H: Host, T, I: Works<H, T>, E>(replica: &mut Replica<E, I, T, H>)
     requires { replica.old.runner.planner.begun < length replica.old.runner.planner.batch.items }
     ensures begun { (replica.new.runner.planner.begun ≡ replica.old.runner.planner.begun + 1)
-        × (replica.new.runner.planner.batch ≡ replica.old.runner.planner.batch) × (replica.new.number ≡ replica.old.number) }
-    ensures items { (I.item_plan replica.new.runner.planner.items ≡ I.item_plan replica.old.runner.planner.items)
-        × (I.under_way replica.new.runner.planner.items ≡ I.item_plan replica.old.runner.planner.items) }
-    ensures phase { (replica.new.runner.phase ≡ Phase.Asking) × (replica.new.runner.fuel ≡ replica.old.runner.full) }
+        × (replica.new.runner.planner.batch ≡ replica.old.runner.planner.batch)
+        × (replica.new.number ≡ replica.old.number) }
+    ensures items { (I.item_plan replica.new.runner.planner.items
+        ≡ I.item_plan replica.old.runner.planner.items)
+        × (I.under_way replica.new.runner.planner.items
+        ≡ I.item_plan replica.old.runner.planner.items) }
+    ensures phase { (replica.new.runner.phase ≡ Phase.Asking)
+        × (replica.new.runner.fuel ≡ replica.old.runner.full) }
     ensures runs { (replica.new.runner.evaluator ≡ replica.old.runner.evaluator)
         × (replica.new.runner.full ≡ replica.old.runner.full) }
     ensures world { (replica.new.heap ≡ replica.old.heap) × (replica.new.host ≡ replica.old.host) }
@@ -138,7 +148,8 @@ fn finish<H: Host, T, I: Works<H, T>, E: Evaluator<H>>(
         (going (planned I.under_way) replica.old.runner) (going (planned I.under_way) replica.new.runner) }
     ensures kept { IsKept I.item_plan replica.old.runner.planner replica.new.runner.planner }
     ensures number { replica.new.number ≡ replica.old.number }
-    ensures law { IfOk result (λ over. LeftBy (E.evaluation program.now) (going (planned I.under_way) replica.old.runner)
+    ensures law { IfOk result
+        (λ over. LeftBy (E.evaluation program.now) (going (planned I.under_way) replica.old.runner)
         replica.old.heap replica.old.host left full over replica.new.heap replica.new.host) }
 {
     match go_on(alloc, replica, program, left) {
@@ -164,7 +175,8 @@ fn go_on<H: Host, T, I: Works<H, T>, E: Evaluator<H>>(
         (going (planned I.under_way) replica.old.runner) (going (planned I.under_way) replica.new.runner) }
     ensures kept { IsKept I.item_plan replica.old.runner.planner replica.new.runner.planner }
     ensures number { replica.new.number ≡ replica.old.number }
-    ensures law { Rests (E.evaluation program.now) [] (going (planned I.under_way) replica.old.runner)
+    ensures law { Rests (E.evaluation program.now) []
+        (going (planned I.under_way) replica.old.runner)
         replica.old.heap replica.old.host units
         (going (planned I.under_way) replica.new.runner) replica.new.heap replica.new.host result }
     ensures within { IsWithin units result }

@@ -22,14 +22,18 @@ pub(crate) fn serve_next<H: Host, T, I: Works<H, T>, E, V: Service>(
     requires { H.fits replica.old.host replica.old.heap }
     ensures fits { H.fits replica.new.host replica.new.heap }
     ensures kept { (replica.new.runner.evaluator ≡ replica.old.runner.evaluator)
-        × (replica.new.runner.planner ≡ replica.old.runner.planner) × (replica.new.runner.fuel ≡ replica.old.runner.fuel)
-        × (replica.new.runner.full ≡ replica.old.runner.full) × (replica.new.heap ≡ replica.old.heap)
+        × (replica.new.runner.planner ≡ replica.old.runner.planner)
+        × (replica.new.runner.fuel ≡ replica.old.runner.fuel)
+        × (replica.new.runner.full ≡ replica.old.runner.full)
+        × (replica.new.heap ≡ replica.old.heap)
         × (replica.new.number ≡ replica.old.number) }
     ensures phase { OnOk result (replica.new.runner.phase ≡ Phase.Asking) }
     ensures served { (meant : Meant) (calls : Sequence Called) (item : T)
-        → slice_get replica.old.runner.planner.batch.items (replica.old.runner.planner.begun - 1) ≡ Some item
+        → slice_get replica.old.runner.planner.batch.items (replica.old.runner.planner.begun - 1)
+        ≡ Some item
         → V.replies_as service.old meant calls
-        → OnOk result ((replica.new.host ≡ I.served replica.old.number (given_for meant calls time (I.fact item)) replica.old.host)
+        → OnOk result ((replica.new.host
+        ≡ I.served replica.old.number (given_for meant calls time (I.fact item)) replica.old.host)
         × V.replies_as service.new meant (calls_behind (I.fact item) Close.Fine calls)) }
 {
     let Some(call) = call_at_hand(alloc, replica)? else {
@@ -51,7 +55,8 @@ fn call_at_hand<H: Host, T, I: Works<H, T>, E>(
     replica: &Replica<E, I, T, H>,
 ) -> Result<Option<Call>, NoMemory>
     ensures call { (item : T)
-        → slice_get replica.now.runner.planner.batch.items (replica.now.runner.planner.begun - 1) ≡ Some item
+        → slice_get replica.now.runner.planner.batch.items (replica.now.runner.planner.begun - 1)
+        ≡ Some item
         → IfOk result (IsCallOf (I.fact item)) }
     ensures args { IfOk result HasArgs }
 {

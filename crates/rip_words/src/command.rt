@@ -43,7 +43,8 @@ pub enum Command<'a> {
 
 /// What the words ask for, or none of words that have no form.
 pub fn command_of(words: &[String]) -> Option<Command<'_>>
-    ensures form { IfSome result (λ command. IsTask (map string_bytes words.now) (task_of command)) }
+    ensures form { IfSome result
+        (λ command. IsTask (map string_bytes words.now) (task_of command)) }
     ensures other { IsNone result → (task : Task) → ¬ IsTask (map string_bytes words.now) task }
 {
     let [command, rest @ ..] = words else {
@@ -155,7 +156,8 @@ fn number_of(word: &[u8]) -> Option<u32>
 /// How many turns the words behind the names ask for, where so many are usual.
 fn turns_in(words: &[String], usual: u64) -> Option<u64>
     ensures is { IfSome result (λ turns. IsOption (map string_bytes words.now) usual turns) }
-    ensures other { IsNone result → (turns : ℕ) → ¬ IsOption (map string_bytes words.now) usual turns }
+    ensures other { IsNone result → (turns : ℕ) → ¬ IsOption (map string_bytes words.now) usual
+        turns }
 {
     match words {
         [] => Some(usual),

@@ -80,7 +80,8 @@ impl Work {
 
     /// The item of a page that it is; or the opening.
     pub(crate) fn as_item(&self) -> Result<&Item, Start>
-        ensures { MatchResult result (λ i. IsItemOf i.now self.now) (λ start. self.now ≡ opens start) }
+        ensures { MatchResult result (λ i. IsItemOf i.now self.now)
+            (λ start. self.now ≡ opens start) }
     {
         match &self.kind {
             Kind::Opens(start) => Err(*start),
@@ -91,7 +92,8 @@ impl Work {
 
     /// The call that it reports, if it reports one.
     pub(crate) fn as_call(&self) -> Option<&Call>
-        ensures { MatchOption result (IsNoCall (fact_of self.now)) (λ c. IsCall (fact_of self.now) c.now) }
+        ensures { MatchOption result (IsNoCall (fact_of self.now))
+            (λ c. IsCall (fact_of self.now) c.now) }
     {
         match &self.kind {
             Kind::Opens(_) => None,

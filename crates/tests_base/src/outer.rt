@@ -39,9 +39,11 @@ enum Copied {
 
 /// Reads a file and puts its contents.
 fn copy_file<F: Files, S: Sink>(alloc: Global, name: &str, files: &mut F, out: &mut S) -> Copied
-    ensures asked { result ≡ Copied.Done → F.asked files.new ≡ also (name.now ∷ []) (F.asked files.old) }
+    ensures asked { result ≡ Copied.Done → F.asked files.new
+        ≡ also (name.now ∷ []) (F.asked files.old) }
     ensures done { result ≡ Copied.Done → IfSome (F.held files.old)
-        (λ held. IsSomeAnd (contents_of held name.now) (λ bytes. S.held out.new ≡ also bytes (S.held out.old))) }
+        (λ held. IsSomeAnd (contents_of held name.now)
+        (λ bytes. S.held out.new ≡ also bytes (S.held out.old))) }
     ensures outside { result ≡ Copied.Outside →
         Rose (F.count files.old) (F.count files.new) ⊎ Rose (S.count out.old) (S.count out.new) }
 {
