@@ -1,8 +1,8 @@
--- Scopes as their heads and the row of bindings show them: one more, a binding written, and a front of them.
+-- Scopes as their heads and the row of bindings show them: one more, and a binding written.
 use Rattle.std.proofs.Common.{◌≡◌, ℕ, zero, suc, ◌+◌, ◌-◌, ◌<◌, ◌≤◌, List, [], ◌∷◌, ◌++◌, length, Option, None, Some, refl, sym, ap, ◌∙◌, subst, arith, take, drop, replicate, slice_get, slice_index_or}
 use Rattle.std.specs.Prelude.{option_and_then, option_map, slice_range, slice_set}
 use Rattle.std.proofs.Math.Seq.{take-set-lt}
-use Rattle.std.proofs.lemmas.List.{drop-append-le, drop-set-add, drop-set-lt, drop_at, get_or-drop, get_or-take, length-drop, length-take-le, map_push, set-get_or, set_past, take-append-drop, take-append-le, take-map, take-set-le, take_all}
+use Rattle.std.proofs.lemmas.List.{drop-append-le, drop-set-add, drop-set-lt, drop_at, get_or-drop, get_or-take, length-drop, length-take-le, map_push, set-get_or, set_past, take-append-le, take-set-le, take_all}
 use Rattle.std.proofs.lemmas.Option.{get_or_from_slice_get, same_Some, slice_get-get_or, slice_get-map, slice_get_past}
 use Rattle.rip_values.specs.declared.value.Value.{Value}
 use Rattle.rip_heap.specs.declared.scope_rows.ScopeHead.{ScopeHead}
@@ -68,11 +68,6 @@ pub lie_added : (from to end : ℕ) (heads : List ScopeHead) (head : ScopeHead) 
 lie_added from to end [] head lie behind within = (omega (arith, lie, behind), within)
 lie_added from to end (x ∷ heads) head lie behind within = (lie.0, lie_added (x.start + x.count) to end heads head lie.1 behind within)
 
-lie-front : (from to : ℕ) (heads : List ScopeHead) (n : ℕ) (head : ScopeHead) → LieWithin from to heads → slice_get heads n ≡ Some head → LieWithin from head.start (take n heads)
-lie-front from to [] n head lie e = cc
-lie-front from to (x ∷ heads) zero head lie e = (lies from to (x ∷ heads) zero head lie e).0
-lie-front from to (x ∷ heads) (suc n) head lie e = (lie.0, lie-front (x.start + x.count) to heads n head lie.1 e)
-
 -- THE SCOPES
 
 -- a longer row shows the same scopes
@@ -91,20 +86,6 @@ shown_added row more heads head lie start count =
   where
     new : slice_range (row ++ more) head.start (head.start + head.count) ≡ more
     new = (λ t. slice_range (row ++ more) (start t) (start t + count t)) ∙ part-end row more
-
--- a front of the heads lies in the row up to where the next begins
-pub lie_cut : (row : List (Option Value)) (heads : List ScopeHead) (n : ℕ) (head : ScopeHead) → LieWithin 0 (length row) heads → slice_get heads n ≡ Some head → LieWithin 0 (length (take head.start row)) (take n heads)
-lie_cut row heads n head lie e =
-    let size : length (take head.start row) ≡ head.start = length-take-le head.start row (omega (arith, (lies 0 (length row) heads n head lie e).1)) in
-    subst (λ end. LieWithin 0 end (take n heads)) (sym size) (lie-front 0 (length row) heads n head lie e)
-
--- and shows a front of the scopes
-pub shown_front : (row : List (Option Value)) (heads : List ScopeHead) (n : ℕ) (head : ScopeHead) → LieWithin 0 (length row) heads → slice_get heads n ≡ Some head
-    → scopes_in (take head.start row) (take n heads) ≡ take n (scopes_in row heads)
-shown_front row heads n head lie e =
-    sym (shown-append 0 (take head.start row) (drop head.start row) (take n heads) (lie_cut row heads n head lie e))
-    ∙ ap (λ r. scopes_in r (take n heads)) (take-append-drop head.start row)
-    ∙ sym (take-map (scope_in row) n heads)
 
 -- a binding before them is written
 shown-behind : (from to : ℕ) (row : List (Option Value)) (heads : List ScopeHead) (k : ℕ) (x : Option Value) → LieWithin from to heads → k < from → scopes_in (slice_set row k x) heads ≡ scopes_in row heads

@@ -1,4 +1,4 @@
--- What the objects of a heap are, of which the elements are kept beside: one of them, an edit, some more, and a front.
+-- What the objects of a heap are, of which the elements are kept beside: one of them, an edit, and some more.
 use Rattle.std.proofs.Common.{◌≡◌, ◌≢◌, ℕ, zero, suc, ◌+◌, ◌-◌, ◌<◌, ◌≤◌, ◌⊎◌, inl, inr, true, false, cond, List, [], ◌∷◌, ◌++◌, length, nat_lt, Option, None, Some, IfSome, refl, sym, ap, ◌∙◌, subst, arith, slice_get, slice_index_or, take}
 use Rattle.std.specs.List.{position_or_len}
 use Rattle.std.specs.Prelude.{option_and_then, option_map, slice_set}
@@ -26,11 +26,6 @@ use Rattle.rip_heap.specs.declared.name_indexes.NameIndexes.{NameIndexes}
 use Rattle.rip_heap.proofs.NameIndexLemmas.{index_of_row, indexes_changed, indexes_pushed, indexes_valued}
 
 -- A LIST BEHIND THE OTHERS
-
-pub front_of_behind : {A : Type 0} (lists more : List (List A)) → take (length lists) (lists ++ more) ≡ lists
-front_of_behind [] [] = refl
-front_of_behind [] (y ∷ more) = refl
-front_of_behind (x ∷ lists) more = ap (λ xs. x ∷ xs) (front_of_behind lists more)
 
 pub read_behind : {A : Type 0} (lists : List (List A)) (items d : List A) → slice_index_or (lists ++ items ∷ []) (length lists) d ≡ items
 read_behind [] items d = refl
@@ -109,21 +104,6 @@ pub stored_pushed : (heads heads' front more : List StoredObject) (lists lists' 
 stored_pushed heads heads' front more lists lists' others same is front-is lists-is =
     (λ t. all_stored (is t) (lists-is t)) ∙ ap (λ xs. all_stored (xs ++ more) (lists ++ others)) front-is ∙ stored_behind heads more lists others same
 
-stored-front_none : (heads : List StoredObject) (n : ℕ) → all_stored (take n heads) [] ≡ take n (all_stored heads [])
-stored-front_none [] zero = refl
-stored-front_none [] (suc n) = refl
-stored-front_none (x ∷ heads) zero = refl
-stored-front_none (x ∷ heads) (suc n) = ap (λ xs. stored_with x [] ∷ xs) (stored-front_none heads n)
-
--- a front of them
-pub stored_front : (heads : List StoredObject) (lists : List (List Property)) (n : ℕ) → all_stored (take n heads) (take n lists) ≡ take n (all_stored heads lists)
-stored_front [] lists zero = refl
-stored_front [] lists (suc n) = refl
-stored_front (x ∷ heads) [] zero = refl
-stored_front (x ∷ heads) [] (suc n) = ap (λ xs. stored_with x [] ∷ xs) (stored-front_none heads n)
-stored_front (x ∷ heads) (y ∷ lists) zero = refl
-stored_front (x ∷ heads) (y ∷ lists) (suc n) = ap (λ xs. stored_with x y ∷ xs) (stored_front heads lists n)
-
 -- ALL OF THEM
 
 pub objects_count : (stored : List Stored) (lists : List (List Value)) → length (objects_of stored lists) ≡ length stored
@@ -189,21 +169,6 @@ objects_behind [] more (y ∷ lists) others same = absurd (omega (arith, same))
 objects_behind (x ∷ stored) more [] others same = absurd (omega (arith, same))
 objects_behind (x ∷ stored) more (y ∷ lists) others same =
     ap (λ xs. object_of x y ∷ xs) (objects_behind stored more lists others (omega (arith, same)))
-
-front-none : (stored : List Stored) (n : ℕ) → objects_of (take n stored) [] ≡ take n (objects_of stored [])
-front-none [] zero = refl
-front-none [] (suc n) = refl
-front-none (x ∷ stored) zero = refl
-front-none (x ∷ stored) (suc n) = ap (λ xs. object_of x [] ∷ xs) (front-none stored n)
-
--- a front of them
-pub objects_front : (stored : List Stored) (lists : List (List Value)) (n : ℕ) → objects_of (take n stored) (take n lists) ≡ take n (objects_of stored lists)
-objects_front [] lists zero = refl
-objects_front [] lists (suc n) = refl
-objects_front (x ∷ stored) [] zero = refl
-objects_front (x ∷ stored) [] (suc n) = ap (λ xs. object_of x [] ∷ xs) (front-none stored n)
-objects_front (x ∷ stored) (y ∷ lists) zero = refl
-objects_front (x ∷ stored) (y ∷ lists) (suc n) = ap (λ xs. object_of x y ∷ xs) (objects_front stored lists n)
 
 -- the elements of one of them are the list of its place
 pub elements_at_place : (stored : List Stored) (lists : List (List Value)) (at : ℕ) → length lists ≡ length stored

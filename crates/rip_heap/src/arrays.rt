@@ -18,8 +18,8 @@ impl Heap {
         ensures grows { Grows self.old self.new }
     {
         self.room_for(items.len() + 1)?;
-        let number = FIRST_HEAP_OBJECT + self.named.len() as u32;
-        self.named.push_array(items);
+        let number = FIRST_HEAP_OBJECT + self.parts.named.len() as u32;
+        self.parts.named.push_array(items);
         self.used += items.len() as u32 + 1;
         Ok(number)
     }
@@ -29,7 +29,7 @@ impl Heap {
         ensures { result ≡ length (elements_at self.now array) }
     {
         match self.place_of_array(array) {
-            Some(at) => self.named.element_count(at),
+            Some(at) => self.parts.named.element_count(at),
             None => 0,
         }
     }
@@ -39,7 +39,7 @@ impl Heap {
         ensures { result ≡ slice_get (elements_at self.now array) place }
     {
         let at = self.place_of_array(array)?;
-        self.named.element(at, place)
+        self.parts.named.element(at, place)
     }
 
     /// Gives the element at this place the value. Past the end nothing is changed.
@@ -50,7 +50,7 @@ impl Heap {
         let Some(at) = self.place_of_array(array) else {
             return;
         };
-        self.named.set_element(at, place, v);
+        self.parts.named.set_element(at, place, v);
     }
 
     /// Puts an element behind the others. What is no array of this heap stays as it is.
@@ -63,7 +63,7 @@ impl Heap {
             return Ok(());
         };
         self.room_for(1)?;
-        self.named.push_elements(at, &[v]);
+        self.parts.named.push_elements(at, &[v]);
         self.used += 1;
         Ok(())
     }
@@ -78,7 +78,7 @@ impl Heap {
             return Ok(());
         };
         self.room_for(items.len())?;
-        self.named.push_elements(at, items);
+        self.parts.named.push_elements(at, items);
         self.used += items.len() as u32;
         Ok(())
     }
@@ -100,11 +100,11 @@ impl Heap {
         let Some(at) = self.place_of_array(array) else {
             return self.new_array(alloc, &[]);
         };
-        let end = to.min(self.named.element_count(at));
+        let end = to.min(self.parts.named.element_count(at));
         let count = end - from.min(end);
         self.room_for(count as usize + 1)?;
-        let number = FIRST_HEAP_OBJECT + self.named.len() as u32;
-        self.named.push_piece(at, from, to);
+        let number = FIRST_HEAP_OBJECT + self.parts.named.len() as u32;
+        self.parts.named.push_piece(at, from, to);
         self.used += count + 1;
         Ok(number)
     }
@@ -116,7 +116,7 @@ impl Heap {
         ensures grows { Grows self.old self.new }
     {
         let at = self.place_of_array(array)?;
-        self.named.pop_element(at)
+        self.parts.named.pop_element(at)
     }
 
     /// Takes the elements from this count on away. No cell is given back.
@@ -127,7 +127,7 @@ impl Heap {
         let Some(at) = self.place_of_array(array) else {
             return;
         };
-        self.named.cut_elements(at, count);
+        self.parts.named.cut_elements(at, count);
     }
 
     // The place of the array of that number in the list of objects.
@@ -137,7 +137,7 @@ impl Heap {
             × (slice_get self.now.objects i ≡ as_array (object_at self.now number))) }
     {
         let place = self.place_of_object(number)?;
-        let found = self.named.get(place)?;
+        let found = self.parts.named.get(place)?;
         if found.class.is_array() {
             Some(place)
         } else {

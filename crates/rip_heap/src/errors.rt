@@ -49,12 +49,13 @@ impl Heap {
         if self.free_cells() < COST_OF_ERROR {
             return Err(Abrupt::Limit(Limit::Cells));
         }
-        let number = FIRST_HEAP_OBJECT + self.named.len() as u32;
+        let number = FIRST_HEAP_OBJECT + self.parts.named.len() as u32;
         let property = Property {
             name: FixedText::Message.span(),
             value: Value::Text(message),
         };
-        self.named
+        self.parts
+            .named
             .push_with(StoredObject::bare(class, None), property);
         self.used += COST_OF_ERROR;
         Ok(Value::Object(number))
@@ -73,17 +74,17 @@ impl Heap {
     {
         let mut room = [0; 17];
         let count = text_of_whole(number, &mut room);
-        if count > self.named.pool().text_limit() as usize {
+        if count > self.parts.named.pool().text_limit() as usize {
             return Err(Abrupt::Fault(Fault::TextTooLong));
         }
         if self.free_cells() < COST_OF_ERROR {
             return Err(Abrupt::Limit(Limit::Cells));
         }
-        if count > self.named.pool().free() as usize {
+        if count > self.parts.named.pool().free() as usize {
             return Err(Abrupt::Limit(Limit::Units));
         }
-        let number = FIRST_HEAP_OBJECT + self.named.len() as u32;
-        self.named.push_error(alloc, class, &room[..count]);
+        let number = FIRST_HEAP_OBJECT + self.parts.named.len() as u32;
+        self.parts.named.push_error(alloc, class, &room[..count]);
         self.used += COST_OF_ERROR;
         Ok(Value::Object(number))
     }

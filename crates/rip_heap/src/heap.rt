@@ -18,9 +18,15 @@ use std::marker::Model;
 pub struct Heap {
     pub(crate) limit: u32,
     pub(crate) used: u32,
-    pub(crate) named: NamedObjects,
-    pub(crate) scopes: ScopeRows,
-    pub(crate) table: SearchTable,
+    pub(crate) parts: Box<HeapParts>,
+}
+
+/// What a heap holds. It lies behind one pointer, so that a heap is moved and let go as one thing.
+#[derive(Debug, Drop)]
+pub(crate) struct HeapParts {
+    pub named: NamedObjects,
+    pub scopes: ScopeRows,
+    pub table: SearchTable,
 }
 
 impl Model for Heap {
@@ -33,15 +39,15 @@ impl Model for Heap {
     ghost view = { λ h. record {
       limit = h.limit;
       cells = h.used;
-      pool = h.named.pool;
-      objects = h.named.objects;
-      scopes = h.scopes.scopes;
+      pool = h.parts.value.named.pool;
+      objects = h.parts.value.named.objects;
+      scopes = h.parts.value.scopes.scopes;
     } };
 
     ghost invariant = { λ h. record {
-      sound : IsSound h.limit h.used h.named.objects h.scopes.scopes;
-      objects : ArePaid h.limit h.used h.named.rooms;
-      scopes : ArePaid h.limit h.used h.scopes.rooms;
+      sound : IsSound h.limit h.used h.parts.value.named.objects h.parts.value.scopes.scopes;
+      objects : ArePaid h.limit h.used h.parts.value.named.rooms;
+      scopes : ArePaid h.limit h.used h.parts.value.scopes.rooms;
     } };
 }
 
@@ -56,12 +62,15 @@ impl Heap {
             return Err(NoMemory);
         }
         let pool = Pool::make(alloc, limits.units, limits.text)?;
-        Ok(Heap {
-            limit: limits.cells,
-            used: 0,
+        let parts = HeapParts {
             named: NamedObjects::new(alloc, pool, limits.cells)?,
             scopes: ScopeRows::make(alloc, limits.cells)?,
             table: SearchTable::make(alloc, limits.text)?,
+        };
+        Ok(Heap {
+            limit: limits.cells,
+            used: 0,
+            parts: Box::new(alloc, parts)?,
         })
     }
 
@@ -73,14 +82,14 @@ impl Heap {
         ensures numbers { first_object + self.now.limit ≤ first_node }
         ensures older { HaveOlderProtos self.now.objects }
     {
-        self.named.len() as u32
+        self.parts.named.len() as u32
     }
 
     /// How many scopes were made.
     pub fn scopes(&self) -> u32
         ensures { result ≡ length self.now.scopes }
     {
-        self.scopes.len() as u32
+        self.parts.scopes.len() as u32
     }
 
     /// The cells that were charged.

@@ -161,7 +161,7 @@ pub fn look_up(heap: &Heap, object: u32, name: Span) -> Found
 pub fn looked_up(heap: &Heap, object: u32, name: Span) -> LookedUp
     ensures { result ≡ looked_up heap.now object name }
 {
-    let _ = &heap.named;
+    let _ = &heap.parts.named;
     let mut at = Some(object);
     while let Some(number) = at {
         let Some(found) = heap.object(number) else {

@@ -18,8 +18,8 @@ impl Heap {
         ensures fixed { length fixed_units ≤ result.end }
     {
         Mark {
-            end: self.named.pool().end(),
-            used: self.named.pool().used(),
+            end: self.parts.named.pool().end(),
+            used: self.parts.named.pool().used(),
         }
     }
 
@@ -29,6 +29,6 @@ impl Heap {
         requires { CanBeCut mark self.old }
         ensures { self.new ≡ cut_world mark self.old }
     {
-        self.named.cut_back(mark.end, mark.used);
+        self.parts.named.cut_back(mark.end, mark.used);
     }
 }

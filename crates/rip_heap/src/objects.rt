@@ -48,14 +48,15 @@ impl Heap {
         ensures grows { Grows self.old self.new }
     {
         self.room_for(COST_OF_FUNCTION as usize)?;
-        let prototype = FIRST_HEAP_OBJECT + self.named.len() as u32;
+        let prototype = FIRST_HEAP_OBJECT + self.parts.named.len() as u32;
         let bare = StoredObject::bare(Class::Prototype, None);
         let property = Property {
             name: FixedText::Prototype.span(),
             value: Value::Object(prototype),
         };
-        self.named.push(bare);
-        self.named
+        self.parts.named.push(bare);
+        self.parts
+            .named
             .push_with(StoredObject::function(node, scope), property);
         self.used += COST_OF_FUNCTION;
         Ok(prototype + 1)
@@ -102,7 +103,7 @@ impl Heap {
         if number < FIRST_HEAP_OBJECT {
             return None;
         }
-        self.named.get((number - FIRST_HEAP_OBJECT) as usize)
+        self.parts.named.get((number - FIRST_HEAP_OBJECT) as usize)
     }
 
     // The place of the object of that number in the list of objects.
@@ -115,7 +116,7 @@ impl Heap {
             return None;
         }
         let place = (number - FIRST_HEAP_OBJECT) as usize;
-        if place < self.named.len() {
+        if place < self.parts.named.len() {
             Some(place)
         } else {
             None
@@ -134,8 +135,8 @@ impl Heap {
         ensures grows { Grows self.old self.new }
     {
         self.room_for(1)?;
-        let number = FIRST_HEAP_OBJECT + self.named.len() as u32;
-        self.named.push(object);
+        let number = FIRST_HEAP_OBJECT + self.parts.named.len() as u32;
+        self.parts.named.push(object);
         self.used += 1;
         Ok(number)
     }

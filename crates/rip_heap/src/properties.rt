@@ -14,8 +14,8 @@ impl Heap {
         ensures { result ≡ own self.now object name }
     {
         let at = self.place_of_object(object)?;
-        let place = self.named.place(at, name)?;
-        let found = self.named.property(at, place)?;
+        let place = self.parts.named.place(at, name)?;
+        let found = self.parts.named.property(at, place)?;
         Some(found.value)
     }
 
@@ -28,7 +28,7 @@ impl Heap {
             ≡ or_up (own self.now object name) (proto_of (object_at self.now object))
             (λ proto. find self.now proto name) }
     {
-        let _ = &self.named;
+        let _ = &self.parts.named;
         let mut at = Some(object);
         while let Some(number) = at {
             if let Some(value) = self.own(number, name) {
@@ -44,7 +44,7 @@ impl Heap {
         ensures { result ≡ own_at self.now object place }
     {
         let at = self.place_of_object(object)?;
-        let found = self.named.property(at, place)?;
+        let found = self.parts.named.property(at, place)?;
         Some((found.name, found.value))
     }
 
@@ -59,11 +59,11 @@ impl Heap {
         let Some(at) = self.place_of_object(object) else {
             return Ok(());
         };
-        match self.named.place(at, name) {
-            Some(found) => self.named.set_value(at, found, v),
+        match self.parts.named.place(at, name) {
+            Some(found) => self.parts.named.set_value(at, found, v),
             None => {
                 self.room_for(1)?;
-                self.named.add_property(at, name, v);
+                self.parts.named.add_property(at, name, v);
                 self.used += 1;
             }
         }
@@ -80,9 +80,9 @@ impl Heap {
         let Some(at) = self.place_of_object(object) else {
             return false;
         };
-        match self.named.place(at, name) {
+        match self.parts.named.place(at, name) {
             Some(found) => {
-                self.named.remove_property(at, found);
+                self.parts.named.remove_property(at, found);
                 true
             }
             None => false,

@@ -65,7 +65,13 @@ impl Heap {
             ≡ first_place_from pattern.now (text_at self.old.pool text) from }
         ensures same { self.new ≡ self.old }
     {
-        place_from(&mut self.table, self.named.pool().get(text), from, pattern)
+        let parts = &mut *self.parts;
+        place_from(
+            &mut parts.table,
+            parts.named.pool().get(text),
+            from,
+            pattern,
+        )
     }
 
     /// The same of a pattern that is a text of the heap.
@@ -74,8 +80,9 @@ impl Heap {
             ≡ first_place_from (text_at self.old.pool pattern) (text_at self.old.pool text) from }
         ensures same { self.new ≡ self.old }
     {
-        let pool = self.named.pool();
-        place_from(&mut self.table, pool.get(text), from, pool.get(pattern))
+        let parts = &mut *self.parts;
+        let pool = parts.named.pool();
+        place_from(&mut parts.table, pool.get(text), from, pool.get(pattern))
     }
 }
 

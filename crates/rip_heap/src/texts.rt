@@ -23,7 +23,7 @@ impl Heap {
         ensures room { TakesNoMemory result }
         ensures grows { Grows self.old self.new }
     {
-        Ok(self.named.add_joined(a, b)?)
+        Ok(self.parts.named.add_joined(a, b)?)
     }
 
     /// A new text of these units, at its length.
@@ -33,7 +33,7 @@ impl Heap {
         ensures room { TakesNoMemory result }
         ensures grows { Grows self.old self.new }
     {
-        self.named.add(alloc, text)
+        self.parts.named.add(alloc, text)
     }
 
     /// A name of the program, which costs nothing.
@@ -43,7 +43,7 @@ impl Heap {
         ensures stands { IfOk result (λ span. text_at self.new.pool span ≡ text.now) }
         ensures grows { Grows self.old self.new }
     {
-        self.named.add_fixed(alloc, text)
+        self.parts.named.add_fixed(alloc, text)
     }
 
     // A new text: the decimal numeral of the number (ECMA-262 9.8.1).
@@ -53,10 +53,10 @@ impl Heap {
     {
         let mut room = [0; 17];
         let count = text_of_whole(number, &mut room);
-        if count > self.named.pool().text_limit() as usize {
+        if count > self.parts.named.pool().text_limit() as usize {
             return Err(Halt::Fault(Fault::TextTooLong));
         }
-        match self.named.add(alloc, &room[..count]) {
+        match self.parts.named.add(alloc, &room[..count]) {
             Ok(span) => Ok(span),
             Err(_) => Err(Halt::Limit(Limit::Units)),
         }
@@ -66,7 +66,7 @@ impl Heap {
     pub fn pool(&self) -> &Pool
         ensures { result.now ≡ self.now.pool }
     {
-        self.named.pool()
+        self.parts.named.pool()
     }
 
     /// What the call answers to which the texts of the heap are lent. It may only add to them, and all else stays as it is.
@@ -77,7 +77,7 @@ impl Heap {
         ensures rest { self.new ≡ with_pool self.old self.new.pool }
         ensures grows { Grows self.old self.new }
     {
-        self.named.with_texts(add)
+        self.parts.named.with_texts(add)
     }
 
     /// The texts of the heap, to which more may be added. All else stays as it is. It is for the opening of a page, before
@@ -86,6 +86,6 @@ impl Heap {
         ensures* writes_back { sem 𝓛 (LendsPool self.entry result) }
         ensures value { result.now ≡ self.old.pool }
     {
-        self.named.pool_mut()
+        self.parts.named.pool_mut()
     }
 }
