@@ -1,9 +1,10 @@
-ghost use Rattle.std.specs.Prelude.{◌≡◌, drop, length, slice_index_or, IfOk};
+ghost use Rattle.std.specs.Prelude.{◌≡◌, drop, length, slice_index_or, IfOk, IfSome};
 ghost use Rattle.rip_values.specs.declared.value.Value.TheVariants.{Undefined};
 
 use rip_values::{NoMemory, Value};
 use std::alloc::Global;
 use std::marker::Model;
+use std::slice;
 
 /// The arguments of a call: those that stand beside its frame, and one more behind them, if there is one.
 #[derive(Drop)]
@@ -61,6 +62,17 @@ impl Arguments<'_> {
         Arguments {
             values: &self.values[1..],
             last: self.last,
+        }
+    }
+
+    /// The arguments side by side, where they stand so: those beside the frame alone, or the one more alone.
+    pub fn side_by_side(&self) -> Option<&[Value]>
+        ensures { IfSome result (λ list. list.now ≡ self.now) }
+    {
+        match &self.last {
+            None => Some(self.values),
+            Some(v) if self.values.is_empty() => Some(slice::from_ref(v)),
+            Some(_) => None,
         }
     }
 

@@ -173,6 +173,9 @@ pub(crate) fn call_table(
         heap.old gives) }
     ensures grows { Grows heap.old heap.new }
 {
+    if let Some(list) = args.side_by_side() {
+        return answer_table(alloc, heap, b, this, list);
+    }
     let list = args.to_vec(alloc)?;
     answer_table(alloc, heap, b, this, list.as_slice())
 }
@@ -297,8 +300,29 @@ fn call_host<H: Host>(
     ensures fits { H.fits host.new heap.new }
     ensures grows { Grows heap.old heap.new }
 {
+    if let Some(list) = args.side_by_side() {
+        return ask_host(alloc, heap, host, b, this, list);
+    }
     let list = args.to_vec(alloc)?;
-    match ask_call(alloc, heap, host, b.number(), *this, list.as_slice())? {
+    ask_host(alloc, heap, host, b, this, list.as_slice())
+}
+
+/// The same of arguments in a list.
+fn ask_host<H: Host>(
+    alloc: Global,
+    heap: &mut Heap,
+    host: &mut H,
+    b: Builtin,
+    this: &Value,
+    args: &[Value],
+) -> Answer
+    requires { H.fits host.old heap.old }
+    ensures row { DoesAnywhereWithHost H.answers result heap.new host.new
+        (asks_call (number_of b) this.now args.now heap.old gives) host.old }
+    ensures fits { H.fits host.new heap.new }
+    ensures grows { Grows heap.old heap.new }
+{
+    match ask_call(alloc, heap, host, b.number(), *this, args)? {
         Ok(v) => give(v),
         Err(next) => Ok(next),
     }
