@@ -11,7 +11,7 @@ use std::alloc::Global;
 use std::test::Fail;
 
 /// The words for a run of the file `s` within the limits below.
-const RUN: [&str; 6] = ["run", "s", "500", "60", "70", "50"];
+static RUN: [&str; 6] = ["run", "s", "500", "60", "70", "50"];
 
 /// The fuel of a run.
 const FUEL: u64 = 500;

@@ -19,7 +19,7 @@ enum Step {
 const FULL: Result<u64, Refused> = Err(Refused::Limit(Limit::Queue));
 
 // A queue of 20 bytes, and then one that is full to the last byte, and goes round its end.
-const STEPS: [Step; 24] = [
+static STEPS: [Step; 24] = [
     Step::Holds(0, 0, 0),
     Step::FrontIs(None, None),
     Step::Compares("[\"a\",[]]", Match::None),

@@ -40,7 +40,7 @@ fn is_answered(alloc: Global, text: &[u8], want: Want<'_>) -> Result<bool, NoMem
     }
 }
 
-const VALUES: [(&str, Want<'static>); 53] = [
+static VALUES: [(&str, Want<'static>); 53] = [
     ("null", Want::Text("null")),
     ("true", Want::Text("true")),
     ("false", Want::Text("false")),
@@ -101,7 +101,7 @@ const VALUES: [(&str, Want<'static>); 53] = [
 
 #[test]
 fn values_are_answered(rt: HostRuntime) -> Result<(), Fail> {
-    for (text, want) in VALUES {
+    for &(text, want) in &VALUES {
         assert!(rt;
             is_answered(rt.alloc(), text.as_bytes(), want)?,
             "at {text}"
@@ -110,7 +110,7 @@ fn values_are_answered(rt: HostRuntime) -> Result<(), Fail> {
     Ok(())
 }
 
-const NUMBERS: [(&str, Want<'static>); 54] = [
+static NUMBERS: [(&str, Want<'static>); 54] = [
     ("0", Want::Text("0")),
     ("-0", Want::NotWhole),
     ("-1", Want::Text("-1")),
@@ -175,7 +175,7 @@ const NUMBERS: [(&str, Want<'static>); 54] = [
 
 #[test]
 fn numbers_are_answered(rt: HostRuntime) -> Result<(), Fail> {
-    for (text, want) in NUMBERS {
+    for &(text, want) in &NUMBERS {
         assert!(rt;
             is_answered(rt.alloc(), text.as_bytes(), want)?,
             "at {text}"
@@ -184,7 +184,7 @@ fn numbers_are_answered(rt: HostRuntime) -> Result<(), Fail> {
     Ok(())
 }
 
-const TEXTS: [(&str, Want<'static>); 51] = [
+static TEXTS: [(&str, Want<'static>); 51] = [
     ("\"a\"", Want::Text("\"a\"")),
     ("\"\u{e9}\"", Want::Text("\"\u{e9}\"")),
     ("\"\u{20ac}\"", Want::Text("\"\u{20ac}\"")),
@@ -243,7 +243,7 @@ const TEXTS: [(&str, Want<'static>); 51] = [
 
 #[test]
 fn texts_are_answered(rt: HostRuntime) -> Result<(), Fail> {
-    for (text, want) in TEXTS {
+    for &(text, want) in &TEXTS {
         assert!(rt;
             is_answered(rt.alloc(), text.as_bytes(), want)?,
             "at {text}"
@@ -252,7 +252,7 @@ fn texts_are_answered(rt: HostRuntime) -> Result<(), Fail> {
     Ok(())
 }
 
-const FIELDS: [(&str, Want<'static>); 22] = [
+static FIELDS: [(&str, Want<'static>); 22] = [
     ("{\"b\":1,\"a\":2}", Want::Text("{\"a\":2,\"b\":1}")),
     ("{\"a\":1,\"a\":2}", Want::Text("{\"a\":2}")),
     ("{\"a\":2,\"b\":0,\"a\":1}", Want::Text("{\"a\":1,\"b\":0}")),
@@ -306,7 +306,7 @@ const FIELDS: [(&str, Want<'static>); 22] = [
 
 #[test]
 fn fields_are_answered(rt: HostRuntime) -> Result<(), Fail> {
-    for (text, want) in FIELDS {
+    for &(text, want) in &FIELDS {
         assert!(rt;
             is_answered(rt.alloc(), text.as_bytes(), want)?,
             "at {text}"
@@ -315,7 +315,7 @@ fn fields_are_answered(rt: HostRuntime) -> Result<(), Fail> {
     Ok(())
 }
 
-const NESTING: [(&str, Want<'static>); 12] = [
+static NESTING: [(&str, Want<'static>); 12] = [
     ("[[[[[[[[]]]]]]]]", Want::Text("[[[[[[[[]]]]]]]]")),
     ("[[[[[[[[[]]]]]]]]]", Want::TooDeep),
     ("[[[[[[[[1]]]]]]]]", Want::Text("[[[[[[[[1]]]]]]]]")),
@@ -341,7 +341,7 @@ const NESTING: [(&str, Want<'static>); 12] = [
 
 #[test]
 fn nested_texts_are_answered(rt: HostRuntime) -> Result<(), Fail> {
-    for (text, want) in NESTING {
+    for &(text, want) in &NESTING {
         assert!(rt;
             is_answered(rt.alloc(), text.as_bytes(), want)?,
             "at {text}"
@@ -351,7 +351,7 @@ fn nested_texts_are_answered(rt: HostRuntime) -> Result<(), Fail> {
 }
 
 /// Bytes that are no UTF-8, and a byte order mark, which no text begins with.
-const NOT_UTF8: [&[u8]; 6] = [
+static NOT_UTF8: [&[u8]; 6] = [
     b"\xff",
     b"\"\xc3\"",
     b"\"\xc0\xaf\"",
@@ -363,7 +363,7 @@ const NOT_UTF8: [&[u8]; 6] = [
 #[test]
 fn bytes_that_are_no_utf8_are_refused(rt: HostRuntime) -> Result<(), Fail> {
     let alloc = rt.alloc();
-    for bytes in NOT_UTF8 {
+    for &bytes in &NOT_UTF8 {
         assert!(rt; is_answered(alloc, bytes, Want::Syntax)?, "at {bytes:?}");
     }
     Ok(())
@@ -393,7 +393,7 @@ fn quoted(alloc: Global, bytes: usize) -> Result<Vec<u8>, Fail> {
 }
 
 /// How many brackets stand in each other, and what is answered.
-const DEEP: [(usize, Want<'static>); 3] = [
+static DEEP: [(usize, Want<'static>); 3] = [
     (127, Want::TooDeep),
     (128, Want::Syntax),
     (5000, Want::Syntax),
@@ -402,7 +402,7 @@ const DEEP: [(usize, Want<'static>); 3] = [
 #[test]
 fn limits_are_kept(rt: HostRuntime) -> Result<(), Fail> {
     let alloc = rt.alloc();
-    for (levels, want) in DEEP {
+    for &(levels, want) in &DEEP {
         assert!(rt;
             is_answered(alloc, nested(alloc, levels)?.as_slice(), want)?,
             "at {levels}"
@@ -431,7 +431,7 @@ fn limits_are_kept(rt: HostRuntime) -> Result<(), Fail> {
 }
 
 /// Texts that are refused wherever there is no limit of length, and why.
-const LONG_REFUSED: [(&[u8], DataError); 3] = [
+static LONG_REFUSED: [(&[u8], DataError); 3] = [
     (b"[1.0]", DataError::NotWhole),
     (b"[[[[[[[[[]]]]]]]]]", DataError::TooDeep),
     (b"[1", DataError::Syntax),
@@ -440,7 +440,7 @@ const LONG_REFUSED: [(&[u8], DataError); 3] = [
 #[test]
 fn long_data_is_refused_for_all_but_its_length(rt: HostRuntime) -> Result<(), Fail> {
     let alloc = rt.alloc();
-    for (text, error) in LONG_REFUSED {
+    for &(text, error) in &LONG_REFUSED {
         assert!(rt; read_long(alloc, text).err() == Some(error), "at {text:?}");
     }
     Ok(())

@@ -19,7 +19,7 @@ fn refusal_of(alloc: Global, text: &str) -> Option<ManifestRefusal> {
     read_manifest(alloc, text.as_bytes()).err()
 }
 
-const WHOLE: [(&str, Option<ManifestRefusal>); 41] = [
+static WHOLE: [(&str, Option<ManifestRefusal>); 41] = [
     ("{\"version\":1,\"functions\":{},\"limits\":{}}", None),
     (
         " { \"limits\" : {} ,\n\"functions\":{},\t\"version\":1 }\r\n",
@@ -116,7 +116,7 @@ const WHOLE: [(&str, Option<ManifestRefusal>); 41] = [
 
 #[test]
 fn whole_texts_are_answered(rt: HostRuntime) -> Result<(), Fail> {
-    for (text, want) in WHOLE {
+    for &(text, want) in &WHOLE {
         assert!(rt; refusal_of(rt.alloc(), text) == want, "at {text}");
     }
     Ok(())
@@ -126,7 +126,7 @@ fn with_functions(alloc: Global, functions: &str) -> Result<String, AllocError> 
     format!(in alloc; "{{\"version\":1,\"functions\":{{{functions}}},\"limits\":{{}}}}")
 }
 
-const FUNCTIONS: [(&str, Option<ManifestRefusal>); 27] = [
+static FUNCTIONS: [(&str, Option<ManifestRefusal>); 27] = [
     ("\"a\":[\"get\",\"\"]", None),
     ("\"a\":[\"get\",\"p.q_R9\"],\"b\":[\"list\",\"\"]", None),
     ("\"A.z_0\":[\"put\",\"\"]", None),
@@ -162,7 +162,7 @@ const FUNCTIONS: [(&str, Option<ManifestRefusal>); 27] = [
 #[test]
 fn functions_are_answered(rt: HostRuntime) -> Result<(), Fail> {
     let alloc = rt.alloc();
-    for (functions, want) in FUNCTIONS {
+    for &(functions, want) in &FUNCTIONS {
         let text = with_functions(alloc, functions)?;
         assert!(rt; refusal_of(alloc, text.as_str()) == want, "at {functions}");
     }
@@ -173,7 +173,7 @@ fn with_limits(alloc: Global, limits: &str) -> Result<String, AllocError> {
     format!(in alloc; "{{\"version\":1,\"functions\":{{}},\"limits\":{{{limits}}}}}")
 }
 
-const LIMITS: [(&str, Option<ManifestRefusal>); 41] = [
+static LIMITS: [(&str, Option<ManifestRefusal>); 41] = [
     ("\"fuel\":1", None),
     ("\"fuel\":10000000", None),
     ("\"fuel\":0", LIMIT_RANGE),
@@ -223,7 +223,7 @@ const LIMITS: [(&str, Option<ManifestRefusal>); 41] = [
 #[test]
 fn limits_are_answered(rt: HostRuntime) -> Result<(), Fail> {
     let alloc = rt.alloc();
-    for (limits, want) in LIMITS {
+    for &(limits, want) in &LIMITS {
         let text = with_limits(alloc, limits)?;
         assert!(rt; refusal_of(alloc, text.as_str()) == want, "at {limits}");
     }
@@ -255,7 +255,7 @@ const OUT_OF_ORDER: &[u8] =
       \"a\":[\"get\",\"\"],\"d\":[\"take\",\"p\"],\"e\":[\"push\",\"p\"],\"c\":[\"add\",\"p\"]}}";
 
 /// Its functions in the order of their names.
-const IN_ORDER: [(&str, Operation, &str); 6] = [
+static IN_ORDER: [(&str, Operation, &str); 6] = [
     ("a", Operation::Get, ""),
     ("b", Operation::Put, "p"),
     ("c", Operation::Add, "p"),
@@ -319,7 +319,7 @@ fn letters(alloc: Global, count: u32) -> Result<String, AllocError> {
 }
 
 /// How many letters a name and a prefix have, and what is answered.
-const LETTERS: [(u32, u32, Option<ManifestRefusal>); 3] = [
+static LETTERS: [(u32, u32, Option<ManifestRefusal>); 3] = [
     (64, 64, None),
     (65, 0, FUNCTION),
     (1, 65, FUNCTION),
@@ -328,7 +328,7 @@ const LETTERS: [(u32, u32, Option<ManifestRefusal>); 3] = [
 #[test]
 fn letters_are_counted(rt: HostRuntime) -> Result<(), Fail> {
     let alloc = rt.alloc();
-    for (name, prefix, want) in LETTERS {
+    for &(name, prefix, want) in &LETTERS {
         let name = letters(alloc, name)?;
         let prefix = letters(alloc, prefix)?;
         let function = format!(in alloc; "\"{name}\":[\"get\",\"{prefix}\"]")?;
@@ -339,7 +339,7 @@ fn letters_are_counted(rt: HostRuntime) -> Result<(), Fail> {
 }
 
 /// Refusals, and what is printed of each.
-const PRINTED: [(ManifestRefusal, &str); 7] = [
+static PRINTED: [(ManifestRefusal, &str); 7] = [
     (ManifestRefusal::Kind(ManifestKind::Syntax), "Syntax"),
     (ManifestRefusal::Kind(ManifestKind::Member), "Member"),
     (ManifestRefusal::Kind(ManifestKind::Version), "Version"),
@@ -354,7 +354,7 @@ const PRINTED: [(ManifestRefusal, &str); 7] = [
 
 #[test]
 fn refusals_are_printed(rt: HostRuntime) -> Result<(), Fail> {
-    for (refusal, want) in PRINTED {
+    for &(refusal, want) in &PRINTED {
         assert!(rt;
             format!(in rt.alloc(); "{refusal}")?.as_str() == want,
             "at {want}"
@@ -364,7 +364,7 @@ fn refusals_are_printed(rt: HostRuntime) -> Result<(), Fail> {
 }
 
 /// Bytes that are no UTF-8.
-const NOT_UTF8: [&[u8]; 2] = [
+static NOT_UTF8: [&[u8]; 2] = [
     b"\xff",
     b"{\"version\":1,\"functions\":{\"\xc3\":1},\"limits\":{}}",
 ];
@@ -372,7 +372,7 @@ const NOT_UTF8: [&[u8]; 2] = [
 #[test]
 fn bytes_that_are_no_utf8_are_refused(rt: HostRuntime) -> Result<(), Fail> {
     let alloc = rt.alloc();
-    for bytes in NOT_UTF8 {
+    for &bytes in &NOT_UTF8 {
         assert!(rt; read_manifest(alloc, bytes).err() == SYNTAX, "at {bytes:?}");
     }
     Ok(())

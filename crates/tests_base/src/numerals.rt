@@ -1,7 +1,7 @@
 use rip_numerals::read_number;
 
 /// Words, and the number that each spells, or none.
-const NUMERALS: [(&str, Option<u64>); 16] = [
+static NUMERALS: [(&str, Option<u64>); 16] = [
     ("0", Some(0)),
     ("7", Some(7)),
     ("4294967296", Some(4_294_967_296)),
@@ -22,7 +22,7 @@ const NUMERALS: [(&str, Option<u64>); 16] = [
 
 #[test]
 fn numerals_are_read(rt: HostRuntime) {
-    for (word, number) in NUMERALS {
+    for &(word, number) in &NUMERALS {
         assert_eq!(rt; read_number(word.as_bytes()), number, "{word}");
     }
 }

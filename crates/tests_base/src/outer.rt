@@ -84,7 +84,7 @@ fn draw<C: Clock, W: Words>(clock: &mut C, random: &mut W) -> (u64, u64)
 }
 
 /// Texts, and the pieces of each.
-const PIECES: [(&[u8], &[&[u8]]); 9] = [
+static PIECES: [(&[u8], &[&[u8]]); 9] = [
     (b"", &[]),
     (b"a", &[b"a"]),
     (b"a\n", &[b"a"]),
@@ -98,7 +98,7 @@ const PIECES: [(&[u8], &[&[u8]]); 9] = [
 
 #[test]
 fn pieces_lie_between_line_feeds(rt: HostRuntime) -> Result<(), Fail> {
-    for (text, wanted) in PIECES {
+    for &(text, wanted) in &PIECES {
         for (line, other) in lines(text).zip(wanted) {
             assert!(rt; line == *other);
         }
@@ -109,7 +109,7 @@ fn pieces_lie_between_line_feeds(rt: HostRuntime) -> Result<(), Fail> {
 }
 
 /// What is put, and what is answered where the second and the fourth call fail.
-const PUTS: [(&[u8], Result<(), SinkError>); 5] = [
+static PUTS: [(&[u8], Result<(), SinkError>); 5] = [
     (b"ab", Ok(())),
     (b"cd", Err(SinkError::Failed)),
     (b"ef", Ok(())),
@@ -121,7 +121,7 @@ const PUTS: [(&[u8], Result<(), SinkError>); 5] = [
 fn a_sink_fails_at_the_listed_calls(rt: HostRuntime) -> Result<(), Fail> {
     let alloc = rt.alloc();
     let mut sink = MemorySink::make(alloc, &NumberList::from_slice(alloc, &[2, 4])?)?;
-    for (piece, answer) in PUTS {
+    for &(piece, answer) in &PUTS {
         assert_eq!(rt; sink.put(piece), answer);
     }
     assert!(rt; sink.bytes() == b"abefij".as_slice());
@@ -130,7 +130,7 @@ fn a_sink_fails_at_the_listed_calls(rt: HostRuntime) -> Result<(), Fail> {
 }
 
 /// Files that are copied in turn: the name, what is answered, the bytes of the sink and the faults of the files then.
-const COPIES: [(&str, Copied, usize, u64); 6] = [
+static COPIES: [(&str, Copied, usize, u64); 6] = [
     ("page", Copied::Done, 2, 0),
     ("none", Copied::Outside, 2, 1),
     ("page", Copied::Outside, 2, 2),
@@ -150,7 +150,7 @@ fn files_fail_at_listed_calls_and_at_other_names(rt: HostRuntime) -> Result<(), 
     ]?);
     let mut files = MemoryFiles::make(alloc, &files, &NumberList::from_slice(alloc, &[3])?)?;
     let mut sink = MemorySink::make(alloc, &NumberList::new(alloc))?;
-    for (name, answer, length, faults) in COPIES {
+    for &(name, answer, length, faults) in &COPIES {
         assert_eq!(rt;
             copy_file(alloc, name, &mut files, &mut sink),
             answer,
@@ -195,7 +195,7 @@ fn knock_of(alloc: Global, listed: Listed) -> Result<TraceKnock, Fail> {
 }
 
 /// Knocks, and whether the list takes each behind those above it.
-const PUSHED: [(Listed, bool); 15] = [
+static PUSHED: [(Listed, bool); 15] = [
     (Listed::Bytes(0, b"a"), false),
     (Listed::Gone(0), false),
     (Listed::Opened(1), false),
@@ -217,7 +217,7 @@ const PUSHED: [(Listed, bool); 15] = [
 fn a_list_of_knocks_keeps_the_rules(rt: HostRuntime) -> Result<(), Fail> {
     let alloc = rt.alloc();
     let mut knocks = KnockList::new(alloc);
-    for (listed, allowed) in PUSHED {
+    for &(listed, allowed) in &PUSHED {
         let pushed = knocks.push(knock_of(alloc, listed)?);
         assert!(rt;
             pushed
@@ -233,7 +233,7 @@ fn a_list_of_knocks_keeps_the_rules(rt: HostRuntime) -> Result<(), Fail> {
 }
 
 /// What comes on two connections.
-const KNOCKS: [Listed; 6] = [
+static KNOCKS: [Listed; 6] = [
     Listed::Opened(0),
     Listed::Bytes(0, b"ab"),
     Listed::Opened(1),
@@ -243,7 +243,7 @@ const KNOCKS: [Listed; 6] = [
 ];
 
 /// What is told of them, where the third and the ninth question fail.
-const GREETED: [Knock; 10] = [
+static GREETED: [Knock; 10] = [
     Knock::Opened(0),
     Knock::Quiet,
     Knock::Failed,
@@ -260,14 +260,14 @@ const GREETED: [Knock; 10] = [
 fn a_door_in_memory_tells_its_knocks(rt: HostRuntime) -> Result<(), Fail> {
     let alloc = rt.alloc();
     let mut knocks = KnockList::new(alloc);
-    for listed in KNOCKS {
+    for &listed in &KNOCKS {
         assert!(rt; knocks.push(knock_of(alloc, listed)?) == Ok(()));
     }
     let failing_next = NumberList::from_slice(alloc, &[3, 9])?;
     let failing_send = NumberList::from_slice(alloc, &[2])?;
     let mut door = MemoryDoor::make(alloc, &knocks, &failing_next, &failing_send)?;
     let mut room = [0; 4096];
-    for knock in GREETED {
+    for &knock in &GREETED {
         assert_eq!(rt; greet(&mut door, &mut room), knock);
     }
     assert!(rt; room.starts_with(b"cd"));
@@ -279,22 +279,22 @@ fn a_door_in_memory_tells_its_knocks(rt: HostRuntime) -> Result<(), Fail> {
 }
 
 /// The moments and words that are drawn where two of each are listed.
-const DRAWN: [(u64, u64); 4] = [(5, 9), (7, 4), (7, 3), (7, 4)];
+static DRAWN: [(u64, u64); 4] = [(5, 9), (7, 4), (7, 3), (7, 4)];
 
 /// The moments and words that are drawn where none are listed.
-const DRAWN_OF_NOTHING: [(u64, u64); 3] = [(0, 1), (0, 2), (0, 3)];
+static DRAWN_OF_NOTHING: [(u64, u64); 3] = [(0, 1), (0, 2), (0, 3)];
 
 #[test]
 fn a_clock_and_words_in_memory(rt: HostRuntime) -> Result<(), Fail> {
     let alloc = rt.alloc();
     let mut clock = MemoryClock::make(alloc, &NumberList::from_slice(alloc, &[5, 7])?)?;
     let mut random = MemoryWords::make(alloc, &NumberList::from_slice(alloc, &[9, 4])?)?;
-    for pair in DRAWN {
+    for &pair in &DRAWN {
         assert_eq!(rt; draw(&mut clock, &mut random), pair);
     }
     let mut clock = MemoryClock::make(alloc, &NumberList::new(alloc))?;
     let mut random = MemoryWords::make(alloc, &NumberList::new(alloc))?;
-    for pair in DRAWN_OF_NOTHING {
+    for &pair in &DRAWN_OF_NOTHING {
         assert_eq!(rt; draw(&mut clock, &mut random), pair);
     }
     Ok(())

@@ -30,7 +30,7 @@ fn row_of_numeral(numeral: Numeral) -> Row {
 }
 
 /// Texts, and what each is as a number.
-const NUMERAL_TEXTS: [(&str, Row); 40] = [
+static NUMERAL_TEXTS: [(&str, Row); 40] = [
     ("", Row::Number(0)),
     (" ", Row::Number(0)),
     (" 12 ", Row::Number(12)),
@@ -83,13 +83,13 @@ fn texts_are_read_as_numbers(rt: HostRuntime) -> Result<(), Fail> {
 }
 
 /// The units that are trimmed.
-const BLANKS: [u16; 25] = [
+static BLANKS: [u16; 25] = [
     0x9, 0xA, 0xB, 0xC, 0xD, 0x20, 0xA0, 0x1680, 0x2000, 0x2001, 0x2002, 0x2003, 0x2004, 0x2005,
     0x2006, 0x2007, 0x2008, 0x2009, 0x200A, 0x2028, 0x2029, 0x202F, 0x205F, 0x3000, 0xFEFF,
 ];
 
 /// Units that are not trimmed, most of them beside one that is.
-const OTHER_UNITS: [u16; 14] = [
+static OTHER_UNITS: [u16; 14] = [
     0x0, 0x8, 0xE, 0x1F, 0x21, 0x85, 0x9F, 0xA1, 0x180E, 0x1FFF, 0x200B, 0x202A, 0x2060, 0xFFFE,
 ];
 
@@ -114,7 +114,7 @@ fn blanks_are_trimmed(rt: HostRuntime) {
 }
 
 /// Whole numbers, and the numeral of each.
-const WRITTEN: [(i64, &str); 7] = [
+static WRITTEN: [(i64, &str); 7] = [
     (0, "0"),
     (7, "7"),
     (-7, "-7"),
@@ -144,7 +144,7 @@ fn numerals_are_written_and_read_back(rt: HostRuntime) -> Result<(), Fail> {
 }
 
 /// The first and the last character of each length, and those beside the surrogates.
-const EDGES: [(&[u8], &[u16]); 11] = [
+static EDGES: [(&[u8], &[u16]); 11] = [
     (b"", &[]),
     (b"\x00", &[0x0]),
     (b"\x7F", &[0x7F]),
@@ -159,7 +159,7 @@ const EDGES: [(&[u8], &[u16]); 11] = [
 ];
 
 /// A byte alone, overlong forms, surrogates, past U+10FFFF, and what is cut short.
-const NOT_UTF8: [&[u8]; 16] = [
+static NOT_UTF8: [&[u8]; 16] = [
     b"\x80",
     b"\xBF",
     b"\xC0\x80",
@@ -195,7 +195,7 @@ fn edges_of_utf8(rt: HostRuntime) -> Result<(), Fail> {
 }
 
 /// Units of which a surrogate has no partner.
-const LONE_SURROGATES: [&[u16]; 9] = [
+static LONE_SURROGATES: [&[u16]; 9] = [
     &[0xD800],
     &[0xDBFF],
     &[0xDC00],
@@ -302,7 +302,7 @@ fn built_ins_by_number(rt: HostRuntime) {
 }
 
 /// Names that are no global's.
-const NO_GLOBALS: [&str; 6] = ["window", "Infinity", "nan", "Mat", "Maths", ""];
+static NO_GLOBALS: [&str; 6] = ["window", "Infinity", "nan", "Mat", "Maths", ""];
 
 /// Globals, and the value of each.
 const GLOBAL_VALUES: [(Global, Value); 5] = [
@@ -319,7 +319,7 @@ fn globals_by_name(rt: HostRuntime) -> Result<(), Fail> {
         let name = Units::from_utf8(rt.alloc(), global.name().as_bytes())?;
         assert_eq!(rt; Global::named(name.as_slice()), Some(*global));
     }
-    for name in NO_GLOBALS {
+    for &name in &NO_GLOBALS {
         let name = Units::from_utf8(rt.alloc(), name.as_bytes())?;
         assert_eq!(rt; Global::named(name.as_slice()), None);
     }

@@ -39,7 +39,7 @@ fn asked(alloc: Global, line: &str) -> Result<String, AllocError> {
 }
 
 /// Lines of words, and what each asks for.
-const LINES: [(&str, &str); 28] = [
+static LINES: [(&str, &str); 28] = [
     ("check p a", "check p,a"),
     ("replay p a t", "replay p,a,t,1000000000"),
     ("replay p a t --turns=10", "replay p,a,t,10"),
@@ -79,7 +79,7 @@ const LINES: [(&str, &str); 28] = [
 #[test]
 fn words_are_read(rt: HostRuntime) -> Result<(), Fail> {
     let alloc = rt.alloc();
-    for (line, expected) in LINES {
+    for &(line, expected) in &LINES {
         assert_eq!(rt; asked(alloc, line)?.as_str(), expected, "{line}");
     }
     words_are_one();

@@ -32,7 +32,7 @@ const TEXT: &str = "[1,\"ab\",{\"k\":null,\"lm\":[]}]";
 
 // Array 1; 1 is there, pushed 1; "ab" 2 units, pushed 1; object 1; null is there, put under "k" 1 cell and 1 unit; array
 // 1, put under "lm" 1 cell and 2 units; the object is pushed 1.
-const ROWS: [(u32, u32, u32, u32, Option<Limit>); 9] = [
+static ROWS: [(u32, u32, u32, u32, Option<Limit>); 9] = [
     (8, 5, 8, 5, None),
     (7, 5, 7, 5, Some(Limit::Cells)),
     (8, 4, 6, 3, Some(Limit::Units)),

@@ -32,7 +32,7 @@ struct Stage {
 const NODES: u32 = 8;
 
 /// Nodes, and the child of each.
-const PARENTS: [(u32, u32); 4] = [(0, 1), (1, 2), (2, 3), (3, 4)];
+static PARENTS: [(u32, u32); 4] = [(0, 1), (1, 2), (2, 3), (3, 4)];
 
 /// Nodes 0, 1, 2 and so on, each the parent of the next.
 fn made(alloc: Global) -> Result<Stage, Fail> {
@@ -52,7 +52,7 @@ fn made(alloc: Global) -> Result<Stage, Fail> {
     for _i in 0..5 {
         dom.create_element(alloc, heap.pool_mut(), name)?;
     }
-    for (parent, child) in PARENTS {
+    for &(parent, child) in &PARENTS {
         put(&mut dom, parent, child);
     }
     Ok(Stage {

@@ -69,7 +69,7 @@ fn put(s: &mut Small, parent: u32, n: u32) {
 }
 
 /// The elements of a page, each with the number of its parent; the number of a row is that of its node.
-const PAGE: [(u32, &[&str]); 16] = [
+static PAGE: [(u32, &[&str]); 16] = [
     (0, &["#"]),
     (0, &["html"]),
     (1, &["form"]),
@@ -113,7 +113,7 @@ type ReportRow = (
     Result<(), BadReport>,
 );
 
-const REPORTS: [ReportRow; 32] = [
+static REPORTS: [ReportRow; 32] = [
     (EventKind::Click, 0, None, None, Err(BadReport::Node)),
     (EventKind::Click, 99, None, None, Err(BadReport::Node)),
     (EventKind::Click, 16, None, None, Err(BadReport::Node)),
@@ -193,7 +193,7 @@ fn reads(alloc: Global, s: &mut Small, n: u32, expected: &str) -> Result<bool, F
 }
 
 /// Nodes of the page, and the value that each has first.
-const FIRST_VALUES: [(u32, &str); 11] = [
+static FIRST_VALUES: [(u32, &str); 11] = [
     (3, "a"),
     (4, "1"),
     (5, "on"),
@@ -225,7 +225,7 @@ fn values_begin_as_the_tree_says(rt: HostRuntime) -> Result<(), Fail> {
 }
 
 /// Values that are written to the select, and the place of the option that each chooses.
-const CHOSEN: [(&str, i64); 4] = [("x", 0), ("ab", 1), ("a", -1), ("", -1)];
+static CHOSEN: [(&str, i64); 4] = [("x", 0), ("ab", 1), ("a", -1), ("", -1)];
 
 #[test]
 fn a_written_value_chooses_the_first_option(rt: HostRuntime) -> Result<(), Fail> {

@@ -138,14 +138,14 @@ fn properties_are_found_along_prototypes(rt: HostRuntime) -> Result<(), Fail> {
 }
 
 /// Names of properties, in the order in which they are put.
-const NAMES: [FixedText; 3] = [FixedText::Id, FixedText::Code, FixedText::Name];
+static NAMES: [FixedText; 3] = [FixedText::Id, FixedText::Code, FixedText::Name];
 
 #[test]
 fn properties_keep_their_order(rt: HostRuntime) -> Result<(), Fail> {
     let alloc = rt.alloc();
     let mut heap = Heap::make(alloc, LIMITS)?;
     let object = heap.new_object(alloc, Some(7))?;
-    for name in NAMES {
+    for &name in &NAMES {
         heap.put(alloc, object, name.span(), Value::Null)?;
     }
     assert!(rt; heap.remove(object, FixedText::Id.span()));
@@ -247,7 +247,7 @@ fn texts_are_charged(rt: HostRuntime) -> Result<(), Fail> {
 }
 
 /// Whole numbers, and whether their numerals have room where a text has one unit at most.
-const ROOMS: [(i64, Result<(), Halt>); 3] = [
+static ROOMS: [(i64, Result<(), Halt>); 3] = [
     (8, Ok(())),
     (12, Err(Halt::Fault(Fault::TextTooLong))),
     (-1, Err(Halt::Fault(Fault::TextTooLong))),
@@ -266,7 +266,7 @@ fn numerals_are_judged_against_the_limit_text(rt: HostRuntime) -> Result<(), Fai
         },
     )?;
     to_text(alloc, &mut heap, number(7))?;
-    for (n, room) in ROOMS {
+    for &(n, room) in &ROOMS {
         if let Value::Num(whole) = number(n) {
             assert_eq!(rt; room_for_numeral(&heap, whole), room, "{n}");
         }
@@ -368,7 +368,7 @@ fn fixed_texts_cost_nothing(rt: HostRuntime) -> Result<(), Fail> {
 }
 
 /// Whole numbers, or none for `NaN`, and the numbers of 32 bits of each, without a sign and with one.
-const OF_32_BITS: [(Option<i64>, u32, i32); 9] = [
+static OF_32_BITS: [(Option<i64>, u32, i32); 9] = [
     (Some(0), 0, 0),
     (None, 0, 0),
     (Some(-1), 4_294_967_295, -1),
@@ -382,7 +382,7 @@ const OF_32_BITS: [(Option<i64>, u32, i32); 9] = [
 
 #[test]
 fn numbers_of_32_bits(rt: HostRuntime) {
-    for (n, unsigned, signed) in OF_32_BITS {
+    for &(n, unsigned, signed) in &OF_32_BITS {
         let n = numeral_or_nan(n);
         assert_eq!(rt; (to_uint32(n), to_int32(n)), (unsigned, signed), "{n:?}");
     }

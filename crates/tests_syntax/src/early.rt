@@ -5,23 +5,23 @@ use std::alloc::Global;
 use std::test::Fail;
 
 /// The script `"use strict";NaN` and its units.
-const READS_A_GLOBAL: [u16; 16] = [
+static READS_A_GLOBAL: [u16; 16] = [
     34, 117, 115, 101, 32, 115, 116, 114, 105, 99, 116, 34, 59, 78, 97, 78,
 ];
 
 /// The script `"use strict";foo` and its units.
-const READS_NOTHING: [u16; 16] = [
+static READS_NOTHING: [u16; 16] = [
     34, 117, 115, 101, 32, 115, 116, 114, 105, 99, 116, 34, 59, 102, 111, 111,
 ];
 
 /// The script `"use strict";var a;if(NaN){var b;}var c;` and its units.
-const BINDS_THREE: [u16; 40] = [
+static BINDS_THREE: [u16; 40] = [
     34, 117, 115, 101, 32, 115, 116, 114, 105, 99, 116, 34, 59, 118, 97, 114, 32, 97, 59, 105, 102,
     40, 78, 97, 78, 41, 123, 118, 97, 114, 32, 98, 59, 125, 118, 97, 114, 32, 99, 59,
 ];
 
 /// The script `"use strict";try{}catch(e){var e=1;}` and its units.
-const DECLARES_IN_A_CLAUSE: [u16; 36] = [
+static DECLARES_IN_A_CLAUSE: [u16; 36] = [
     34, 117, 115, 101, 32, 115, 116, 114, 105, 99, 116, 34, 59, 116, 114, 121, 123, 125, 99, 97,
     116, 99, 104, 40, 101, 41, 123, 118, 97, 114, 32, 101, 61, 49, 59, 125,
 ];
@@ -112,7 +112,7 @@ fn tree_that_binds_three(alloc: Global) -> Result<Tree, NoMemory> {
 }
 
 /// The nodes that bind a name, and the place of each among the names.
-const BOUND: [(u32, u32); 3] = [(4, 0), (11, 1), (6, 2)];
+static BOUND: [(u32, u32); 3] = [(4, 0), (11, 1), (6, 2)];
 
 #[test]
 fn names_are_bound_in_the_order_of_the_text(rt: HostRuntime) -> Result<(), Fail> {
@@ -120,7 +120,7 @@ fn names_are_bound_in_the_order_of_the_text(rt: HostRuntime) -> Result<(), Fail>
     let trees = Trees::from_vec(vec![in rt.alloc(); script]?);
     let program = check(rt.alloc(), &trees)?;
     assert_eq!(rt; program.top_names(), 3);
-    for (id, place) in BOUND {
+    for &(id, place) in &BOUND {
         assert_eq!(rt;
             program.resolved(id),
             Some(Resolved::Binding { up: 0, place })

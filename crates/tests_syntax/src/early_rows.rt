@@ -14,7 +14,7 @@ const DIRECTIVE: &str = "\"use strict\";";
 /// in which the units of the directive count.
 type Row = (&'static str, Option<(EarlyKind, u32)>);
 
-const ROWS: [Row; 51] = [
+static ROWS: [Row; 51] = [
     ("foo();", Some((EarlyKind::UnknownGlobal, 13))),
     ("foo=1", Some((EarlyKind::UnknownGlobal, 13))),
     ("typeof foo", Some((EarlyKind::UnknownGlobal, 20))),
@@ -81,7 +81,7 @@ const ROWS: [Row; 51] = [
 /// place.
 type PageRow = (&'static [&'static str], Option<(u32, EarlyKind, u32)>);
 
-const PAGE_ROWS: [PageRow; 11] = [
+static PAGE_ROWS: [PageRow; 11] = [
     (&[], None),
     (&[""], Some((1, EarlyKind::NotStrict, 0))),
     (&["'use strict'"], None),
@@ -156,7 +156,7 @@ fn answer(alloc: Global, scripts: &[&str]) -> Result<Option<(u32, EarlyKind, u32
 
 #[test]
 fn early_errors_of_the_table(rt: HostRuntime) -> Result<(), Fail> {
-    for (text, expected) in ROWS {
+    for &(text, expected) in &ROWS {
         let script = format!(in rt.alloc(); "{DIRECTIVE}{text}")?;
         let expected = expected.map(|(kind, place)| (1, kind, place));
         assert_eq!(rt; answer(rt.alloc(), &[script.as_str()])?, expected, "{text}");
@@ -166,7 +166,7 @@ fn early_errors_of_the_table(rt: HostRuntime) -> Result<(), Fail> {
 
 #[test]
 fn early_errors_of_pages(rt: HostRuntime) -> Result<(), Fail> {
-    for (scripts, expected) in PAGE_ROWS {
+    for &(scripts, expected) in &PAGE_ROWS {
         assert_eq!(rt; answer(rt.alloc(), scripts)?, expected, "{scripts:?}");
     }
     Ok(())

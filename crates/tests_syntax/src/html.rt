@@ -363,7 +363,7 @@ fn nested(alloc: Global, count: u32, content: &str) -> Result<String, Fail> {
 }
 
 /// How many elements stand in a body, what stands in them, and the refusal.
-const TOO_DEEP: [(u32, &str, &str); 6] = [
+static TOO_DEEP: [(u32, &str, &str); 6] = [
     (199, "", "TooNested 619"),
     (300, "", "TooNested 619"),
     (198, "<i a a>", "TooNested 619"),
@@ -380,7 +380,7 @@ fn depth_has_a_limit(rt: HostRuntime) -> Result<(), Fail> {
         deepest.as_str().ends_with(" 201<br> 201\"a\""),
         "{deepest}"
     );
-    for (count, content, want) in TOO_DEEP {
+    for &(count, content, want) in &TOO_DEEP {
         let found = read(rt.alloc(), nested(rt.alloc(), count, content)?.as_bytes())?;
         assert_eq!(rt; found.as_str(), want, "{content:?} in {count}");
     }

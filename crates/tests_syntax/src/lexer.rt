@@ -318,13 +318,13 @@ fn edges_are_read(rt: HostRuntime) -> Result<(), Fail> {
 }
 
 /// What stands before a construct, its units, and what stands behind.
-const PLACES: [(&str, u32, &str); 3] = [("", 0, ""), ("a;", 2, "\nb"), ("a+\n", 3, "")];
+static PLACES: [(&str, u32, &str); 3] = [("", 0, ""), ("a;", 2, "\nb"), ("a+\n", 3, "")];
 
 /// What is refused is refused at the start, in the middle and at the end of a script.
 #[test]
 fn refusals_have_places(rt: HostRuntime) -> Result<(), Fail> {
     for (construct, kind, offset) in &REFUSED {
-        for (before, start, after) in PLACES {
+        for &(before, start, after) in &PLACES {
             let script = format!(in rt.alloc(); "{before}{construct}{after}")?;
             let place = u64::from(start) + u64::from(*offset);
             let want = format!(in rt.alloc(); "{kind:?} {place}")?;

@@ -58,7 +58,7 @@ fn refused(judged: Judged) -> Result<(u32, u32), AppRefusal> {
 }
 
 /// Pages that are refused, why, and where.
-const PAGES: [(&str, PageKind, u32); 7] = [
+static PAGES: [(&str, PageKind, u32); 7] = [
     ("", PageKind::MissingPart, 0),
     ("<html>", PageKind::MissingPart, 6),
     (
@@ -94,7 +94,7 @@ const NOT_UTF8: &[u8] = b"<html><head></head><body>\xff</body></html>";
 #[test]
 fn pages_are_judged_first(rt: HostRuntime) -> Result<(), Fail> {
     let alloc = rt.alloc();
-    for (text, kind, place) in PAGES {
+    for &(text, kind, place) in &PAGES {
         for manifest in [MANIFEST, ""] {
             assert_eq!(rt;
                 load_text(alloc, text, manifest),
@@ -109,7 +109,7 @@ fn pages_are_judged_first(rt: HostRuntime) -> Result<(), Fail> {
 }
 
 /// Bodies of pages, and how the scripts in them are judged.
-const SCRIPTS: [(&str, Judged); 11] = [
+static SCRIPTS: [(&str, Judged); 11] = [
     (
         "<script>1.5</script>",
         Judged::NoTokens(1, LexKind::FractionLiteral, 0),
@@ -153,7 +153,7 @@ const SCRIPTS: [(&str, Judged); 11] = [
 #[test]
 fn scripts_are_judged_in_their_order(rt: HostRuntime) -> Result<(), Fail> {
     let alloc = rt.alloc();
-    for (body, judged) in SCRIPTS {
+    for &(body, judged) in &SCRIPTS {
         let text = page_of(alloc, body)?;
         for manifest in [MANIFEST, ""] {
             let loaded = load_text(alloc, text.as_str(), manifest);
@@ -164,7 +164,7 @@ fn scripts_are_judged_in_their_order(rt: HostRuntime) -> Result<(), Fail> {
 }
 
 /// Manifests that are refused, and why.
-const MANIFESTS: [(&str, AppRefusal); 10] = [
+static MANIFESTS: [(&str, AppRefusal); 10] = [
     ("", AppRefusal::Manifest(ManifestKind::Syntax)),
     (
         "{\"version\":1,\"functions\":{},\"limits\":{}}x",
@@ -208,7 +208,7 @@ const MOST_SESSIONS: &str = "{\"version\":1,\"functions\":{},\"limits\":{\"sessi
 fn manifests_are_judged_last(rt: HostRuntime) -> Result<(), Fail> {
     let alloc = rt.alloc();
     let text = page_of(alloc, "<script>\"use strict\";</script>")?;
-    for (manifest, refusal) in MANIFESTS {
+    for &(manifest, refusal) in &MANIFESTS {
         let loaded = load_text(alloc, text.as_str(), manifest);
         assert_eq!(rt; loaded, Err(refusal), "{manifest}");
     }

@@ -410,7 +410,7 @@ fn deep_trees_have_places(rt: HostRuntime) -> Result<(), Fail> {
 }
 
 /// The places of the nodes of `x;(a).b=c`, in the order of their numbers.
-const NODE_PLACES: [u32; 8] = [0, 2, 2, 8, 2, 3, 0, 0];
+static NODE_PLACES: [u32; 8] = [0, 2, 2, 8, 2, 3, 0, 0];
 
 /// The place of a node is that of its first token, parentheses of its first part counted.
 #[test]
@@ -425,13 +425,13 @@ fn nodes_have_places(rt: HostRuntime) -> Result<(), Fail> {
 }
 
 /// The script, its units one for each byte.
-const SCRIPT: [u16; 29] = [
+static SCRIPT: [u16; 29] = [
     105, 102, 40, 97, 32, 105, 110, 32, 49, 41, 10, 43, 43, 98, 62, 62, 62, 61, 34, 34, 38, 38,
     116, 121, 112, 101, 111, 102, 59,
 ];
 
 /// Its words, each with its place and whether a line end stands before it.
-const WORDS: [(Word, u32, bool); 14] = [
+static WORDS: [(Word, u32, bool); 14] = [
     (Word::If, 0, false),
     (Word::OpenParenthesis, 2, false),
     (Word::Name, 3, false),

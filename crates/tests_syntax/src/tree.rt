@@ -4,10 +4,10 @@ use std::alloc::Global;
 use std::test::Fail;
 
 /// The script `a+=1`, whose tree has five nodes, and its units.
-const SCRIPT: [u16; 4] = [97, 43, 61, 49];
+static SCRIPT: [u16; 4] = [97, 43, 61, 49];
 
 /// Nodes of its tree, places for a child, and the child that is there.
-const CHILDREN: [(u32, u32, Option<u32>); 9] = [
+static CHILDREN: [(u32, u32, Option<u32>); 9] = [
     (0, 0, None),
     (0, 1, Some(1)),
     (0, 2, None),
@@ -61,7 +61,7 @@ fn a_tree_is_made_and_read(rt: HostRuntime) -> Result<(), Fail> {
     )?;
     let tree = maker.finish();
     assert_eq!(rt; tree.count(), 5);
-    for (id, place, child) in CHILDREN {
+    for &(id, place, child) in &CHILDREN {
         assert_eq!(rt; tree.child(id, place), child, "child {place} of {id}");
     }
     assert_eq!(rt; tree.units(name), [97].as_slice());
@@ -101,7 +101,7 @@ fn tree_of_name(alloc: Global, unit: u16) -> Result<Tree, Fail> {
 }
 
 /// The same of a program of two scripts.
-const CHILDREN_OF_TWO: [(u32, u32, Option<u32>); 7] = [
+static CHILDREN_OF_TWO: [(u32, u32, Option<u32>); 7] = [
     (0, 0, Some(1)),
     (1, 0, None),
     (1, 1, Some(2)),
@@ -141,7 +141,7 @@ fn a_program_is_read(rt: HostRuntime) -> Result<(), Fail> {
         (program.root(1), program.root(2), program.root(3)),
         (0, 3, 0)
     );
-    for (id, place, child) in CHILDREN_OF_TWO {
+    for &(id, place, child) in &CHILDREN_OF_TWO {
         assert_eq!(rt; program.child(id, place), child, "child {place} of {id}");
     }
     let name = Piece { start: 1, count: 1 };

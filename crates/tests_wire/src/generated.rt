@@ -32,7 +32,7 @@ fn is_click(gesture: &Gesture) -> bool {
 }
 
 /// The numbers of plans, and what is counted in each.
-const PLANS: [(u32, (u32, u32, u32)); 3] = [
+static PLANS: [(u32, (u32, u32, u32)); 3] = [
     (0, (10, 91, 380)),
     (7, (10, 74, 384)),
     (4_294_967_295, (10, 71, 380)),
@@ -41,7 +41,7 @@ const PLANS: [(u32, (u32, u32, u32)); 3] = [
 #[test]
 fn plans_are_those_of_their_numbers(rt: HostRuntime) -> Result<(), Fail> {
     let alloc = rt.alloc();
-    for (number, expected) in PLANS {
+    for &(number, expected) in &PLANS {
         let plan = plan(alloc, number)?;
         assert_eq!(rt; counts(&plan), expected, "{number}");
     }

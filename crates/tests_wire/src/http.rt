@@ -11,7 +11,7 @@ struct Row {
     taken: &'static str,
 }
 
-const ROWS: [Row; 41] = [
+static ROWS: [Row; 41] = [
     Row {
         stream: b"GET / HTTP/1.1\r\nHost: a\r\n\r\n",
         taken: "Page [] [] false;",
@@ -280,7 +280,7 @@ fn long_head(alloc: Global, len: usize) -> Result<Vec<u8>, Fail> {
 }
 
 /// The bytes of a head, and what is taken of it.
-const HEADS: [(usize, &str); 3] = [
+static HEADS: [(usize, &str); 3] = [
     (8_191, "Page [] [] false;"),
     (8_192, "Page [] [] false;"),
     (8_193, "431"),
@@ -289,7 +289,7 @@ const HEADS: [(usize, &str); 3] = [
 #[test]
 fn a_head_has_at_most_8192_bytes(rt: HostRuntime) -> Result<(), Fail> {
     let alloc = rt.alloc();
-    for (len, taken) in HEADS {
+    for &(len, taken) in &HEADS {
         let head = long_head(alloc, len)?;
         assert_eq!(rt; head.len(), len);
         assert_eq!(rt; told_by_bytes(alloc, head.as_slice())?.as_str(), taken);
@@ -343,7 +343,7 @@ const OPENED: &str =
     "HTTP/1.1 200 OK\r\nContent-Type: text/html; charset=utf-8\r\nRipley-Session: 00000000-0000-4001-8000-000000000002\r\nRipley-Seed: 3\r\nRipley-Time: 0\r\nContent-Length: 4\r\n\r\npage";
 
 /// Refusals by their code, the method that they name, their body and whether they are answered bare, and their bytes.
-const REFUSALS: [(u16, Option<Method>, &[u8], bool, &str); 3] = [
+static REFUSALS: [(u16, Option<Method>, &[u8], bool, &str); 3] = [
     (400, None, b"{\"error\":\"head\"}", false, WITHOUT_HOST),
     (
         405,
@@ -364,7 +364,7 @@ const REFUSALS: [(u16, Option<Method>, &[u8], bool, &str); 3] = [
 #[test]
 fn answers_have_their_bytes(rt: HostRuntime) -> Result<(), Fail> {
     let alloc = rt.alloc();
-    for (code, allow, body, bare, text) in REFUSALS {
+    for &(code, allow, body, bare, text) in &REFUSALS {
         let answer = refusal(alloc, code, allow, body, bare)?;
         assert_eq!(rt; answer_bytes(alloc, &answer)?.as_slice(), text.as_bytes());
     }

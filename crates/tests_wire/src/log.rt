@@ -6,7 +6,7 @@ use std::test::Fail;
 
 /// Logs as they were written elsewhere: of a form that is filled in and sent, of a click that does not end, and of each
 /// other kind of line.
-const LOGS: [&str; 4] = [
+static LOGS: [&str; 4] = [
     "",
     "open 2 1 00000000-0000-4001-8000-000000000002 3 0\ndone 2 1 0 ok\n\
      batch 3 1 1 [[\"event\",\"input\",7,\"Ann\"],[\"event\",\"input\",8,\"3\"]]\ndone 3 1 1 ok\n\
@@ -29,7 +29,7 @@ const LOGS: [&str; 4] = [
 ];
 
 /// The numbers at the end of their ranges.
-const LAST: [&str; 7] = [
+static LAST: [&str; 7] = [
     "open 18446744073709551615 4294967295 ffffffff-ffff-ffff-ffff-ffffffffffff 4294967295 18446744073709551615\n",
     "batch 1 1 9007199254740991 []\n",
     "serve 1 1 9007199254740991 4294967295 \"f\" [] 18446744073709551615 null\n",
@@ -40,7 +40,7 @@ const LAST: [&str; 7] = [
 ];
 
 /// Lines that are none: past a range, with another spelling, or with a part too few or too many.
-const OTHERS: [&str; 40] = [
+static OTHERS: [&str; 40] = [
     "open 18446744073709551616 1 00000000-0000-4001-8000-000000000002 3 0\n",
     "open 1 4294967296 00000000-0000-4001-8000-000000000002 3 0\n",
     "open 1 1 00000000-0000-4001-8000-000000000002 4294967296 0\n",
@@ -108,7 +108,7 @@ fn logs_are_read_and_written(rt: HostRuntime) -> Result<(), Fail> {
 #[test]
 fn other_lines_are_refused(rt: HostRuntime) -> Result<(), Fail> {
     let alloc = rt.alloc();
-    for line in OTHERS {
+    for &line in &OTHERS {
         let text = format!(in alloc; "end 1 0\n{line}end 2 0\n")?;
         assert!(rt;
             matches!(read_log(alloc, text.as_bytes()), Err(LogRefusal::Line(2))),

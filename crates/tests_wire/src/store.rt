@@ -5,7 +5,7 @@ use rip_values::{Bytes, Units};
 use std::alloc::Global;
 use std::test::Fail;
 
-const FUNCTIONS: [(&str, Operation, &str); 8] = [
+static FUNCTIONS: [(&str, Operation, &str); 8] = [
     ("put", Operation::Put, "s."),
     ("get", Operation::Get, "s."),
     ("add", Operation::Add, "s."),
@@ -66,7 +66,7 @@ fn first_wrong(alloc: Global, rows: &[(&str, &str, &str)]) -> Result<Option<usiz
     Ok(None)
 }
 
-const ROW: [(&str, &str, &str); 8] = [
+static ROW: [(&str, &str, &str); 8] = [
     ("put", "[\"a\",1]", "true"),
     ("add", "[\"a\",9007199254740991]", "{\"error\":\"range\"}"),
     ("add", "[\"a\",\"x\"]", "{\"error\":\"arguments\"}"),
@@ -83,7 +83,7 @@ fn a_store_with_one_prefix(rt: HostRuntime) -> Result<(), Fail> {
     Ok(())
 }
 
-const ROWS: [(&str, &str, &str); 38] = [
+static ROWS: [(&str, &str, &str); 38] = [
     ("none", "[]", "{\"error\":\"unknown\"}"),
     ("pu", "[\"a\",1]", "{\"error\":\"unknown\"}"),
     ("put", "[\"a\"]", "{\"error\":\"arguments\"}"),
@@ -159,7 +159,7 @@ fn each_operation_and_each_error(rt: HostRuntime) -> Result<(), Fail> {
 }
 
 /// Calls to a store that is full, and their replies.
-const FULL: [(&str, &str, &str); 11] = [
+static FULL: [(&str, &str, &str); 11] = [
     ("put", "[\"x\",1]", "{\"error\":\"full\"}"),
     ("add", "[\"x\",1]", "{\"error\":\"full\"}"),
     ("push", "[\"x\",1]", "{\"error\":\"full\"}"),
@@ -182,7 +182,7 @@ fn a_store_of_4096_keys(rt: HostRuntime) -> Result<(), Fail> {
         let reply = reply_of(alloc, &mut store, "put", args.as_str())?;
         assert!(rt; reply.as_slice() == b"true".as_slice(), "at {i}");
     }
-    for (name, args, reply) in FULL {
+    for &(name, args, reply) in &FULL {
         let got = reply_of(alloc, &mut store, name, args)?;
         assert!(rt; got.as_slice() == reply.as_bytes(), "at {name} {args}");
     }
@@ -200,7 +200,7 @@ fn long_args(alloc: Global, count: usize) -> Result<String, Fail> {
 }
 
 /// How many characters are pushed, and the reply.
-const PUSHED: [(usize, &str); 5] = [
+static PUSHED: [(usize, &str); 5] = [
     (8180, "1"),
     (8180, "2"),
     (15, "{\"error\":\"full\"}"),
@@ -212,7 +212,7 @@ const PUSHED: [(usize, &str); 5] = [
 fn a_list_of_16384_bytes(rt: HostRuntime) -> Result<(), Fail> {
     let alloc = rt.alloc();
     let mut store = store_of(alloc, FUNCTIONS.as_slice())?;
-    for (count, reply) in PUSHED {
+    for &(count, reply) in &PUSHED {
         let args = long_args(alloc, count)?;
         let got = reply_of(alloc, &mut store, "push", args.as_str())?;
         assert!(rt; got.as_slice() == reply.as_bytes(), "at {count}");
@@ -221,7 +221,7 @@ fn a_list_of_16384_bytes(rt: HostRuntime) -> Result<(), Fail> {
 }
 
 /// Functions by their names, and the reply of each where it adds 1.
-const ADDED: [(&str, &str); 4] = [
+static ADDED: [(&str, &str); 4] = [
     ("f0", "1"),
     ("f255", "1"),
     ("f255", "2"),
@@ -237,7 +237,7 @@ fn a_store_of_256_functions(rt: HostRuntime) -> Result<(), Fail> {
         made.push(function(alloc, name.as_str(), Operation::Add, name.as_str())?)?;
     }
     let mut store = Store::make(alloc, &Functions::from_vec(made))?;
-    for (name, reply) in ADDED {
+    for &(name, reply) in &ADDED {
         let got = reply_of(alloc, &mut store, name, "[\"k\",1]")?;
         assert!(rt; got.as_slice() == reply.as_bytes(), "at {name}");
     }

@@ -34,7 +34,7 @@ fn repeated(alloc: Global, text: &str, times: usize) -> Result<String, AllocErro
 }
 
 /// Texts of traces.
-const TRACES: [&str; 6] = [
+static TRACES: [&str; 6] = [
     "",
     "#\n# a comment, \r\nquiet",
     "open 0\nopen 1\nsay 1 get\ngone 1\nopen 2\nquiet\nsay 0 q 1\n",
@@ -46,7 +46,7 @@ const TRACES: [&str; 6] = [
 #[test]
 fn lines_are_read(rt: HostRuntime) -> Result<(), Fail> {
     let alloc = rt.alloc();
-    for text in TRACES {
+    for &text in &TRACES {
         assert_eq!(rt; first_refused(alloc, text)?, 0, "{text}");
     }
     traces_are_one();
@@ -55,7 +55,7 @@ fn lines_are_read(rt: HostRuntime) -> Result<(), Fail> {
 }
 
 /// Lines that are none behind one that opens connection 0.
-const OTHER_LINES: [&str; 37] = [
+static OTHER_LINES: [&str; 37] = [
     "",
     " quiet",
     "quiet ",
@@ -98,7 +98,7 @@ const OTHER_LINES: [&str; 37] = [
 #[test]
 fn other_lines_are_refused(rt: HostRuntime) -> Result<(), Fail> {
     let alloc = rt.alloc();
-    for line in OTHER_LINES {
+    for &line in &OTHER_LINES {
         let text = format!(in alloc; "open 0\n# {line}\n{line}\nwell\n")?;
         assert_eq!(rt; first_refused(alloc, text.as_str())?, 3, "{line}");
     }
@@ -108,20 +108,20 @@ fn other_lines_are_refused(rt: HostRuntime) -> Result<(), Fail> {
 }
 
 /// How many bytes are sent, and the line that is refused, or 0.
-const SENT: [(usize, u64); 4] = [(1, 0), (4_095, 0), (4_096, 0), (4_097, 2)];
+static SENT: [(usize, u64); 4] = [(1, 0), (4_095, 0), (4_096, 0), (4_097, 2)];
 
 /// How many bytes a body has, and how many knocks there are then.
-const SAID: [(usize, usize); 5] = [(0, 2), (4_008, 2), (4_009, 3), (8_104, 3), (8_105, 4)];
+static SAID: [(usize, usize); 5] = [(0, 2), (4_008, 2), (4_009, 3), (8_104, 3), (8_105, 4)];
 
 #[test]
 fn pieces_have_4096_bytes_at_most(rt: HostRuntime) -> Result<(), Fail> {
     let alloc = rt.alloc();
-    for (bytes, line) in SENT {
+    for &(bytes, line) in &SENT {
         let digits = repeated(alloc, "0a", bytes)?;
         let text = format!(in alloc; "open 0\nsend 0 {digits}\n")?;
         assert_eq!(rt; first_refused(alloc, text.as_str())?, line);
     }
-    for (body, knocks) in SAID {
+    for &(body, knocks) in &SAID {
         let body = repeated(alloc, "b", body)?;
         let text = format!(in alloc; "open 0\nsay 0 e 1 {body}\n")?;
         let trace = read_trace(alloc, text.as_bytes())?;
@@ -131,7 +131,7 @@ fn pieces_have_4096_bytes_at_most(rt: HostRuntime) -> Result<(), Fail> {
 }
 
 /// What is said, and the bytes of the request.
-const REQUESTS: [(&str, &str); 4] = [
+static REQUESTS: [(&str, &str); 4] = [
     ("say 0 get", "GET / HTTP/1.1\r\nHost: a\r\n\r\n"),
     (
         "say 0 e 1 {}",
@@ -150,7 +150,7 @@ const REQUESTS: [(&str, &str); 4] = [
 #[test]
 fn requests_have_their_bytes(rt: HostRuntime) -> Result<(), Fail> {
     let alloc = rt.alloc();
-    for (line, bytes) in REQUESTS {
+    for &(line, bytes) in &REQUESTS {
         let text = format!(in alloc; "open 0\n{line}\n")?;
         let trace = read_trace(alloc, text.as_bytes())?;
         assert!(rt;
@@ -213,7 +213,7 @@ fn gestures_are_read(rt: HostRuntime) -> Result<(), Fail> {
 }
 
 /// Lines of gestures.
-const GESTURE_LINES: [&str; 10] = [
+static GESTURE_LINES: [&str; 10] = [
     "click 4",
     "focus 0",
     "blur 1",
@@ -227,7 +227,7 @@ const GESTURE_LINES: [&str; 10] = [
 ];
 
 /// Lines that are no gesture's.
-const OTHER_GESTURE_LINES: [&str; 19] = [
+static OTHER_GESTURE_LINES: [&str; 19] = [
     "",
     "click",
     "click ",
@@ -252,11 +252,11 @@ const OTHER_GESTURE_LINES: [&str; 19] = [
 #[test]
 fn other_gestures_are_refused(rt: HostRuntime) -> Result<(), Fail> {
     let alloc = rt.alloc();
-    for line in GESTURE_LINES {
+    for &line in &GESTURE_LINES {
         let text = format!(in alloc; "{line}\n")?;
         assert_eq!(rt; first_other(alloc, text.as_str())?, 0, "{line}");
     }
-    for line in OTHER_GESTURE_LINES {
+    for &line in &OTHER_GESTURE_LINES {
         let text = format!(in alloc; "flush\n#{line}\n{line}\nwell\n")?;
         assert_eq!(rt; first_other(alloc, text.as_str())?, 3, "{line}");
     }

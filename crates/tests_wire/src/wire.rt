@@ -5,7 +5,7 @@ use std::alloc::Global;
 use std::test::Fail;
 
 /// Bodies, and the text of the batch that each spells.
-const BATCHES: [(&str, &str); 13] = [
+static BATCHES: [(&str, &str); 13] = [
     (r#"{"batch":1,"items":[]}"#, r#"{"batch":1,"items":[]}"#),
     (
         " {\n\"items\" : [ ] ,\t\"batch\" : 9007199254740991 }\r\n",
@@ -58,7 +58,7 @@ const BATCHES: [(&str, &str); 13] = [
 ];
 
 /// Bodies that spell no batch.
-const REFUSED: [&str; 51] = [
+static REFUSED: [&str; 51] = [
     "",
     "x",
     "null",
@@ -124,7 +124,7 @@ fn text_of(alloc: Global, body: &[u8]) -> Result<Bytes, WireError> {
 #[test]
 fn bodies_are_read_and_written(rt: HostRuntime) -> Result<(), Fail> {
     let alloc = rt.alloc();
-    for (body, text) in BATCHES {
+    for &(body, text) in &BATCHES {
         let written = text_of(alloc, body.as_bytes())?;
         assert!(rt; written.as_slice() == text.as_bytes(), "{body}");
         let again = text_of(alloc, written.as_slice())?;
@@ -136,7 +136,7 @@ fn bodies_are_read_and_written(rt: HostRuntime) -> Result<(), Fail> {
 #[test]
 fn other_bodies_are_refused(rt: HostRuntime) -> Result<(), Fail> {
     let alloc = rt.alloc();
-    for body in REFUSED {
+    for &body in &REFUSED {
         assert!(rt;
             read_batch(alloc, body.as_bytes()).err() == Some(WireError::Body),
             "{body}"
@@ -220,14 +220,14 @@ fn a_written_batch_is_read_again(rt: HostRuntime) -> Result<(), Fail> {
 
 // The body of an answer that served two calls.
 /// Two calls that were served: the number, when, and the reply.
-const SERVED: [(u64, u64, &str); 2] = [
+static SERVED: [(u64, u64, &str); 2] = [
     (1, 0, "{\"error\":\"unknown\"}"),
     (2, 9_007_199_254_740_991, "1"),
 ];
 
 fn answer_of(alloc: Global, number: u64, ended: Option<Ending>) -> Result<Bytes, Fail> {
     let mut served = Vec::new(alloc);
-    for (number, time, reply) in SERVED {
+    for &(number, time, reply) in &SERVED {
         let reply = read_datum(alloc, reply.as_bytes())?;
         served.push(ServedCall {
             number,
