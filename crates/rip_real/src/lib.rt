@@ -33,8 +33,6 @@ mod outside;
 mod random_words;
 mod sink;
 mod sockets;
-#[cfg(test)]
-mod tests;
 
 pub use clock::HostClock;
 pub use door::TcpDoor;

@@ -19,7 +19,5 @@
 mod growth;
 mod rows;
 mod segment;
-#[cfg(test)]
-mod tests;
 
 pub use rows::{ElementRows, Rows};

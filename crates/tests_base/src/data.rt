@@ -371,13 +371,8 @@ fn bytes_that_are_no_utf8_are_refused(rt: HostRuntime) -> Result<(), Fail> {
 
 // So many opening brackets, and as many closing ones.
 fn nested(alloc: Global, levels: usize) -> Result<Vec<u8>, Fail> {
-    let mut text = Vec::new(alloc);
-    for _ in 0..levels {
-        text.push(b'[')?;
-    }
-    for _ in 0..levels {
-        text.push(b']')?;
-    }
+    let mut text = vec![in alloc; b'['; levels]?;
+    text.extend_from_slice(&vec![in alloc; b']'; levels]?)?;
     Ok(text)
 }
 

@@ -16,6 +16,8 @@ mod numerals;
 #[cfg(test)]
 mod outer;
 #[cfg(test)]
+mod real;
+#[cfg(test)]
 mod table;
 #[cfg(test)]
 mod values;

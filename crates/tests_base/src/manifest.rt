@@ -264,21 +264,24 @@ static IN_ORDER: [(&str, Operation, &str); 6] = [
     ("f.g_1", Operation::List, "p."),
 ];
 
+/// Whether a function has this name, works so and has this prefix.
+fn is_function(
+    alloc: Global,
+    function: &Function,
+    row: &(&str, Operation, &str),
+) -> Result<bool, Fail> {
+    let (name, op, prefix) = row;
+    let name = Units::from_utf8(alloc, name.as_bytes())?;
+    let prefix = Units::from_utf8(alloc, prefix.as_bytes())?;
+    Ok(function.name == name && function.op == *op && function.prefix == prefix)
+}
+
 #[test]
 fn functions_are_read_in_order_of_names(rt: HostRuntime) -> Result<(), Fail> {
-    let alloc = rt.alloc();
-    let manifest = read_manifest(alloc, OUT_OF_ORDER)?;
+    let manifest = read_manifest(rt.alloc(), OUT_OF_ORDER)?;
     assert_eq!(rt; manifest.functions().len(), IN_ORDER.len());
-    for (function, (name, op, prefix)) in manifest.functions().iter().zip(IN_ORDER) {
-        assert!(rt;
-            function.name == Units::from_utf8(alloc, name.as_bytes())?,
-            "at {name}"
-        );
-        assert!(rt; function.op == op, "at {name}");
-        assert!(rt;
-            function.prefix == Units::from_utf8(alloc, prefix.as_bytes())?,
-            "at {name}"
-        );
+    for (function, row) in manifest.functions().iter().zip(&IN_ORDER) {
+        assert!(rt; is_function(rt.alloc(), function, row)?, "at {}", row.0);
     }
     assert_eq!(rt; *manifest.limits(), Limits::DEFAULT);
     Ok(())

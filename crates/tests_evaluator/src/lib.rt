@@ -12,4 +12,6 @@ mod members;
 #[cfg(test)]
 mod ops;
 #[cfg(test)]
+mod rows;
+#[cfg(test)]
 mod runs;

@@ -1,4 +1,4 @@
-use super::*;
+use rip_rows::*;
 use rip_values::{NoMemory, Value};
 use std::alloc::Global;
 use std::test::Fail;

@@ -1,5 +1,5 @@
-use crate::real_outside;
 use rip_outer::{Clock, Door, Knock, Sent, Words};
+use rip_real::real_outside;
 use std::io::{Read, Write};
 use std::net::TcpStream;
 use std::test::Fail;
