@@ -1,4 +1,4 @@
-//! Tests of values, the outside, data, manifests and what else stands on values alone: what no clause says, and each public call once with ample memory.
+//! Tests of values, the outside in memory and the real one, data, manifests and what else stands on values alone: what no clause says, and each public call once with ample memory.
 //!
 //! They stand above the crates that they try, since a crate with tests is proved twice.
 #![tactic(auto)]

@@ -1,4 +1,5 @@
 use rip_values::*;
+use std::alloc;
 use std::test::Fail;
 
 /// What `number_of_text` answers, as a table of rows spells it.
@@ -231,56 +232,72 @@ fn long_texts(rt: HostRuntime) -> Result<(), Fail> {
     Ok(())
 }
 
+/// Whether a pool has this text at its span, and finds it there.
+fn is_fixed(alloc: alloc::Global, pool: &Pool, fixed: FixedText) -> Result<bool, Fail> {
+    let text = Units::from_utf8(alloc, fixed.text().as_bytes())?;
+    Ok(
+        pool.fixed(text.as_slice()) == Some(fixed.span())
+            && pool.get(fixed.span()) == text.as_slice(),
+    )
+}
+
+#[test]
+fn fixed_texts_stand_in_each_pool(rt: HostRuntime) -> Result<(), Fail> {
+    let pool = Pool::make(rt.alloc(), 5, 65_535)?;
+    assert_eq!(rt; (pool.text_limit(), pool.limit()), (65_535, 5));
+    for fixed in &FIXED_TEXTS {
+        assert!(rt; is_fixed(rt.alloc(), &pool, *fixed)?, "{fixed:?}");
+    }
+    assert_eq!(rt; pool.fixed(&[0x4C, 0x65]), None);
+    Ok(())
+}
+
+/// Adds texts of 2, 3, 2 and 0 units to a pool for five, of which the first is not charged.
+fn add_texts(alloc: alloc::Global, pool: &mut Pool) -> Result<[Span; 4], Fail> {
+    let name = pool.add_fixed(alloc, &[8, 9])?;
+    let three = pool.add(alloc, &[1, 2, 3])?;
+    if pool.add(alloc, &[4, 5, 6]) != Err(Refused::Limit(Limit::Units)) || pool.used() != 3 {
+        return Err(Fail::from("six units of five"));
+    }
+    Ok([
+        name,
+        three,
+        pool.add(alloc, &[7, 8])?,
+        pool.add(alloc, &[])?,
+    ])
+}
+
 #[test]
 fn texts_of_a_pool(rt: HostRuntime) -> Result<(), Fail> {
     let mut pool = Pool::make(rt.alloc(), 5, 65_535)?;
-    assert_eq!(rt; pool.text_limit(), 65_535);
-    assert_eq!(rt; pool.limit(), 5);
-    for fixed in &FIXED_TEXTS {
-        let text = Units::from_utf8(rt.alloc(), fixed.text().as_bytes())?;
-        assert_eq!(rt;
-            pool.fixed(text.as_slice()),
-            Some(fixed.span()),
-            "{fixed:?}"
-        );
-        assert_eq!(rt; pool.get(fixed.span()), text.as_slice(), "{fixed:?}");
-    }
-    let other = Units::from_utf8(rt.alloc(), b"Length")?;
-    assert_eq!(rt; pool.fixed(other.as_slice()), None);
-
-    let name = pool.add_fixed(rt.alloc(), other.as_slice())?;
-    assert_eq!(rt; pool.used(), 0);
-    let three = pool.add(rt.alloc(), &[1, 2, 3])?;
-    assert_eq!(rt; pool.used(), 3);
-    match pool.add(rt.alloc(), &[4, 5, 6]) {
-        Ok(_) => panic!(rt; "six units of five"),
-        Err(e) => assert_eq!(rt; e, Refused::Limit(Limit::Units)),
-    }
-    assert_eq!(rt; pool.used(), 3);
-    let two = pool.add(rt.alloc(), &[7, 8])?;
-    let none = pool.add(rt.alloc(), &[])?;
-    assert_eq!(rt; pool.used(), 5);
-    assert_eq!(rt; pool.get(name), other.as_slice());
-    assert_eq!(rt; pool.get(three), [1, 2, 3].as_slice());
-    assert_eq!(rt; pool.get(two), [7, 8].as_slice());
-    assert_eq!(rt; pool.get(none).len(), 0);
+    let [name, three, two, none] = add_texts(rt.alloc(), &mut pool)?;
     let past = Span {
         start: two.start,
         count: 100,
     };
-    assert_eq!(rt; pool.get(past), [7, 8].as_slice());
-    assert_eq!(rt; (pool.free(), pool.held(two)), (0, two));
-    assert_eq!(rt; pool.get(pool.held(past)), [7, 8].as_slice());
+    assert_eq!(rt; (pool.used(), pool.free(), pool.held(two)), (5, 0, two));
+    let rows: [(Span, &[u16]); 6] = [
+        (name, &[8, 9]),
+        (three, &[1, 2, 3]),
+        (two, &[7, 8]),
+        (none, &[]),
+        (past, &[7, 8]),
+        (pool.held(past), &[7, 8]),
+    ];
+    for (span, text) in &rows {
+        assert_eq!(rt; pool.get(*span), *text);
+    }
+    Ok(())
+}
 
+#[test]
+fn texts_are_joined_in_a_pool(rt: HostRuntime) -> Result<(), Fail> {
     let mut pool = Pool::make(rt.alloc(), 7, 65_535)?;
     let ab = pool.add(rt.alloc(), &[1, 2])?;
     let abab = pool.add_joined(ab, ab).map_err(Refused::from)?;
     assert_eq!(rt; pool.get(abab), [1, 2, 1, 2].as_slice());
-    assert_eq!(rt;
-        pool.add_joined(ab, FixedText::Empty.span()),
-        Err(Limit::Units)
-    );
-    assert_eq!(rt; pool.used(), 6);
+    let past = pool.add_joined(ab, FixedText::Empty.span());
+    assert_eq!(rt; (past, pool.used()), (Err(Limit::Units), 6));
     Ok(())
 }
 

@@ -250,21 +250,23 @@ fn told_by_bytes(alloc: Global, stream: &[u8]) -> Result<String, Fail> {
     Ok(text)
 }
 
+/// Whether a stream is taken so byte by byte, and in two pieces that are cut at any place, its end included.
+fn is_taken(alloc: Global, stream: &[u8], taken: &str) -> Result<bool, Fail> {
+    if told_by_bytes(alloc, stream)?.as_str() != taken {
+        return Ok(false);
+    }
+    for cut in 0..=stream.len() {
+        if told_cut(alloc, stream, cut)?.as_str() != taken {
+            return Ok(false);
+        }
+    }
+    Ok(true)
+}
+
 #[test]
 fn rows_are_taken_however_they_are_cut(rt: HostRuntime) -> Result<(), Fail> {
-    let alloc = rt.alloc();
-    for row in &ROWS {
-        let mut conn = Conn::make(alloc)?;
-        conn.feed(alloc, row.stream)?;
-        assert_eq!(rt; told(alloc, &mut conn)?.as_str(), row.taken);
-        assert_eq!(rt; told_by_bytes(alloc, row.stream)?.as_str(), row.taken);
-        for cut in 0..row.stream.len() {
-            assert_eq!(rt;
-                told_cut(alloc, row.stream, cut)?.as_str(),
-                row.taken,
-                "cut at {cut}"
-            );
-        }
+    for (at, row) in ROWS.iter().enumerate() {
+        assert!(rt; is_taken(rt.alloc(), row.stream, row.taken)?, "row {at}");
     }
     Ok(())
 }
