@@ -35,7 +35,7 @@ const NODES: u32 = 8;
 static PARENTS: [(u32, u32); 4] = [(0, 1), (1, 2), (2, 3), (3, 4)];
 
 /// Nodes 0, 1, 2 and so on, each the parent of the next.
-fn made(alloc: Global) -> Result<Stage, Fail> {
+fn made(alloc: Global) -> Result<Box<Stage>, Fail> {
     let mut heap = Heap::make(
         alloc,
         HeapLimits {
@@ -55,13 +55,14 @@ fn made(alloc: Global) -> Result<Stage, Fail> {
     for &(parent, child) in &PARENTS {
         put(&mut dom, parent, child);
     }
-    Ok(Stage {
+    let stage = Stage {
         heap,
         dom,
         all: Listeners::make(alloc, 20, NODES)?,
         click,
         input,
-    })
+    };
+    Ok(Box::new(alloc, stage)?)
 }
 
 fn put(dom: &mut Dom, parent: u32, child: u32) {
@@ -80,12 +81,17 @@ fn listener(on: On, kind: Span) -> Listener {
     }
 }
 
+/// Registers a listener of this type.
+fn listen(stage: &mut Stage, on: On, kind: Span) -> Result<(), Refused> {
+    stage.all.add(&mut stage.heap, listener(on, kind))
+}
+
 fn act(stage: &mut Stage, deed: &Deed) -> Result<bool, Fail> {
     let click = stage.click;
     match deed {
         Deed::Stop => return Ok(true),
         Deed::Remove(on) => stage.all.remove(&stage.heap, listener(*on, click)),
-        Deed::Add(on) => stage.all.add(&mut stage.heap, listener(*on, click))?,
+        Deed::Add(on) => listen(stage, *on, click)?,
         Deed::Move(child, parent) => put(&mut stage.dom, *parent, *child),
     }
     Ok(false)
@@ -319,67 +325,53 @@ static ROWS: [Row<'static>; 11] = [
     },
 ];
 
+/// The calls of a row's clicks.
+fn calls_of(alloc: Global, row: &Row) -> Result<Vec<(u32, u32, u8)>, Fail> {
+    let mut made = made(alloc)?;
+    let stage = &mut *made;
+    for on in row.listeners {
+        listen(stage, *on, stage.click)?;
+    }
+    let mut calls = Vec::new(alloc);
+    for _i in 0..row.clicks {
+        flow(alloc, stage, row, &mut calls)?;
+    }
+    Ok(calls)
+}
+
 #[test]
 fn flows_call_what_the_table_says(rt: HostRuntime) -> Result<(), Fail> {
-    let alloc = rt.alloc();
     for row in &ROWS {
-        let mut stage = made(alloc)?;
-        for on in row.listeners {
-            let click = stage.click;
-            stage.all.add(&mut stage.heap, listener(*on, click))?;
-        }
-        let mut calls = Vec::new(alloc);
-        for _i in 0..row.clicks {
-            flow(alloc, &mut stage, row, &mut calls)?;
-        }
-        assert_eq!(rt; calls.as_slice(), row.calls);
+        assert_eq!(rt; calls_of(rt.alloc(), row)?.as_slice(), row.calls);
     }
     Ok(())
 }
 
 #[test]
 fn listeners_are_charged_once_and_told_apart_by_type(rt: HostRuntime) -> Result<(), Fail> {
-    let alloc = rt.alloc();
-    let mut stage = made(alloc)?;
-    let kinds = [(stage.click, 1), (stage.input, 2), (stage.click, 2)];
-    for (kind, cells) in kinds {
-        stage
-            .all
-            .add(&mut stage.heap, listener(On(1, 7, false), kind))?;
+    let mut made = made(rt.alloc())?;
+    let stage = &mut *made;
+    let (click, input) = (stage.click, stage.input);
+    for (kind, cells) in [(click, 1), (input, 2), (click, 2)] {
+        listen(stage, On(1, 7, false), kind)?;
         assert_eq!(rt; stage.heap.used_cells(), cells);
     }
-    stage
-        .all
-        .remove(&stage.heap, listener(On(1, 7, false), stage.click));
+    act(stage, &Deed::Remove(On(1, 7, false)))?;
     assert_eq!(rt; (stage.heap.used_cells(), stage.all.count()), (2, 2));
     for n in 2..20 {
-        stage
-            .all
-            .add(&mut stage.heap, listener(On(2, n, true), stage.click))?;
+        listen(stage, On(2, n, true), click)?;
     }
+    let past = listen(stage, On(2, 20, true), click);
+    assert_eq!(rt; past, Err(Refused::Limit(Limit::Cells)));
+    assert_eq!(rt; listen(stage, On(2, 19, true), click), Ok(()));
+    let all = &stage.all;
     assert_eq!(rt;
-        stage
-            .all
-            .add(&mut stage.heap, listener(On(2, 20, true), stage.click)),
-        Err(Refused::Limit(Limit::Cells))
-    );
-    assert_eq!(rt;
-        stage
-            .all
-            .add(&mut stage.heap, listener(On(2, 19, true), stage.click)),
-        Ok(())
-    );
-    assert_eq!(rt;
-        (
-            stage.heap.used_cells(),
-            stage.all.count(),
-            stage.all.function(19)
-        ),
+        (stage.heap.used_cells(), all.count(), all.function(19)),
         (20, 20, 19)
     );
     let wanted = Wanted {
         node: 1,
-        kind: stage.input,
+        kind: input,
         function: None,
         capture: false,
     };

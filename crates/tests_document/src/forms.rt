@@ -13,7 +13,7 @@ struct Small {
 }
 
 /// A document of node 0 alone.
-fn empty(alloc: Global, units: u32) -> Result<Small, Fail> {
+fn empty(alloc: Global, units: u32) -> Result<Box<Small>, Fail> {
     let mut nodes = List::new(alloc).into_vec();
     nodes.push(PageNode {
         kind: NodeKind::Document,
@@ -24,11 +24,12 @@ fn empty(alloc: Global, units: u32) -> Result<Small, Fail> {
     })?;
     let page = Page::new(List::from_vec(nodes), List::new(alloc));
     let mut pool = Pool::make(alloc, units, 3)?;
-    Ok(Small {
+    let small = Small {
         dom: Dom::make(alloc, &page, &mut pool, 60)?,
         pool,
         forms: Forms::make(alloc, 60)?,
-    })
+    };
+    Ok(Box::new(alloc, small)?)
 }
 
 /// A text of the pool that is not charged.
@@ -92,7 +93,7 @@ static PAGE: [(u32, &[&str]); 16] = [
 ];
 
 /// The page of [`PAGE`], whose textarea and second option have the text `ab`, nodes 16 and 17.
-fn page(alloc: Global) -> Result<Small, Fail> {
+fn page(alloc: Global) -> Result<Box<Small>, Fail> {
     let mut s = empty(alloc, 19)?;
     for (parent, spelled) in PAGE.iter().skip(1) {
         element(alloc, &mut s, *parent, *spelled)?;
@@ -352,10 +353,11 @@ fn states_are_as_they_were_set_last(rt: HostRuntime) -> Result<(), Fail> {
 #[test]
 fn a_text_past_the_limit_is_not_read(rt: HostRuntime) -> Result<(), Fail> {
     let alloc = rt.alloc();
-    let mut s = page(alloc)?;
+    let mut made = page(alloc)?;
+    let s = &mut *made;
     let more = text(alloc, &mut s.pool, "cd")?;
     let n = s.dom.create_text(alloc, more)?;
-    put(&mut s, 7, n);
+    put(s, 7, n);
     assert_eq!(rt;
         s.forms.value(alloc, &s.dom, &mut s.pool, 7),
         Err(TextRefused::TooLong)
