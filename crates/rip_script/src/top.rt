@@ -143,8 +143,20 @@ pub fn script<F: Files, S: Sink>(
     sink: &mut S,
 ) -> Status
     ensures ran { Ran result (map string_bytes words.now)
-        (record { held = F.held files.old; asked = F.asked files.old; put = S.held sink.old; reads_failed = F.count files.old; puts_failed = S.count sink.old })
-        (record { held = F.held files.new; asked = F.asked files.new; put = S.held sink.new; reads_failed = F.count files.new; puts_failed = S.count sink.new }) }
+        (record {
+          held = F.held files.old;
+          asked = F.asked files.old;
+          put = S.held sink.old;
+          reads_failed = F.count files.old;
+          puts_failed = S.count sink.old;
+        })
+        (record {
+          held = F.held files.new;
+          asked = F.asked files.new;
+          put = S.held sink.new;
+          reads_failed = F.count files.new;
+          puts_failed = S.count sink.new;
+        }) }
 {
     let Some(command) = command_of(words) else {
         return put_line(USAGE, Status::BadWords, sink);
