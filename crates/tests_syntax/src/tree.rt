@@ -19,84 +19,55 @@ static CHILDREN: [(u32, u32, Option<u32>); 9] = [
     (5, 0, None),
 ];
 
+/// The name in it.
+const NAME: Piece = Piece { start: 0, count: 1 };
+
+fn node(place: u32, form: Form) -> Node {
+    Node { place, form }
+}
+
+/// Its tree, and where two units stand that were added.
+fn tree_of_sum(alloc: Global) -> Result<(Tree, Piece), Fail> {
+    let one = Whole::new(1).ok_or("one is whole")?;
+    let mut maker = TreeMaker::new(alloc, 5, &SCRIPT)?;
+    let value = maker.add_units(&[98, 99])?;
+    let target = maker.push(node(0, Form::Name(NAME)), &[])?;
+    let number = maker.push(node(3, Form::Number(one)), &[])?;
+    let sum = node(0, Form::Compound(BinaryOperator::Add));
+    let assigned = maker.push(sum, &[Some(target), Some(number)])?;
+    let statement = maker.push(node(0, Form::Expression), &[Some(assigned), None])?;
+    if maker.next() != 0 {
+        return Err(Fail::from("the root is node 0"));
+    }
+    maker.push(node(0, Form::Script), &[None, Some(statement)])?;
+    Ok((maker.finish(), value))
+}
+
+/// Whether the units of the tree are those of the script, and behind them those that were added.
+fn has_its_units(tree: &Tree, value: Piece) -> bool {
+    tree.units(NAME) == [97].as_slice()
+        && tree.units(value) == [98, 99].as_slice()
+        && tree.units(Piece { start: 3, count: 9 }) == [49, 98, 99].as_slice()
+}
+
 #[test]
 fn a_tree_is_made_and_read(rt: HostRuntime) -> Result<(), Fail> {
-    let name = Piece { start: 0, count: 1 };
-    let one = Whole::new(1).ok_or("one is whole")?;
-    let mut maker = TreeMaker::new(rt.alloc(), 5, &SCRIPT)?;
-    let value = maker.add_units(&[98, 99])?;
-    let target = maker.push(
-        Node {
-            place: 0,
-            form: Form::Name(name),
-        },
-        &[],
-    )?;
-    let number = maker.push(
-        Node {
-            place: 3,
-            form: Form::Number(one),
-        },
-        &[],
-    )?;
-    let sum = Node {
-        place: 0,
-        form: Form::Compound(BinaryOperator::Add),
-    };
-    let assigned = maker.push(sum, &[Some(target), Some(number)])?;
-    let statement = maker.push(
-        Node {
-            place: 0,
-            form: Form::Expression,
-        },
-        &[Some(assigned), None],
-    )?;
-    assert_eq!(rt; maker.next(), 0);
-    maker.push(
-        Node {
-            place: 0,
-            form: Form::Script,
-        },
-        &[None, Some(statement)],
-    )?;
-    let tree = maker.finish();
+    let (tree, value) = tree_of_sum(rt.alloc())?;
     assert_eq!(rt; tree.count(), 5);
     for &(id, place, child) in &CHILDREN {
         assert_eq!(rt; tree.child(id, place), child, "child {place} of {id}");
     }
-    assert_eq!(rt; tree.units(name), [97].as_slice());
-    assert_eq!(rt; tree.units(value), [98, 99].as_slice());
-    assert_eq!(rt;
-        tree.units(Piece { start: 3, count: 9 }),
-        [49, 98, 99].as_slice()
-    );
-    assert_eq!(rt; tree.node(4).form, Form::Name(name));
+    assert!(rt; has_its_units(&tree, value));
+    assert_eq!(rt; tree.node(4).form, Form::Name(NAME));
     Ok(())
 }
 
 /// The tree of a script that is one name: the script, a statement and the name.
 fn tree_of_name(alloc: Global, unit: u16) -> Result<Tree, Fail> {
     let mut maker = TreeMaker::new(alloc, 3, &[unit])?;
-    let name = Form::Name(Piece { start: 0, count: 1 });
-    let read = maker.push(
-        Node {
-            place: 0,
-            form: name,
-        },
-        &[],
-    )?;
-    let statement = maker.push(
-        Node {
-            place: 0,
-            form: Form::Expression,
-        },
-        &[None, Some(read)],
-    )?;
-    let script = Node {
-        place: 0,
-        form: Form::Script,
-    };
-    maker.push(script, &[Some(statement)])?;
+    let read = maker.push(node(0, Form::Name(NAME)), &[])?;
+    let statement = maker.push(node(0, Form::Expression), &[None, Some(read)])?;
+    maker.push(node(0, Form::Script), &[Some(statement)])?;
     Ok(maker.finish())
 }
 
@@ -111,13 +82,12 @@ static CHILDREN_OF_TWO: [(u32, u32, Option<u32>); 7] = [
     (6, 0, None),
 ];
 
-/// What a program says of two scripts of one name each: of a node its child, and of a name its units.
-#[test]
-fn a_program_is_read(rt: HostRuntime) -> Result<(), Fail> {
-    let first = tree_of_name(rt.alloc(), 97)?;
-    let second = tree_of_name(rt.alloc(), 98)?;
-    let trees = vec![in rt.alloc(); first, second]?;
-    let mut scoping = Vec::new(rt.alloc());
+/// The program of two scripts of one name each. Each node has as many names as its number says.
+fn program_of_two(alloc: Global) -> Result<Program, Fail> {
+    let first = tree_of_name(alloc, 97)?;
+    let second = tree_of_name(alloc, 98)?;
+    let trees = vec![in alloc; first, second]?;
+    let mut scoping = Vec::new(alloc);
     for place in 0..6 {
         scoping.push(Scoping {
             names: place,
@@ -125,36 +95,43 @@ fn a_program_is_read(rt: HostRuntime) -> Result<(), Fail> {
             is_own: place == 5,
         })?;
     }
-    let top = vec![in rt.alloc();
-        Units::from_slice(rt.alloc(), &[97])?,
-        Units::from_slice(rt.alloc(), &[98, 99])?,
-    ]?;
-    let vars = vec![in rt.alloc(); List::from_slice(rt.alloc(), &[1])?]?;
-    let program = Program::new(rt.alloc(), &trees, top, vars, scoping)?;
-    assert_eq!(rt; program.count(), 6);
-    assert_eq!(rt; (program.scripts(), program.top_names()), (2, 2));
-    assert_eq!(rt; program.top_name(1), Some([98, 99].as_slice()));
-    assert!(rt; program.top_name(2).is_none());
-    assert_eq!(rt; program.vars(1), [1].as_slice());
-    assert!(rt; program.vars(2).is_empty());
-    assert_eq!(rt;
-        (program.root(1), program.root(2), program.root(3)),
-        (0, 3, 0)
-    );
+    let a = Units::from_slice(alloc, &[97])?;
+    let bc = Units::from_slice(alloc, &[98, 99])?;
+    let top = vec![in alloc; a, bc]?;
+    let vars = vec![in alloc; List::from_slice(alloc, &[1])?]?;
+    Ok(Program::new(alloc, &trees, top, vars, scoping)?)
+}
+
+/// Whether its scripts, and the names of its top scope, are these.
+fn has_its_top(program: &Program) -> bool {
+    (program.scripts(), program.top_names()) == (2, 2)
+        && program.top_name(1) == Some([98, 99].as_slice())
+        && program.top_name(2).is_none()
+        && program.vars(1) == [1].as_slice()
+        && program.vars(2).is_empty()
+        && (program.root(1), program.root(2), program.root(3)) == (0, 3, 0)
+}
+
+/// Whether it has six nodes, and the last is the name of the second script.
+fn has_its_last_name(program: &Program) -> bool {
+    let name = Piece { start: 1, count: 1 };
+    program.count() == 6
+        && program.node(5).form == Form::Name(name)
+        && program.units(name) == [98].as_slice()
+        && program.node_at(6).is_none()
+        && (program.names(5), program.names(6)) == (5, 0)
+        && program.resolved(5) == Some(Resolved::Global(GlobalName::String))
+        && program.resolved(6).is_none()
+        && program.is_own_name(5)
+}
+
+#[test]
+fn a_program_is_read(rt: HostRuntime) -> Result<(), Fail> {
+    let program = program_of_two(rt.alloc())?;
     for &(id, place, child) in &CHILDREN_OF_TWO {
         assert_eq!(rt; program.child(id, place), child, "child {place} of {id}");
     }
-    let name = Piece { start: 1, count: 1 };
-    let node = program.node(5);
-    assert_eq!(rt; node.form, Form::Name(name));
-    assert!(rt; program.node_at(6).is_none());
-    assert_eq!(rt; program.units(name), [98].as_slice());
-    assert_eq!(rt; (program.names(5), program.names(6)), (5, 0));
-    assert_eq!(rt;
-        program.resolved(5),
-        Some(Resolved::Global(GlobalName::String))
-    );
-    assert!(rt; program.resolved(6).is_none());
-    assert!(rt; program.is_own_name(5));
+    assert!(rt; has_its_top(&program));
+    assert!(rt; has_its_last_name(&program));
     Ok(())
 }
