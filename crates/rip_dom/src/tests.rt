@@ -51,7 +51,7 @@ fn children(alloc: Global, dom: &Dom, parent: u32) -> Result<Vec<u32>, Fail> {
 }
 
 /// Document 0 with html 1, which has head 2 and body 3 with elements 4 and 5; a text 6 and a comment 7 stand nowhere.
-fn page(alloc: Global) -> Result<Dom, Fail> {
+fn page(alloc: Global) -> Result<Box<Dom>, Fail> {
     let mut dom = Dom::empty(alloc, 9)?;
     let kinds = [
         NodeKind::Document,
@@ -73,32 +73,34 @@ fn page(alloc: Global) -> Result<Dom, Fail> {
     for (parent, child) in [(0, 1), (1, 2), (1, 3), (3, 4), (3, 5)] {
         code(&mut dom, &Move::Insert(parent, child, None));
     }
-    Ok(dom)
+    Ok(Box::new(alloc, dom)?)
 }
+
+/// Moves one behind the other, what each answers, and the children of a node after it.
+static MOVES: [(Move, u8, u32, &[u32]); 17] = [
+    (Move::Insert(3, 5, Some(4)), 0, 3, &[5, 4]),
+    (Move::Insert(4, 3, None), 3, 4, &[]),
+    (Move::Remove(4, 5), 8, 3, &[5, 4]),
+    (Move::Insert(3, 5, Some(5)), 0, 3, &[5, 4]),
+    (Move::Insert(0, 4, None), 3, 0, &[1]),
+    (Move::Insert(0, 6, None), 3, 0, &[1]),
+    (Move::Insert(0, 7, Some(1)), 0, 0, &[7, 1]),
+    (Move::Insert(6, 4, None), 3, 6, &[]),
+    (Move::Insert(3, 0, None), 3, 3, &[5, 4]),
+    (Move::Insert(4, 3, Some(2)), 3, 4, &[]),
+    (Move::Insert(3, 6, Some(2)), 8, 3, &[5, 4]),
+    (Move::Replace(3, 6, 4), 0, 3, &[5, 6]),
+    (Move::Replace(3, 6, 6), 0, 3, &[5, 6]),
+    (Move::Replace(3, 2, 4), 8, 1, &[2, 3]),
+    (Move::Replace(0, 4, 1), 0, 0, &[7, 4]),
+    (Move::Remove(3, 5), 0, 3, &[6]),
+    (Move::Insert(3, 5, Some(6)), 0, 3, &[5, 6]),
+];
 
 #[test]
 fn nodes_move_as_the_table_says(rt: HostRuntime) -> Result<(), Fail> {
-    let rows: [(Move, u8, u32, &[u32]); 17] = [
-        (Move::Insert(3, 5, Some(4)), 0, 3, &[5, 4]),
-        (Move::Insert(4, 3, None), 3, 4, &[]),
-        (Move::Remove(4, 5), 8, 3, &[5, 4]),
-        (Move::Insert(3, 5, Some(5)), 0, 3, &[5, 4]),
-        (Move::Insert(0, 4, None), 3, 0, &[1]),
-        (Move::Insert(0, 6, None), 3, 0, &[1]),
-        (Move::Insert(0, 7, Some(1)), 0, 0, &[7, 1]),
-        (Move::Insert(6, 4, None), 3, 6, &[]),
-        (Move::Insert(3, 0, None), 3, 3, &[5, 4]),
-        (Move::Insert(4, 3, Some(2)), 3, 4, &[]),
-        (Move::Insert(3, 6, Some(2)), 8, 3, &[5, 4]),
-        (Move::Replace(3, 6, 4), 0, 3, &[5, 6]),
-        (Move::Replace(3, 6, 6), 0, 3, &[5, 6]),
-        (Move::Replace(3, 2, 4), 8, 1, &[2, 3]),
-        (Move::Replace(0, 4, 1), 0, 0, &[7, 4]),
-        (Move::Remove(3, 5), 0, 3, &[6]),
-        (Move::Insert(3, 5, Some(6)), 0, 3, &[5, 6]),
-    ];
     let mut dom = page(rt.alloc())?;
-    for (step, answer, parent, expected) in &rows {
+    for (step, answer, parent, expected) in &MOVES {
         let given = code(&mut dom, step);
         assert_eq!(rt; given, *answer);
         let found = children(rt.alloc(), &dom, *parent)?;
@@ -171,20 +173,22 @@ const PAST_NODES: DomRefused = DomRefused::Refused(Refused::Limit(Limit::Nodes))
 
 const ILLEGAL: DomRefused = DomRefused::Code(INVALID_CHARACTER);
 
+/// Names of elements, what making each answers, and the units that are charged after it.
+static NAMED: [(&[u16], Result<u32, DomRefused>, u32); 7] = [
+    (CAPITALS, Ok(0), 4),
+    (SMALL, Ok(1), 4),
+    (DIGIT, Err(ILLEGAL), 4),
+    (&[], Err(ILLEGAL), 4),
+    (CAPITALS, Err(PAST_UNITS), 4),
+    (SMALL, Ok(2), 4),
+    (CAPITALS, Err(PAST_NODES), 4),
+];
+
 #[test]
 fn an_element_gets_its_name_in_small_letters(rt: HostRuntime) -> Result<(), Fail> {
-    let rows: [(&[u16], Result<u32, DomRefused>, u32); 7] = [
-        (CAPITALS, Ok(0), 4),
-        (SMALL, Ok(1), 4),
-        (DIGIT, Err(ILLEGAL), 4),
-        (&[], Err(ILLEGAL), 4),
-        (CAPITALS, Err(PAST_UNITS), 4),
-        (SMALL, Ok(2), 4),
-        (CAPITALS, Err(PAST_NODES), 4),
-    ];
     let mut dom = Dom::empty(rt.alloc(), 3)?;
     let mut pool = Pool::make(rt.alloc(), 7, 1)?;
-    for (name, answer, used) in &rows {
+    for (name, answer, used) in &NAMED {
         let name = text(rt.alloc(), &mut pool, *name)?;
         let given = dom.create_element(rt.alloc(), &mut pool, name);
         assert_eq!(rt; (given, pool.used()), (*answer, *used));
@@ -218,20 +222,22 @@ type AttributeRow = (
     Option<u32>,
 );
 
+/// Attributes that are set, what each answers, the nodes and attributes after it, and where the text `1` is an id.
+static SET: [AttributeRow; 5] = [
+    (ID, SMALL, Ok(()), 2, None),
+    (ID, DIGIT, Ok(()), 2, Some(0)),
+    (ID_IN_CAPITALS, SMALL, Ok(()), 2, None),
+    (DIGIT, DIGIT, Err(ILLEGAL), 2, None),
+    (SMALL, DIGIT, Err(PAST_NODES), 2, None),
+];
+
 #[test]
 fn an_attribute_that_is_there_gets_its_new_value(rt: HostRuntime) -> Result<(), Fail> {
-    let rows: [AttributeRow; 5] = [
-        (ID, SMALL, Ok(()), 2, None),
-        (ID, DIGIT, Ok(()), 2, Some(0)),
-        (ID_IN_CAPITALS, SMALL, Ok(()), 2, None),
-        (DIGIT, DIGIT, Err(ILLEGAL), 2, None),
-        (SMALL, DIGIT, Err(PAST_NODES), 2, None),
-    ];
     let mut dom = Dom::empty(rt.alloc(), 2)?;
     let mut pool = Pool::make(rt.alloc(), 7, 1)?;
     let name = text(rt.alloc(), &mut pool, ID)?;
     dom.create_element(rt.alloc(), &mut pool, name)?;
-    for (name, value, answer, used, found) in &rows {
+    for (name, value, answer, used, found) in &SET {
         let name = text(rt.alloc(), &mut pool, *name)?;
         let value = text(rt.alloc(), &mut pool, *value)?;
         let given = set(rt.alloc(), &mut dom, &mut pool, 0, name, value);
@@ -244,7 +250,7 @@ fn an_attribute_that_is_there_gets_its_new_value(rt: HostRuntime) -> Result<(), 
 }
 
 /// Elements 0 to 5: 0 has 3 and 1; 3 has 4; 1 has 2; 5 stands nowhere.
-fn elements(alloc: Global, pool: &mut Pool, name: Span) -> Result<Dom, Fail> {
+fn elements(alloc: Global, pool: &mut Pool, name: Span) -> Result<Box<Dom>, Fail> {
     let mut dom = Dom::empty(alloc, 20)?;
     for _i in 0..6 {
         dom.create_element(alloc, pool, name)?;
@@ -252,23 +258,25 @@ fn elements(alloc: Global, pool: &mut Pool, name: Span) -> Result<Dom, Fail> {
     for (parent, child, at) in [(0, 1, None), (1, 2, None), (3, 4, None), (0, 3, Some(1))] {
         code(&mut dom, &Move::Insert(parent, child, at));
     }
-    Ok(dom)
+    Ok(Box::new(alloc, dom)?)
 }
+
+/// Elements that get one id, and which of them is found by it.
+static GIVEN: [(u32, Option<u32>); 6] = [
+    (5, None),
+    (2, Some(2)),
+    (1, Some(1)),
+    (4, Some(4)),
+    (3, Some(3)),
+    (0, Some(0)),
+];
 
 #[test]
 fn the_first_element_in_document_order_is_found(rt: HostRuntime) -> Result<(), Fail> {
-    let rows: [(u32, Option<u32>); 6] = [
-        (5, None),
-        (2, Some(2)),
-        (1, Some(1)),
-        (4, Some(4)),
-        (3, Some(3)),
-        (0, Some(0)),
-    ];
     let mut pool = Pool::make(rt.alloc(), 20, 100)?;
     let name = text(rt.alloc(), &mut pool, ID)?;
     let mut dom = elements(rt.alloc(), &mut pool, name)?;
-    for (element, found) in &rows {
+    for (element, found) in &GIVEN {
         let given = set(rt.alloc(), &mut dom, &mut pool, *element, name, name);
         assert_eq!(rt; (given, dom.find_id(&pool, ID)), (Ok(()), *found));
     }
@@ -284,31 +292,36 @@ fn write(alloc: Global, dom: &mut Dom, n: u32, text: Span) -> Result<(), Refused
     }
 }
 
+/// A text, and an empty one.
+const TEXT: Span = Span { start: 3, count: 2 };
+
+const EMPTY: Span = Span { start: 3, count: 0 };
+
+/// Nodes and texts, what writing each answers, the first child of node 3 and the parent of node 4 after it.
+static WRITTEN: [(u32, Span, Result<(), Refused>, Option<u32>, Option<u32>); 5] = [
+    (6, TEXT, Ok(()), Some(4), Some(3)),
+    (3, TEXT, Ok(()), Some(8), None),
+    (3, TEXT, Err(Refused::Limit(Limit::Nodes)), Some(8), None),
+    (3, EMPTY, Ok(()), None, None),
+    (3, EMPTY, Ok(()), None, None),
+];
+
 #[test]
 fn a_text_is_written(rt: HostRuntime) -> Result<(), Fail> {
-    let text = Span { start: 3, count: 2 };
-    let empty = Span { start: 3, count: 0 };
-    let rows: [(u32, Span, Result<(), Refused>, Option<u32>, Option<u32>); 5] = [
-        (6, text, Ok(()), Some(4), Some(3)),
-        (3, text, Ok(()), Some(8), None),
-        (3, text, Err(Refused::Limit(Limit::Nodes)), Some(8), None),
-        (3, empty, Ok(()), None, None),
-        (3, empty, Ok(()), None, None),
-    ];
     let mut dom = page(rt.alloc())?;
-    for (n, text, answer, first, parent) in &rows {
+    for (n, text, answer, first, parent) in &WRITTEN {
         let given = write(rt.alloc(), &mut dom, *n, *text);
         assert_eq!(rt;
             (given, dom.first_child(3), dom.parent(4)),
             (*answer, *first, *parent)
         );
     }
-    assert_eq!(rt; (dom.text(6), dom.text(8)), (Some(text), Some(text)));
+    assert_eq!(rt; (dom.text(6), dom.text(8)), (Some(TEXT), Some(TEXT)));
     Ok(())
 }
 
 /// Element 0 has element 1 and the text 2; element 1 has the comment 3 and the text 4.
-fn texts(alloc: Global, pool: &mut Pool) -> Result<Dom, Fail> {
+fn texts(alloc: Global, pool: &mut Pool) -> Result<Box<Dom>, Fail> {
     let two = text(alloc, pool, ID)?;
     let one = text(alloc, pool, DIGIT)?;
     let mut dom = Dom::empty(alloc, 9)?;
@@ -328,7 +341,7 @@ fn texts(alloc: Global, pool: &mut Pool) -> Result<Dom, Fail> {
     for (parent, child) in [(0, 1), (0, 2), (1, 3), (1, 4)] {
         code(&mut dom, &Move::Insert(parent, child, None));
     }
-    Ok(dom)
+    Ok(Box::new(alloc, dom)?)
 }
 
 /// The text that is read below a node, as units; a 0 alone where it is too long, none past the limit of units.
@@ -342,18 +355,20 @@ fn read(alloc: Global, dom: &Dom, pool: &mut Pool, n: u32) -> Result<Vec<u16>, F
     Ok(units)
 }
 
+/// Limits of units and of a text, a node, the text that is read below it, and whether it is `id`.
+static JOINED: [(u32, u32, u32, &[u16], bool); 7] = [
+    (3, 3, 0, &[105, 100, 49], false),
+    (3, 2, 0, &[0], false),
+    (2, 3, 0, &[], false),
+    (2, 2, 1, &[105, 100], true),
+    (2, 2, 4, &[105, 100], true),
+    (0, 0, 3, &[], false),
+    (0, 0, 7, &[], false),
+];
+
 #[test]
 fn texts_are_joined_in_document_order(rt: HostRuntime) -> Result<(), Fail> {
-    let rows: [(u32, u32, u32, &[u16], bool); 7] = [
-        (3, 3, 0, &[105, 100, 49], false),
-        (3, 2, 0, &[0], false),
-        (2, 3, 0, &[], false),
-        (2, 2, 1, &[105, 100], true),
-        (2, 2, 4, &[105, 100], true),
-        (0, 0, 3, &[], false),
-        (0, 0, 7, &[], false),
-    ];
-    for (units, limit, n, expected, same) in &rows {
+    for (units, limit, n, expected, same) in &JOINED {
         let mut pool = Pool::make(rt.alloc(), *units, *limit)?;
         let dom = texts(rt.alloc(), &mut pool)?;
         let given = read(rt.alloc(), &dom, &mut pool, *n)?;
@@ -366,7 +381,7 @@ fn texts_are_joined_in_document_order(rt: HostRuntime) -> Result<(), Fail> {
 }
 
 /// A list of 50,000 elements below element 0, each with a text.
-fn great_tree(alloc: Global, pool: &mut Pool, name: Span) -> Result<Dom, Fail> {
+fn great_tree(alloc: Global, pool: &mut Pool, name: Span) -> Result<Box<Dom>, Fail> {
     let mut dom = Dom::empty(alloc, 100_001)?;
     dom.create_element(alloc, pool, name)?;
     for _i in 0..50_000 {
@@ -375,7 +390,7 @@ fn great_tree(alloc: Global, pool: &mut Pool, name: Span) -> Result<Dom, Fail> {
         code(&mut dom, &Move::Insert(0, element, None));
         code(&mut dom, &Move::Insert(element, text, None));
     }
-    Ok(dom)
+    Ok(Box::new(alloc, dom)?)
 }
 
 /// It is built, walked, read and torn down in time that grows with its nodes.
