@@ -1,8 +1,8 @@
 -- What the branches of rows are, read by number.
-use Rattle.std.proofs.Common.{◌≡◌, ℕ, zero, suc, ◌+◌, ◌-◌, ◌<◌, ◌≤◌, List, [], ◌∷◌, length, Option, Some, None, IfSome, get_or, refl, sym, subst, arith}
+use Rattle.std.proofs.Common.{◌≡◌, ℕ, zero, suc, ◌+◌, ◌-◌, ◌<◌, ◌≤◌, List, [], ◌∷◌, length, Option, Some, None, IfSome, drop, get_or, refl, sym, subst, take, arith, ◌^◌}
 use Rattle.std.specs.Prelude.{slice_range}
 use Rattle.rip_tree.specs.Branches.{Branch, node_of, links_of, child_at, child_of, AreBetween, ChildrenFollow}
-use Rattle.std.proofs.lemmas.List.{length-map}
+use Rattle.std.proofs.lemmas.List.{length-drop, length-map}
 use Rattle.rip_tree.specs.Making.{branch_at, branches_at, LieWithin}
 use Rattle.rip_tree.specs.declared.node.Row.{Row}
 
@@ -107,3 +107,36 @@ links_of-none links (r ∷ rs) (suc id) h = links_of-none links rs id (omega ari
 -- the fact about children, at the number of branches
 pub ChildrenFollow-all : (links : List (Option ℕ)) (rows : List Row) → ChildrenFollow (length rows) (branches_at links rows) → ChildrenFollow (length (branches_at links rows)) (branches_at links rows)
 ChildrenFollow-all links rows follow = subst (λ n. ChildrenFollow n (branches_at links rows)) (sym (length-map rows (branch_at links))) follow
+
+if-some : (o : Option ℕ) (P Q : Type 0) → (P → Q) → IfSome o (λ _. P) → IfSome o (λ _. Q)
+if-some None P Q f h = tt
+if-some (Some d) P Q f h = f h
+
+-- a child stands within the list of children
+child_at-inside : (cs : List (Option ℕ)) (place : ℕ) → IfSome (child_at cs place) (λ _. place < length cs)
+child_at-inside [] place = tt
+child_at-inside (None ∷ cs) zero = tt
+child_at-inside (Some c ∷ cs) zero = omega arith
+child_at-inside (c ∷ cs) (suc place) =
+    if-some (child_at cs place) (place < length cs) (suc place < suc (length cs)) (λ h. omega (arith, h)) (child_at-inside cs place)
+
+short-take : {A : Type 0} (n : ℕ) (xs : List A) → length (take n xs) ≤ length xs
+short-take zero xs = omega arith
+short-take (suc n) [] = omega arith
+short-take (suc n) (x ∷ xs) = omega (arith, short-take n xs)
+
+-- and so within the children of all nodes
+pub child_of-inside : (links : List (Option ℕ)) (rows : List Row) (id place : ℕ) → LieWithin (length links) rows
+    → IfSome (child_of (branches_at links rows) id place) (λ _. place < length links)
+child_of-inside links [] id place within = tt
+child_of-inside links (r ∷ rs) zero place within =
+    let size : length (slice_range links r.start r.end) ≤ length links = omega (arith, short-take (r.end - r.start) (drop r.start links), length-drop r.start links) in
+    if-some (child_at (slice_range links r.start r.end) place) (place < length (slice_range links r.start r.end)) (place < length links)
+    (λ h. omega (arith, h, size)) (child_at-inside (slice_range links r.start r.end) place)
+child_of-inside links (r ∷ rs) (suc id) place within = child_of-inside links rs id place within.2
+
+-- so 32 bits count the place behind a child, where they count all children
+pub counted-inside : (links : List (Option ℕ)) (rows : List Row) (id place : ℕ) → LieWithin (length links) rows → length links < 2 ^ 32
+    → IfSome (child_of (branches_at links rows) id place) (λ _. place + 1 < 2 ^ 32)
+counted-inside links rows id place within few =
+    if-some (child_of (branches_at links rows) id place) (place < length links) (place + 1 < 2 ^ 32) (λ h. omega (arith, h, few)) (child_of-inside links rows id place within)

@@ -18,7 +18,8 @@ pub record IsJoined (j : Joined) : Type 0 where
   pub spanned : length j.units.items < 2 ^ 32
   pub listed : length j.roots.items < 2 ^ 32
 
--- what a program keeps: its trees are joined, and 32 bits count the names of its top scope
+-- what a program keeps: its trees are joined, and 32 bits count their children and the names of its top scope
 pub record IsProgram (trees : Joined) (top : List (List ℕ)) : Type 0 where
   pub joined : IsJoined trees
+  pub linked : length trees.links.items < 2 ^ 32
   pub counted : length top < 2 ^ 32

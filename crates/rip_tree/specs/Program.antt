@@ -1,5 +1,5 @@
 -- Programs: the trees of the scripts of a page, numbered through, with what the rules of scope say of each node.
-use Rattle.std.specs.Prelude.{ℕ, ◌+◌, ◌-◌, min, false, List, [], ◌∷◌, ◌++◌, length, map, fold, Option, None, option_map, slice_index_or}
+use Rattle.std.specs.Prelude.{ℕ, ◌+◌, ◌-◌, ◌<◌, ◌^◌, min, false, List, [], ◌∷◌, ◌++◌, length, map, fold, Option, None, IfSome, option_map, slice_index_or}
 use Rattle.rip_tree.specs.declared.node.Piece.{Piece}
 use Rattle.rip_tree.specs.declared.form.Form.{Form}
 use Rattle.rip_tree.specs.declared.form.Form.TheVariants as F
@@ -8,7 +8,7 @@ use Rattle.rip_tree.specs.declared.form.Key.TheVariants as K
 use Rattle.rip_tree.specs.declared.form.TextLiteral.{TextLiteral}
 use Rattle.rip_tree.specs.declared.form.FunctionHead.{FunctionHead}
 use Rattle.rip_tree.specs.declared.program.Scoping.{Scoping}
-use Rattle.rip_tree.specs.Branches.{Branch, Plant}
+use Rattle.rip_tree.specs.Branches.{Branch, Plant, child_of}
 
 -- the branches of all scripts, one script after another, the units of all, and of each script the number of its root
 pub record Grove : Type 0 where
@@ -89,3 +89,7 @@ vars_of vars script = slice_index_or vars (script - 1) []
 -- what the rules of scope say of the node with this number; past the last node they say nothing
 abbrev pub scoping_of : List Scoping → ℕ → Scoping
 scoping_of scoping id = slice_index_or scoping id (record { names = 0; resolved = None; is_own = false })
+
+-- wherever a node has a child, 32 bits count the place behind it
+abbrev pub ChildrenAreCounted : Code → Type 0
+ChildrenAreCounted code = (id place : ℕ) → IfSome (child_of code.grove.branches id place) (λ _. place + 1 < 2 ^ 32)

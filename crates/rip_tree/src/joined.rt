@@ -1,4 +1,4 @@
-ghost use Rattle.std.specs.Prelude.{◌≡◌, ◌<◌, length, Some, IfOk, IfSome, OnOk};
+ghost use Rattle.std.specs.Prelude.{◌≡◌, ◌<◌, ◌^◌, length, Some, IfOk, IfSome, OnOk};
 ghost use Rattle.rip_tree.specs.Branches.{child_of, node_of, units_at};
 ghost use Rattle.rip_tree.specs.Program.{joined, root_of, with_tree};
 ghost use Rattle.rip_tree.specs.Joining.{grove_of, IsJoined};
@@ -23,6 +23,7 @@ impl Joined {
     /// These trees, joined.
     pub fn of(alloc: Global, trees: &[Tree]) -> Result<Joined, NoMemory>
         ensures kept { IfOk result IsJoined }
+        ensures linked { IfOk result (λ all. length all.links.items < 2 ^ 32) }
         ensures joined { IfOk result (λ all. grove_of all ≡ joined trees.now) }
     {
         let mut all = Joined {
@@ -33,6 +34,9 @@ impl Joined {
         };
         for tree in trees {
             all.add(tree)?;
+        }
+        if all.links.len() > u32::MAX as usize {
+            return Err(NoMemory);
         }
         Ok(all)
     }

@@ -1,6 +1,6 @@
 ghost use Rattle.std.specs.Prelude.{◌≡◌, ◌<◌, length, Some, IfOk, IfSome, option_map, slice_get};
 ghost use Rattle.rip_tree.specs.Branches.{child_of, node_of, units_at};
-ghost use Rattle.rip_tree.specs.Program.{joined, root_of, scoping_of, vars_of};
+ghost use Rattle.rip_tree.specs.Program.{ChildrenAreCounted, joined, root_of, scoping_of, vars_of};
 
 use crate::joined::Joined;
 use crate::node::{Node, Piece};
@@ -112,6 +112,13 @@ impl Program {
         ensures above { IfSome result (λ c. (id < c) × (c < length self.now.grove.branches)) }
     {
         self.trees.child(id, place)
+    }
+
+    /// Law: wherever a node has a child, 32 bits count the place behind it.
+    pub fn children_are_counted(&self)
+        ensures { ChildrenAreCounted self.now }
+    {
+        let _ = &self.trees;
     }
 
     /// The units that a piece of this program stands for. Of a piece past the end it is the part that is there.
