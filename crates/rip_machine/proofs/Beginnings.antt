@@ -1,8 +1,6 @@
 -- What a start answers, once it is known what it comes to.
-use Rattle.std.proofs.Common.{◌≡◌, ℕ, ◌==◌, if◌then◌else◌, Bool, true, false, List, [], Some, Result, Ok, Err, IfOk, refl, ap, sym, ◌∙◌, subst}
-use Rattle.std.specs.Prelude.{MatchResult}
+use Rattle.std.proofs.Common.{◌≡◌, ℕ, ◌==◌, if◌then◌else◌, Bool, true, false, List, [], Some, Result, Ok, Err, refl, ap, sym, ◌∙◌, subst}
 use Rattle.std.proofs.lemmas.Bool.{ne_eqb}
-use Rattle.rip_values.specs.declared.memory.NoMemory.{NoMemory}
 use Rattle.rip_values.specs.declared.value.Limit.TheVariants.{Depth}
 use Rattle.rip_values.specs.declared.value.Refused.{Refused}
 use Rattle.rip_values.specs.declared.value.Refused.TheVariants.{Limit as At, Memory as NoRoom}
@@ -51,21 +49,19 @@ world_of_next t at (Call part node wait) values w =
     called_world t (inside a (inner a node)) (framed (waiting a wait) []) w (a.room == 0)
 
 -- a run that stands where this is done next stands at the beginning of its row
-abbrev pub Stood : Result Next NoMemory → Part → ℕ → Run → Type 0
-Stood r at fuel n = MatchResult r (λ next. (t : Table) (w : World) → Begins t (as_row t at next [] w) fuel w n) (λ _. ⊥)
+abbrev pub Stood : Next → Part → ℕ → Run → Type 0
+Stood next at fuel n = (t : Table) (w : World) → Begins t (as_row t at next [] w) fuel w n
 
-pub stood : (r : Result Next NoMemory) (t : Table) (at : Part) (row : World → Row) (fuel : ℕ) (n : Run)
-    → IfOk r (λ next. (values : List Value) (w : World) → as_row t at next values w ≡ row w) → Stood r at fuel n → (w : World) → Begins t (row w) fuel w n
-stood (Ok next) t at row fuel n e b w = let B : Row → Type 0 = λ row. Begins t row fuel w n in subst B (e [] w) (b t w)
-stood (Err x) t at row fuel n e b w = absurd b
+pub stood : (next : Next) (t : Table) (at : Part) (row : World → Row) (fuel : ℕ) (n : Run)
+    → ((values : List Value) (w : World) → as_row t at next values w ≡ row w) → Stood next at fuel n → (w : World) → Begins t (row w) fuel w n
+stood next t at row fuel n e b w = let B : Row → Type 0 = λ row. Begins t row fuel w n in subst B (e [] w) (b t w)
 
 -- the same of what asks for no part, in this world
-pub stood_in : (r : Result Next NoMemory) (t : Table) (at : Part) (row : Row) (fuel : ℕ) (n : Run) (x : World)
-    → IfOk r (λ next. (t : Table) (at : Part) (values : List Value) → as_row t at next values x ≡ row) → Stood r at fuel n → (x ≡ world_at row) × Begins t row fuel x n
-stood_in (Ok next) t at row fuel n x e b =
+pub stood_in : (next : Next) (t : Table) (at : Part) (row : Row) (fuel : ℕ) (n : Run) (x : World)
+    → ((t : Table) (at : Part) (values : List Value) → as_row t at next values x ≡ row) → Stood next at fuel n → (x ≡ world_at row) × Begins t row fuel x n
+stood_in next t at row fuel n x e b =
     let B : Row → Type 0 = λ row. Begins t row fuel x n in
     (sym (world_of_next t at next [] x) ∙ ap world_at (e t at []), subst B (e t at []) (b t x))
-stood_in (Err y) t at row fuel n x e b = absurd b
 
 -- what was started of a run was started of its machine
 pub starts_machine : (t : Table) (beginning : Beginning) (fuel : ℕ) (w x : World) (m n : Run) (literals : List Span) (r : Result (Unit {0}) Refused)

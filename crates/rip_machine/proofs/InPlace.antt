@@ -321,7 +321,7 @@ pub not_written : (meant : Writing) (w x : World) (cause : Abrupt) → IsWriting
 not_written meant w x TypeError is = is.1
 not_written meant w x (AtFault fault) is = is.1
 not_written meant w x (AtLimit limit) is = is.1
-not_written meant w x Memory is = is
+not_written meant w x Memory is = absurd is
 
 -- 11.13.2
 compound_end : (p : Loaded) (at : Part) (w x : World) (old right v : Value) (c : Completion) → binary w (operator p at.node) old right ≡ Gives v w

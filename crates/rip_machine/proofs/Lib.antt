@@ -8,6 +8,7 @@ pub mod InPlace
 pub mod Loads
 pub mod LoopRuns
 pub mod PlanLaws
+pub mod Roomed
 pub mod Scopes
 pub mod TakenBack
 pub mod TextsStand

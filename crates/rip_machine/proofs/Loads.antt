@@ -1,13 +1,12 @@
 -- The nodes of a program, one after another, as they are loaded.
-use Rattle.std.proofs.Common.{◌≡◌, ℕ, zero, suc, ◌+◌, ◌<◌, max, if◌then◌else◌, List, [], ◌∷◌, ◌++◌, drop, length, Some, refl, ap, ap₂, sym, ◌∙◌, arith, add-zero, add_assoc, append_assoc, append-nil, length-append}
+use Rattle.std.proofs.Common.{◌≡◌, ℕ, zero, suc, ◌+◌, List, [], ◌∷◌, ◌++◌, drop, length, Some, refl, ap, ap₂, sym, ◌∙◌, arith, add-zero, add_assoc, append_assoc, append-nil, length-append}
 use Rattle.std.proofs.lemmas.List.Sums.{sum_by-cons}
 use Rattle.std.specs.List.{flat_map, sum_by}
 use Rattle.rip_values.specs.declared.value.Span.{Span}
 use Rattle.rip_heap.specs.World.{World}
 use Rattle.rip_tree.specs.declared.node.Node.{Node}
 use Rattle.rip_tree.specs.Branches.{Branch, links_of, node_of}
-use Rattle.rip_machine.specs.Loading.{form_cost, form_text, is_call, longest_call, node_cost, node_text, span_from, spans_from, text_or_none, with_form, with_texts}
-use Rattle.rip_machine.specs.Reading.{Loaded, children_from, form_in, form_of}
+use Rattle.rip_machine.specs.Loading.{form_cost, form_text, node_cost, node_text, span_from, spans_from, text_or_none, with_form, with_texts}
 
 -- the branches from this one on
 pub branches_from : (bs : List Branch) (id : ℕ) (node : Node) → node_of bs id ≡ Some node → drop id bs ≡ record { node = node; children = links_of bs id } ∷ drop (id + 1) bs
@@ -47,22 +46,6 @@ pub spans_more : (units : List ℕ) (bs : List Branch) (id start : ℕ) (node : 
     → spans_from units start (drop id bs) ≡ span_from start (form_text units node.form) ∷ spans_from units (start + length (text_or_none (form_text units node.form))) (drop (id + 1) bs)
 spans_more units bs id start node h = ap (spans_from units start) (branches_from bs id node h)
 
-pub longest_none : (bs : List Branch) → longest_call (drop (length bs) bs) ≡ 0
-longest_none bs = ap longest_call (none_from bs)
-
-pub node_there : (bs : List Branch) (id : ℕ) → id < length bs → (node : Node) × (node_of bs id ≡ Some node)
-node_there [] id h = absurd (omega arith)
-node_there (b ∷ bs) zero h = (b.node, refl)
-node_there (b ∷ bs) (suc id) h = node_there bs id (omega arith)
-
-pub longest_more : (p : Loaded) (id : ℕ) → id < length p.code.grove.branches
-    → longest_call (drop id p.code.grove.branches) ≡ max (if is_call (form_of p id) then length (children_from p id 0) else 0) (longest_call (drop (id + 1) p.code.grove.branches))
-longest_more p id h =
-    let n = node_there p.code.grove.branches id h in
-    let e : form_of p id ≡ n.0.form = ap form_in n.1 in
-    ap longest_call (branches_from p.code.grove.branches id n.0 n.1)
-    ∙ ap (λ f. max (if is_call f then length (children_from p id 0) else 0) (longest_call (drop (id + 1) p.code.grove.branches))) (sym e)
-
 -- the spans so far, with that of one node more
 pub spans_step : (units : List ℕ) (bs : List Branch) (id : ℕ) (node : Node) (w x : World) (spans all after : List Span) (span : Span)
     → node_of bs id ≡ Some node → span ≡ span_from (length w.pool.units) (form_text units node.form) → x ≡ with_form units node.form w → after ≡ spans ++ span ∷ []
@@ -78,8 +61,3 @@ spans_step units bs id node w x spans all after span h is added pushed before =
 pub texts_step : (units : List ℕ) (bs : List Branch) (id : ℕ) (node : Node) (w x all : World) → node_of bs id ≡ Some node → x ≡ with_form units node.form w
     → with_texts units (drop id bs) w ≡ all → with_texts units (drop (id + 1) bs) x ≡ all
 texts_step units bs id node w x all h added before = ap (with_texts units (drop (id + 1) bs)) added ∙ sym (texts_more units bs id node w h) ∙ before
-
--- the longest call so far, with one node more
-pub longest_step : (p : Loaded) (id so_far next all : ℕ) → id < length p.code.grove.branches → next ≡ max (if is_call (form_of p id) then length (children_from p id 0) else 0) so_far
-    → max so_far (longest_call (drop id p.code.grove.branches)) ≡ all → max next (longest_call (drop (id + 1) p.code.grove.branches)) ≡ all
-longest_step p id so_far next all h is before = let more = longest_more p id h in omega arith

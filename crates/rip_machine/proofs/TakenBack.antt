@@ -5,7 +5,6 @@ use Rattle.std.proofs.Math.Seq.{take-length}
 use Rattle.rip_values.specs.FixedTexts.{fixed_units}
 use Rattle.rip_values.specs.Pool.{with_text}
 use Rattle.rip_heap.specs.declared.mark.Mark.{Mark}
-use Rattle.rip_heap.specs.Growth.{Grows}
 use Rattle.rip_heap.specs.Marks.{mark_of}
 use Rattle.rip_heap.specs.World.{World}
 use Rattle.rip_tree.specs.declared.form.Form.{Form}
@@ -46,21 +45,3 @@ form_cheap units f = grind arith
 
 pub form_cuts : (units : List ℕ) (f : Form) (w x y : World) → y ≡ with_form units f x → CutsTo w x → CutsTo w y
 form_cuts units f w x y added b = subst (CutsTo w) (sym added) (cuts_text w x (text_or_none (form_text units f)) (form_cost units f) (form_cheap units f) b)
-
--- what stands as it was has grown
-pub same_grows : (w x : World) → x ≡ w → Grows w x
-same_grows w x e =
-    subst (Grows w) (sym e)
-    (record {
-      limit = refl;
-      unit_limit = refl;
-      text_limit = refl;
-      cells = omega arith;
-      units = omega arith;
-      texts = λ span h. refl;
-      spans = omega arith;
-      made = omega arith;
-      objects = λ i d h. (refl, refl, refl);
-      opened = omega arith;
-      scopes = λ i d h. (refl, refl);
-    })

@@ -1,5 +1,5 @@
 -- The words of the contracts of row functions. Each says that what is answered is a row: in the program p, at the open part
--- `at`, where x is the world that is left. A row function that answers no row wants memory.
+-- `at`, where x is the world that is left. A row function that may ask the host answers no row where memory is wanting.
 use Rattle.std.specs.Prelude.{◌≡◌, List, Result, IfOk, MatchResult}
 use Rattle.rip_values.specs.declared.memory.NoMemory.{NoMemory}
 use Rattle.rip_values.specs.declared.value.Value.{Value}
@@ -14,25 +14,24 @@ use Rattle.rip_machine.specs.Reading.{Loaded}
 use Rattle.rip_machine.specs.Table.{table}
 
 -- what is answered is this row, whatever values are beside the frame
-abbrev pub Does : Loaded → Part → Result Next NoMemory → World → Row → Type 0
-Does p at answer x row = IfOk answer (λ next. (values : List Value) → as_row (table p) at next values x ≡ row)
+abbrev pub Does : Loaded → Part → Next → World → Row → Type 0
+Does p at next x row = (values : List Value) → as_row (table p) at next values x ≡ row
 
 -- the same in every world, which stays as it is
-abbrev pub DoesPurely : Loaded → Part → Result Next NoMemory → (World → Row) → Type 0
-DoesPurely p at answer row = IfOk answer (λ next. (values : List Value) (w : World) → as_row (table p) at next values w ≡ row w)
+abbrev pub DoesPurely : Loaded → Part → Next → (World → Row) → Type 0
+DoesPurely p at next row = (values : List Value) (w : World) → as_row (table p) at next values w ≡ row w
 
 -- the same where these values are beside the frame
-abbrev pub DoesBeside : Loaded → Part → List Value → Result Next NoMemory → World → Row → Type 0
-DoesBeside p at values answer x row = IfOk answer (λ next. as_row (table p) at next values x ≡ row)
+abbrev pub DoesBeside : Loaded → Part → List Value → Next → World → Row → Type 0
+DoesBeside p at values next x row = as_row (table p) at next values x ≡ row
 
 -- the same of what asks for no part, in every program and at every part
-abbrev pub DoesAnywhere : Result Next NoMemory → World → Row → Type 0
-DoesAnywhere answer x row = IfOk answer (λ next. (t : Table) (at : Part) (values : List Value) → as_row t at next values x ≡ row)
+abbrev pub DoesAnywhere : Next → World → Row → Type 0
+DoesAnywhere next x row = (t : Table) (at : Part) (values : List Value) → as_row t at next values x ≡ row
 
 -- the same of what asks for no part and leaves the world, in every program, at every part and in every world
-abbrev pub DoesAlways : Result Next NoMemory → (World → Row) → Type 0
-DoesAlways answer row =
-    IfOk answer (λ next. (t : Table) (at : Part) (values : List Value) (w : World) → as_row t at next values w ≡ row w)
+abbrev pub DoesAlways : Next → (World → Row) → Type 0
+DoesAlways next row = (t : Table) (at : Part) (values : List Value) (w : World) → as_row t at next values w ≡ row w
 
 -- what is answered is this row once the host r has answered what the row asks of it before any part, and s is the host then
 abbrev pub DoesWithHost : {S : Type 0} → Calling S → Loaded → Part → Result Next NoMemory → World → S → Row → S → Type 0

@@ -42,6 +42,10 @@ left h t m w s k = law.left h t (run m) w s k
 abbrev pub open_depth : Standing → ℕ
 open_depth m = law.open_depth (run m)
 
+-- the most values that are ever beside the open frames of its run
+abbrev pub values_of : Standing → ℕ
+values_of m = law.values_of (run m)
+
 -- the run ends within n units with this outcome, as the law of runs says
 abbrev pub Ends : {S : Type 0} → Calling S → Table → Standing → World → S → ℕ → Standing → World → S → Outcome → Type 0
 Ends h t m w s n m' w' s' outcome = law.Ends h t (run m) w s n (run m') w' s' outcome

@@ -1,5 +1,5 @@
 -- How a program is loaded: the text that a node is or names is put into the heap, for each node in the order of the nodes.
-use Rattle.std.specs.Prelude.{◌≡◌, ℕ, ◌+◌, ◌*◌, ◌<◌, ◌≤◌, max, min, Bool, true, false, if◌then◌else◌, List, [], ◌∷◌, length, Option, None, Some, Result, Ok, Err}
+use Rattle.std.specs.Prelude.{◌≡◌, ℕ, ◌+◌, ◌<◌, ◌≤◌, List, [], ◌∷◌, length, Option, None, Some, Result, Ok, Err}
 use Rattle.std.specs.Fmt.{signed_decimal}
 use Rattle.std.specs.List.{flat_map, sum_by}
 use Rattle.rip_values.specs.declared.value.Limit.TheVariants.{Units}
@@ -15,7 +15,7 @@ use Rattle.rip_tree.specs.declared.form.Key.TheVariants as key
 use Rattle.rip_tree.specs.Branches.{Branch, units_at}
 use Rattle.rip_tree.specs.Program.{Code}
 use Rattle.rip_machine.specs.Law.{Standing}
-use Rattle.rip_machine.specs.Reading.{Loaded, form_of, leading, literal}
+use Rattle.rip_machine.specs.Reading.{Loaded, form_of, literal}
 
 -- TEXTS, in a program with these units
 
@@ -82,37 +82,22 @@ spans_loaded code w = spans_from code.grove.units (length w.pool.units) code.gro
 
 -- ROOM FOR VALUES
 
--- the form is a call or `new`
-abbrev pub is_call : Form → Bool
-is_call form.Call = true
-is_call form.New = true
-is_call f = false
-
--- how many children a call has
-abbrev pub call_length : Branch → ℕ
-call_length b = if is_call b.node.form then length (leading b.children) else 0
-
--- the longest list of children of a call among these nodes
-abbrev pub longest_call : List Branch → ℕ
-longest_call [] = 0
-longest_call (b ∷ bs) = max (call_length b) (longest_call bs)
-
--- how many values may stand beside open frames of a run with so much fuel: as many as the longest call for each level of
--- depth, but no more than the fuel, of which each took a unit; or as many as the cells that may be charged, where these
--- are more
-abbrev pub values_needed : Code → ℕ → ℕ → World → ℕ
-values_needed code depth fuel w = max (min (depth * longest_call code.grove.branches) fuel) w.limit
+-- how many values may stand beside the open frames of a run with so much fuel, of a script or of a function that is called
+-- from outside with at most one argument: one for each unit, since each that is kept took a unit; one more, which is kept
+-- before its unit is taken; and the argument
+abbrev pub values_needed : ℕ → ℕ
+values_needed fuel = fuel + 2
 
 -- LOADING
 
--- what `load` leaves, for runs with so much fuel: the world and the spans of the loaded program; or all as it was, exactly
+-- what `load` leaves: the world and the spans of the loaded program; or all as it was, exactly
 -- where its literals would pass the limit of units, or where memory is wanting
-abbrev pub Loads : Code → ℕ → World → Standing → Result (Unit {0}) Refused → World → Standing → Type 0
-Loads code fuel w m (Ok done) x n =
+abbrev pub Loads : Code → World → Standing → Result (Unit {0}) Refused → World → Standing → Type 0
+Loads code w m (Ok done) x n =
     (w.pool.used + cost_of_literals code ≤ w.pool.limit) × (x ≡ world_loaded code w)
-    × (n ≡ record m { literals = spans_loaded code w; value_room = max m.value_room (values_needed code m.depth fuel w) })
-Loads code fuel w m (Err (At limit)) x n = (limit ≡ Units) × (w.pool.limit < w.pool.used + cost_of_literals code) × (x ≡ w) × (n ≡ m)
-Loads code fuel w m (Err NoRoom) x n = (x ≡ w) × (n ≡ m)
+    × (n ≡ record m { literals = spans_loaded code w })
+Loads code w m (Err (At limit)) x n = (limit ≡ Units) × (w.pool.limit < w.pool.used + cost_of_literals code) × (x ≡ w) × (n ≡ m)
+Loads code w m (Err NoRoom) x n = (x ≡ w) × (n ≡ m)
 
 -- the span of each node that is or names a text stands for that text
 abbrev pub TextsStand : Loaded → World → Type 0

@@ -1,5 +1,5 @@
 -- What plans see of the machine.
-use Rattle.std.specs.Prelude.{ℕ, ◌-◌, List}
+use Rattle.std.specs.Prelude.{ℕ, ◌-◌, ◌≤◌}
 use Rattle.rip_runs.specs.declared.completion.Stop.TheVariants.{Fault as AtFault, Limit as AtLimit}
 use Rattle.rip_runs.specs.declared.evaluator.Advance.{Advance}
 use Rattle.rip_runs.specs.declared.evaluator.Advance.TheVariants.{Passed, Broken, Memory as NoRoom}
@@ -8,7 +8,8 @@ use Rattle.rip_runs.specs.Run.{Calling}
 use Rattle.rip_tree.specs.Program.{Code}
 use Rattle.rip_runs.specs.declared.outcome.Outcome.{Outcome}
 use Rattle.rip_runs.specs.declared.outcome.Outcome.TheVariants.{Value as Gives, Thrown, Fault, Limit, Memory}
-use Rattle.rip_machine.specs.Law.{Standing, left, loaded, open_depth}
+use Rattle.rip_machine.specs.Law.{Standing, left, loaded, open_depth, values_of}
+use Rattle.rip_machine.specs.Loading.{values_needed}
 use Rattle.rip_machine.specs.Run.{run_from}
 use Rattle.rip_machine.specs.Table.{table}
 
@@ -20,6 +21,11 @@ evaluation h code = record {
   fuel = λ m. m.fuel;
   in_use = open_depth;
 }
+
+-- the memory of runs with so much fuel that a plan begins was taken before, and that of the run that goes on
+pub record HasRoom (m : Standing) (fuel : ℕ) : Type 0 where
+  pub runs : values_needed fuel ≤ m.value_room
+  pub run : values_of m ≤ m.value_room
 
 -- what an outcome is for a plan, after so many units
 abbrev pub advance_of : Outcome → ℕ → Advance

@@ -1,7 +1,6 @@
 -- How a run begins: that of a script, or of a function that is called from outside (ECMA-262 10.4, 13.2.1, 14).
-use Rattle.std.specs.Prelude.{ℕ, ◌+◌, ◌==◌, Bool, false, if◌then◌else◌, List, length, Option, None, Some, Result, Ok, Err}
+use Rattle.std.specs.Prelude.{ℕ, ◌+◌, ◌==◌, if◌then◌else◌, List, length, Option, None, Some}
 use Rattle.rip_values.specs.declared.builtin.Builtin.{Builtin}
-use Rattle.rip_values.specs.declared.memory.NoMemory.{NoMemory}
 use Rattle.rip_values.specs.declared.value.Limit.{Limit}
 use Rattle.rip_values.specs.declared.value.Limit.TheVariants.{Cells, Depth}
 use Rattle.rip_values.specs.declared.value.Value.{Value}
@@ -10,11 +9,9 @@ use Rattle.rip_heap.specs.declared.class.Class.TheVariants.{ThrownTypeError}
 use Rattle.rip_heap.specs.World.{World, charging}
 use Rattle.rip_tree.specs.Program.{root_of}
 use Rattle.rip_runs.specs.declared.frame.Ending.TheVariants as ending
-use Rattle.rip_runs.specs.declared.next.Next.{Next}
 use Rattle.rip_runs.specs.declared.part.Part.{Part}
 use Rattle.rip_runs.specs.declared.part.Role.TheVariants as role
 use Rattle.rip_runs.specs.Frame.{inside}
-use Rattle.rip_runs.specs.Rest.{has_room}
 use Rattle.rip_runs.specs.Row.{Row}
 use Rattle.rip_runs.specs.Run.{world_at}
 use Rattle.rip_runs.specs.Started.{Started, ScriptOf, CallOf}
@@ -33,11 +30,6 @@ use Rattle.rip_machine.specs.Rows.Statements.{statements}
 pub data Beginning : Type 0 where
   Runs : Row → World → Beginning
   Exceeds : Limit → Beginning
-
--- a run can begin with what is answered, where so many values have room: no memory was wanting, and what is kept has room
-abbrev pub can_begin : ℕ → Result Next NoMemory → Bool
-can_begin room (Ok next) = has_room room next
-can_begin room (Err lack) = false
 
 -- a script stands at its first statement, where its functions fit (10.4.1, 14)
 abbrev pub script_begun : Loaded → ℕ → ℕ → Option World → Beginning
@@ -81,6 +73,11 @@ begun_by p depth (CallOf f this args) w = call_begun p depth this args (callable
 abbrev pub started_of : Start → Started
 started_of (start.Script n) = ScriptOf n
 started_of (start.Function f this args) = CallOf f this args.now
+
+-- how many arguments are given to what is started
+abbrev pub arguments_in : Started → ℕ
+arguments_in (ScriptOf n) = 0
+arguments_in (CallOf f this args) = length args
 
 -- what a start comes to, where so much depth is left for the run
 abbrev pub begun : Loaded → ℕ → Start → World → Beginning

@@ -1,8 +1,9 @@
-ghost use Rattle.std.specs.Prelude.{◌≡◌};
+ghost use Rattle.std.specs.Prelude.{◌≡◌, ◌≤◌, ℕ};
 ghost use Rattle.rip_heap.specs.Growth.{Grows};
+ghost use Rattle.rip_heap.specs.Step.{TakesNoMemory};
 ghost use Rattle.rip_runs.specs.Evaluation.{Begins};
-ghost use Rattle.rip_machine.specs.Plans.{advance_of, evaluation};
-ghost use Rattle.rip_machine.specs.Starting.{started_of};
+ghost use Rattle.rip_machine.specs.Plans.{HasRoom, advance_of, evaluation};
+ghost use Rattle.rip_machine.specs.Starting.{arguments_in, started_of};
 
 use crate::machine::Machine;
 use crate::outcome::Start;
@@ -13,12 +14,14 @@ use rip_values::Refused;
 use std::alloc::Global;
 
 impl<H: Host> Evaluator<H> for Machine {
-    ghost use Rattle.rip_machine.specs.Plans.{evaluation};
+    ghost use Rattle.rip_machine.specs.Plans.{HasRoom, evaluation};
     ghost use Rattle.rip_machine.specs.PlanLaws.{ends, once};
 
     type Program = Program;
 
     ghost evaluation = { λ code. evaluation H.answers code };
+
+    ghost has_room = { HasRoom };
 
     ghost once = { λ code m. once H.answers code m };
 
@@ -99,6 +102,10 @@ impl Machine {
             ≡ (evaluation H.answers program.now).run self.old }
         ensures begins { Begins (evaluation H.answers program.now) (started_of s.now) fuel self.old
             heap.old self.new heap.new result }
+        ensures memory { (most : ℕ) → HasRoom self.old most → arguments_in (started_of s.now) ≤ 1
+            → TakesNoMemory result }
+        ensures room { (most : ℕ) → HasRoom self.old most → arguments_in (started_of s.now) ≤ 1
+            → fuel ≤ most → HasRoom self.new most }
         ensures grows { Grows heap.old heap.new }
     {
         self.start(alloc, program, heap, s, fuel)

@@ -1,12 +1,10 @@
-ghost use Rattle.std.specs.Prelude.{◌≡◌, ◌↔◌, ◌+◌, ◌≤◌, ◌*◌, if◌then◌else◌, max, length, IsTrue, IfOk, OnErr, OnOk};
+ghost use Rattle.std.specs.Prelude.{◌≡◌, ◌↔◌, ◌+◌, ◌≤◌, ◌*◌, length, IsTrue, IfOk, OnErr, OnOk};
 ghost use Rattle.rip_heap.specs.Growth.{Grows};
 ghost use Rattle.rip_heap.specs.World.{World};
 ghost use Rattle.rip_machine.specs.Back.{CutsTo};
-ghost use Rattle.rip_machine.specs.Loading.{cost_of_literals, form_cost, form_text, is_call, key_text, longest_call, span_from, spans_loaded, values_needed, with_form, world_loaded};
+ghost use Rattle.rip_machine.specs.Loading.{cost_of_literals, form_cost, form_text, key_text, span_from, spans_loaded, values_needed, with_form, world_loaded};
 ghost use Rattle.rip_heap.specs.Texts.{name_added};
-ghost use Rattle.rip_machine.specs.Reading.{children_from, form_of};
 
-use crate::source::Source;
 use rip_heap::Heap;
 use rip_tree::{Form, Key, Program};
 use rip_values::{NoMemory, Span, text_of_whole};
@@ -120,73 +118,12 @@ pub(crate) fn load_texts(
 
 // ROOM FOR VALUES
 
-fn is_call(form: &Form) -> bool
-    ensures { result ≡ is_call form.now }
+/// How many values may stand beside the open frames of a run with so much fuel. What 32 bits cannot count is want of memory.
+pub(crate) fn values_needed(fuel: u64) -> Result<u32, NoMemory>
+    ensures { IfOk result (λ values. values ≡ values_needed fuel) }
 {
-    matches!(form, Form::Call | Form::New)
-}
-
-/// How many children a node has before the first that is absent.
-#[tactic(auto, using(crate::proofs::Children::children_some, crate::proofs::Children::children_none))]
-fn count_children(p: &Source, id: u32) -> Result<u32, NoMemory>
-    ensures { IfOk result (λ count. count ≡ length (children_from p.now id 0)) }
-{
-    let mut count = 0;
-    while let Some(_) = p.child_at(id, count) {
-        if count == u32::MAX {
-            return Err(NoMemory);
-        }
-        count += 1;
-    }
-    Ok(count)
-}
-
-/// How many children a call has; of another node 0.
-fn call_length(p: &Source, id: u32) -> Result<u32, NoMemory>
-    ensures { IfOk result (λ count. count ≡ (if is_call (form_of p.now id)
-        then length (children_from p.now id 0) else 0)) }
-{
-    if !is_call(&p.form(id)) {
-        return Ok(0);
-    }
-    count_children(p, id)
-}
-
-/// The longest list of children of a call.
-#[tactic(auto, using(crate::proofs::Loads::longest_none, crate::proofs::Loads::longest_more))]
-fn longest_call(p: &Source) -> Result<u32, NoMemory>
-    ensures { IfOk result (λ longest. longest ≡ longest_call p.now.code.grove.branches) }
-{
-    let mut longest = 0;
-    for id in 0..p.count() {
-        longest = call_length(p, id)?.max(longest);
-    }
-    Ok(longest)
-}
-
-/// How many values may stand beside open frames of a run with so much fuel. What 32 bits cannot count is want of memory.
-pub(crate) fn values_needed(
-    alloc: Global,
-    program: &Program,
-    depth: u32,
-    fuel: u64,
-    heap: &Heap,
-) -> Result<u32, NoMemory>
-    ensures { IfOk result (λ values. values ≡ values_needed program.now depth fuel heap.now) }
-{
-    let p = Source {
-        alloc,
-        program,
-        literals: &[],
-        worths: &[],
-    };
-    let longest = longest_call(&p)?;
-    let values = (u64::from(depth) * u64::from(longest)).min(fuel);
-    if values > u64::from(u32::MAX) {
+    if fuel > u64::from(u32::MAX) - 2 {
         return Err(NoMemory);
     }
-    match heap.used_cells().checked_add(heap.free_cells()) {
-        Some(cells) => Ok(cells.max(values as u32)),
-        None => Err(NoMemory),
-    }
+    Ok(fuel as u32 + 2)
 }

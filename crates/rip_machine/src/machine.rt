@@ -1,9 +1,11 @@
-ghost use Rattle.std.specs.Prelude.{◌≡◌, ◌+◌, ◌≤◌, [], max, IfOk, OnErr, OnOk};
+ghost use Rattle.std.specs.Prelude.{◌≡◌, ◌+◌, ◌<◌, ◌≤◌, [], max, IfOk, OnErr, OnOk};
 ghost use Rattle.rip_heap.specs.Growth.{Grows};
+ghost use Rattle.rip_heap.specs.Step.{TakesNoMemory};
 ghost use Rattle.rip_runs.specs.Nesting.{IsInside};
-ghost use Rattle.rip_machine.specs.Law.{Resumes, Starts, loaded, open_depth};
-ghost use Rattle.rip_machine.specs.Loading.{Loads, TextsStand, spans_loaded, world_loaded};
-ghost use Rattle.rip_machine.specs.Starting.{begun};
+ghost use Rattle.rip_runs.specs.Room.{WantsMemory};
+ghost use Rattle.rip_machine.specs.Law.{Resumes, Starts, loaded, open_depth, values_of};
+ghost use Rattle.rip_machine.specs.Loading.{Loads, TextsStand, spans_loaded, values_needed, world_loaded};
+ghost use Rattle.rip_machine.specs.Starting.{arguments_in, begun, started_of};
 ghost use Rattle.rip_machine.specs.Table.{table};
 
 use crate::loading::{fits, load_texts, values_needed};
@@ -12,7 +14,7 @@ use crate::source::Source;
 use crate::starting::start_run;
 use crate::worth::{Worth, worths};
 use rip_heap::{Heap, Host};
-use rip_runs::{Completion, Control, Run, Turned};
+use rip_runs::{Completion, Control, Outcome, Run, Turned};
 use rip_tree::Program;
 use rip_values::{Limit, NoMemory, Refused, Span, Value};
 use std::alloc::Global;
@@ -36,30 +38,22 @@ impl Model for Machine {
     ghost view = { λ m. standing m.run m.literals.items };
 }
 
-/// Adds the texts of a program, and takes the room of so many values. For want of memory all is as before.
-fn load_whole(
-    run: &mut Run,
-    alloc: Global,
-    program: &Program,
-    heap: &mut Heap,
-    values: u32,
-) -> Result<Vec<Span>, NoMemory>
+/// Adds the texts of a program. For want of memory all is as before.
+fn load_whole(alloc: Global, program: &Program, heap: &mut Heap) -> Result<Vec<Span>, NoMemory>
     ensures spans { IfOk result (λ spans. spans.items ≡ spans_loaded program.now heap.old) }
     ensures loaded { OnOk result (heap.new ≡ world_loaded program.now heap.old) }
-    ensures room { OnOk result (run.new ≡ record run.old
-        { value_room = max run.old.value_room values }) }
-    ensures kept { OnErr result ((run.new ≡ run.old) × (heap.new ≡ heap.old)) }
+    ensures kept { OnErr result (heap.new ≡ heap.old) }
     ensures cells { heap.new.cells ≡ heap.old.cells }
     ensures grows { Grows heap.old heap.new }
 {
     let mark = heap.mark();
-    if let Ok(literals) = load_texts(alloc, program, heap) {
-        if let Ok(()) = run.reserve(values) {
-            return Ok(literals);
-        }
+    match load_texts(alloc, program, heap) {
+        Ok(literals) => Ok(literals),
+        Err(NoMemory) => {
+            heap.cut_back(mark);
+            Err(NoMemory)
+        },
     }
-    heap.cut_back(mark);
-    Err(NoMemory)
 }
 
 impl Machine {
@@ -73,7 +67,7 @@ impl Machine {
           spent = 0;
           depth = depth;
           literals = [];
-          value_room = 0;
+          value_room = 1;
         }) }
     {
         Ok(Machine {
@@ -83,17 +77,23 @@ impl Machine {
         })
     }
 
+    /// Takes the room of the values beside open frames, where there is less, for runs with so much fuel: of scripts, and of
+    /// functions that are called from outside with at most one argument. Other runs take it as values come. What 32 bits
+    /// cannot count is want of memory.
+    pub fn reserve(&mut self, fuel: u64) -> Result<(), NoMemory>
+        ensures ok { OnOk result (self.new ≡ record self.old
+            { value_room = max self.old.value_room (values_needed fuel) }) }
+        ensures err { OnErr result (self.new ≡ self.old) }
+    {
+        let values = values_needed(fuel)?;
+        self.run.reserve(values)
+    }
+
     /// Adds the program's texts to the heap: once, before the first start. Each text literal costs its length, and names cost
-    /// nothing. Literals that would pass the limit of units are refused, and then nothing is done. It takes the room of all
-    /// values beside open frames too, for runs with so much fuel. Where memory is wanting all is as before.
-    pub fn load(
-        &mut self,
-        alloc: Global,
-        program: &Program,
-        heap: &mut Heap,
-        fuel: u64,
-    ) -> Result<(), Refused>
-        ensures loads { Loads program.now fuel heap.old self.old result heap.new self.new }
+    /// nothing. Literals that would pass the limit of units are refused, and then nothing is done. Where memory is wanting all
+    /// is as before.
+    pub fn load(&mut self, alloc: Global, program: &Program, heap: &mut Heap) -> Result<(), Refused>
+        ensures loads { Loads program.now heap.old self.old result heap.new self.new }
         ensures stand { OnOk result (TextsStand (loaded program.now self.new) heap.new) }
         ensures cells { heap.new.cells ≡ heap.old.cells }
         ensures grows { Grows heap.old heap.new }
@@ -101,9 +101,8 @@ impl Machine {
         if !fits(program, heap) {
             return Err(Refused::Limit(Limit::Units));
         }
-        let values = values_needed(alloc, program, self.run.greatest_depth(), fuel, heap)?;
         let worths = worths(alloc, program)?;
-        let literals = load_whole(&mut self.run, alloc, program, heap, values)?;
+        let literals = load_whole(alloc, program, heap)?;
         self.literals = literals;
         self.worths = worths;
         Ok(())
@@ -135,7 +134,8 @@ impl Machine {
     /// Begins a run with so much fuel. A script binds what it declares in the top scope, scope 0 of the heap; a function
     /// of the script is entered, at its own charge. Of a built-in function the arguments are charged, a cell each; its own
     /// work is done in `resume`, where the host may be asked, and takes no fuel. What is no function throws a TypeError. A
-    /// start that would pass a limit does nothing, and one for which memory is wanting leaves all as it was.
+    /// start that would pass a limit does nothing. Memory is wanting only where there are more arguments than values have room,
+    /// and then all is as it was.
     pub fn start(
         &mut self,
         alloc: Global,
@@ -145,11 +145,16 @@ impl Machine {
         fuel: u64,
     ) -> Result<(), Refused>
         ensures keeps { (self.new.literals ≡ self.old.literals)
-            × (self.new.depth ≡ self.old.depth) }
+            × (self.new.depth ≡ self.old.depth)
+            × (self.new.value_room ≡ self.old.value_room) }
         ensures nested { IsInside (self.new.depth + 1) self.new.control self.new.frames }
         ensures starts { Starts (table (loaded program.now self.old))
             (begun (loaded program.now self.old) self.old.depth s.now heap.old) fuel heap.old
             heap.new self.old self.new result }
+        ensures memory { arguments_in (started_of s.now) ≤ self.old.value_room
+            → TakesNoMemory result }
+        ensures values { OnOk result (values_of self.new
+            ≤ arguments_in (started_of s.now) + fuel + 1) }
         ensures grows { Grows heap.old heap.new }
     {
         let p = Source {
@@ -161,7 +166,8 @@ impl Machine {
         start_run(&mut self.run, &p, heap, s, fuel)
     }
 
-    /// Goes on with the run for at most `n` units.
+    /// Goes on with the run for at most `n` units. Memory is wanting only where the host may want it, or where the values that
+    /// may be beside frames have no room.
     pub fn resume<H: Host>(
         &mut self,
         alloc: Global,
@@ -177,6 +183,10 @@ impl Machine {
         ensures nested { IsInside (self.new.depth + 1) self.new.control self.new.frames }
         ensures counted { self.new.spent + self.new.fuel ≡ self.old.spent + self.old.fuel }
         ensures later { self.old.spent ≤ self.new.spent }
+        ensures memory { result ≡ Turned.Done Outcome.Memory → WantsMemory H.may_want_memory
+            self.old.value_room (values_of self.old) }
+        ensures values { (self.old.value_room ≤ self.new.value_room)
+            × (values_of self.new ≤ values_of self.old) }
         ensures grows { Grows heap.old heap.new }
         ensures law { Resumes H.answers (table (loaded program.now self.old)) self.old heap.old
             host.old n self.new heap.new host.new result }

@@ -1,9 +1,10 @@
+ghost use Rattle.std.specs.Prelude.{◌<◌, length, IsTrue, OnErr};
 ghost use Rattle.rip_heap.specs.Growth.{Grows};
+ghost use Rattle.rip_runs.specs.Room.{AreTogether};
 ghost use Rattle.rip_machine.specs.Does.{Does, DoesBeside, DoesBesideWithHost};
 ghost use Rattle.rip_machine.specs.Table.{hosted_rest, own_rest, row_by};
 
 pub(crate) mod answers;
-pub(crate) mod arguments;
 pub(crate) mod assignment;
 pub(crate) mod calls;
 pub(crate) mod constructing;
@@ -58,14 +59,14 @@ use crate::worth::HEIGHT;
 use rip_heap::{Heap, Host};
 use rip_runs::{Completed, Completion, HostedWait, Next, OwnWait, Part, Rows, Wait};
 use rip_tree::Form;
-use rip_values::{NoMemory, Value};
+use rip_values::Value;
 
 impl Rows for Source<'_> {
     ghost use Rattle.rip_machine.specs.Table.{table as table_of};
 
     ghost table = { table_of };
 
-    fn begin(&self, heap: &mut Heap, at: &Part) -> Answer {
+    fn begin(&self, heap: &mut Heap, at: &Part) -> Next {
         begin_form(self, heap, at, &self.form(at.node))
     }
 
@@ -83,17 +84,18 @@ impl Rows for Source<'_> {
         at: &Part,
         wait: &Wait,
         values: &[Value],
+        all: &[Value],
         c: &Completion,
     ) -> Answer {
         match wait {
-            Wait::Own(wait) => finish_own(self, heap, at, wait, values, c),
-            Wait::Hosted(wait) => { finish_hosted(self, heap, host, at, wait, values, c) },
+            Wait::Own(wait) => Ok(finish_own(self, heap, at, wait, values, all, c)),
+            Wait::Hosted(wait) => { finish_hosted(self, heap, host, at, wait, values, all, c) },
         }
     }
 }
 
 /// What a part does that was entered, by the form of its node.
-fn begin_form(p: &Source, heap: &mut Heap, at: &Part, form: &Form) -> Answer
+fn begin_form(p: &Source, heap: &mut Heap, at: &Part, form: &Form) -> Next
     ensures row { Does p.now at.now result heap.new (row_by p.now at.now form.now heap.old) }
     ensures grows { Grows heap.old heap.new }
 {
@@ -143,8 +145,10 @@ fn finish_own(
     at: &Part,
     wait: &OwnWait,
     values: &[Value],
+    all: &[Value],
     c: &Completion,
-) -> Answer
+) -> Next
+    requires all { 0 < length values.now → AreTogether values.now c.now all.now }
     ensures row { DoesBeside p.now at.now values.now result heap.new
         (own_rest p.now at.now wait.now values.now c.now heap.old) }
     ensures grows { Grows heap.old heap.new }
@@ -165,7 +169,7 @@ fn finish_own(
         OwnWait::ReturnValue => after_return_value(c),
         OwnWait::Constructor => after_constructor(p, heap, at, c),
         OwnWait::NewArgument { place, constructor } => {
-            after_new_argument(p, heap, at, *place, constructor, values, c)
+            after_new_argument(p, heap, at, *place, constructor, values, all, c)
         },
         OwnWait::Operand => after_operand(p, heap, at, c),
         OwnWait::Left => after_left(p, at, c),
@@ -198,11 +202,14 @@ fn finish_hosted<H: Host>(
     at: &Part,
     wait: &HostedWait,
     values: &[Value],
+    all: &[Value],
     c: &Completion,
 ) -> Answer
-    requires { H.fits host.old heap.old }
+    requires fits { H.fits host.old heap.old }
+    requires all { 0 < length values.now → AreTogether values.now c.now all.now }
     ensures row { DoesBesideWithHost H.answers p.now at.now values.now result heap.new host.new
         (hosted_rest p.now at.now wait.now values.now c.now heap.old) host.old }
+    ensures memory { OnErr result (IsTrue H.may_want_memory) }
     ensures fits { H.fits host.new heap.new }
     ensures grows { Grows heap.old heap.new }
 {
@@ -212,7 +219,7 @@ fn finish_hosted<H: Host>(
             place,
             callee,
             this,
-        } => { after_argument(p, heap, host, at, *place, callee, this, values, c) },
+        } => { after_argument(p, heap, host, at, *place, callee, this, values, all, c) },
         HostedWait::Called { function, this } => {
             after_called(p, heap, host, at, *function, this, values)
         },

@@ -1,6 +1,6 @@
-ghost use Rattle.std.specs.Prelude.{◌≡◌, length};
+ghost use Rattle.std.specs.Prelude.{◌≡◌, ℕ, ◌<◌, ◌+◌, ◌-◌, ◌^◌, min, IfSome, length};
 ghost use Rattle.rip_tree.specs.Program.{root_of};
-ghost use Rattle.rip_machine.specs.Reading.{child, child_at, form_of, is_postfix, inner_at, inner_target, literal, logical_operator, operator, scoping, step_operator, unary_operator, logical_in, operator_in, step_in, unary_in, is_postfix_form};
+ghost use Rattle.rip_machine.specs.Reading.{child, child_at, children_from, form_of, is_postfix, inner_at, inner_target, literal, logical_operator, operator, scoping, step_operator, unary_operator, logical_in, operator_in, step_in, unary_in, is_postfix_form};
 
 use crate::worth::Worth;
 use rip_runs::{Inner, Part, Role};
@@ -58,9 +58,25 @@ impl Source<'_> {
 
     /// The child at a place, or none.
     pub fn child_at(&self, id: u32, place: u32) -> Option<u32>
-        ensures { result ≡ child_at self.now id place }
+        ensures child { result ≡ child_at self.now id place }
+        ensures counted { IfSome result (λ _. place + 1 < 2 ^ 32) }
     {
+        self.program.children_are_counted();
         self.program.child(id, place)
+    }
+
+    /// The place so many behind this one. No node has a child at the last place that 32 bits count, so that one stands for
+    /// all that they do not count.
+    pub fn behind(&self, place: u32, by: u32) -> u32
+        ensures place { result ≡ min (place + by) (2 ^ 32 - 1) }
+        ensures next { (id : ℕ) → children_from self.now id result
+            ≡ children_from self.now id (place + by) }
+        ensures child { (id : ℕ) → child_at self.now id result ≡ child_at self.now id (place + by) }
+        ensures further { (id : ℕ) → children_from self.now id (result + 1)
+            ≡ children_from self.now id (place + by + 1) }
+    {
+        self.program.children_are_counted();
+        place.saturating_add(by)
     }
 
     /// The child at a place, or node 0.

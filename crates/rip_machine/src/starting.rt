@@ -1,21 +1,18 @@
-ghost use Rattle.std.specs.Prelude.{◌≡◌, ◌+◌, ◌<◌, ◌^◌, [], ⊤, true, length, IfOk, MatchOption, MatchResult, OnErr, None, Some};
+ghost use Rattle.std.specs.Prelude.{◌≡◌, ◌+◌, ◌<◌, ◌≤◌, ◌^◌, length, None, Some, OnOk};
 ghost use Rattle.rip_heap.specs.Growth.{Grows};
-ghost use Rattle.rip_heap.specs.World.{World, charging};
+ghost use Rattle.rip_heap.specs.Step.{TakesNoMemory};
+ghost use Rattle.rip_heap.specs.World.{charging};
 ghost use Rattle.rip_tree.specs.Program.{root_of};
-ghost use Rattle.rip_runs.specs.Law.{Begins};
+ghost use Rattle.rip_runs.specs.Law.{values_of};
 ghost use Rattle.rip_runs.specs.Nesting.{IsInside};
-ghost use Rattle.rip_runs.specs.Rest.{as_row};
-ghost use Rattle.rip_runs.specs.Row.{Table};
 ghost use Rattle.rip_machine.specs.Law.{StartsRun};
 ghost use Rattle.rip_machine.specs.Reading.{Loaded};
 ghost use Rattle.rip_machine.specs.Rows.Calls.{callable};
-ghost use Rattle.rip_machine.specs.Rows.Functions.{function_entered};
 ghost use Rattle.rip_machine.specs.Rows.Scripts.{script_entered};
-ghost use Rattle.rip_machine.specs.Starting.{begun, builtin_begun, call_begun, can_begin, outside, script_begun};
+ghost use Rattle.rip_machine.specs.Starting.{arguments_in, begun, builtin_begun, call_begun, outside, script_begun, started_of};
 ghost use Rattle.rip_machine.specs.Table.{table};
 
 use crate::outcome::Start;
-use crate::rows::arguments::Arguments;
 use crate::rows::calls::{Invocable, call_statements, callable, running};
 use crate::rows::functions::enter_function;
 use crate::rows::names::throw;
@@ -23,35 +20,9 @@ use crate::rows::scripts::{enter_script, script_part};
 use crate::rows::statements::statements;
 use crate::source::Source;
 use rip_heap::{Class, Heap};
-use rip_runs::{Ending, Frame, HostedWait, Next, Part, Role, Run, Wait};
-use rip_values::{Builtin, Limit, NoMemory, Refused, Value};
+use rip_runs::{Ending, Frame, HostedWait, Part, Role, Run, Wait};
+use rip_values::{Builtin, Limit, Refused, Value};
 use std::alloc::Global;
-
-/// Whether a run can begin with what is answered: it is no want of memory, and what it keeps has room.
-fn can_begin(run: &Run, next: &Result<Next, NoMemory>) -> bool
-    ensures { result ≡ can_begin run.now.value_room next.now }
-{
-    match next {
-        Ok(next) => run.has_room(next),
-        Err(NoMemory) => false,
-    }
-}
-
-/// Stands at the beginning of a run: at what a part does next, which has all the depth.
-fn stand_at(run: &mut Run, at: &Part, next: &Result<Next, NoMemory>, fuel: u64)
-    requires room { at.now.room ≡ run.old.depth + 1 }
-    requires begins { can_begin run.old.value_room next.now ≡ true }
-    ensures begins { MatchResult next.now
-        (λ next. (t : Table) (w : World) → Begins t (as_row t at.now next [] w) fuel w run.new)
-        (λ _. ⊥) }
-    ensures depth { run.new.depth ≡ run.old.depth }
-    ensures nested { IsInside (run.new.depth + 1) run.new.control run.new.frames }
-{
-    match next {
-        Ok(next) => run.begin(at, next, fuel),
-        Err(NoMemory) => unreachable!(),
-    }
-}
 
 /// Begins a run of a script or of a function.
 pub(crate) fn start_run(
@@ -63,7 +34,10 @@ pub(crate) fn start_run(
 ) -> Result<(), Refused>
     ensures starts { StartsRun (table p.now) (begun p.now run.old.depth s.now heap.old) fuel
         heap.old heap.new run.old run.new result }
+    ensures memory { arguments_in (started_of s.now) ≤ run.old.value_room → TakesNoMemory result }
+    ensures values { OnOk result (values_of run.new ≤ arguments_in (started_of s.now) + fuel + 1) }
     ensures depth { run.new.depth ≡ run.old.depth }
+    ensures value_room { run.new.value_room ≡ run.old.value_room }
     ensures nested { IsInside (run.new.depth + 1) run.new.control run.new.frames }
     ensures grows { Grows heap.old heap.new }
 {
@@ -88,24 +62,21 @@ fn start_script(
     ensures starts { StartsRun (table p.now) (script_begun p.now run.old.depth
         (root_of p.now.code.grove script) (script_entered p.now script heap.old)) fuel heap.old
         heap.new run.old run.new result }
+    ensures memory { TakesNoMemory result }
+    ensures values { OnOk result (values_of run.new ≤ fuel + 1) }
     ensures depth { run.new.depth ≡ run.old.depth }
+    ensures value_room { run.new.value_room ≡ run.old.value_room }
     ensures nested { IsInside (run.new.depth + 1) run.new.control run.new.frames }
     ensures grows { Grows heap.old heap.new }
 {
     let depth = run.greatest_depth();
     let at = script_part(p.root(script), depth);
     let first = statements(p, &at, Ending::Script, 0);
-    if !can_begin(run, &first) {
-        return Err(Refused::Memory);
+    if !enter_script(p, heap, script) {
+        return Err(Refused::Limit(Limit::Cells));
     }
-    match enter_script(p, heap, script) {
-        Ok(true) => {
-            stand_at(run, &at, &first, fuel);
-            Ok(())
-        },
-        Ok(false) => Err(Refused::Limit(Limit::Cells)),
-        Err(NoMemory) => Err(Refused::Memory),
-    }
+    run.begin(&at, &first, fuel);
+    Ok(())
 }
 
 /// Begins the call of an object, as it is called from outside a script.
@@ -121,7 +92,10 @@ fn start_function(
     ensures starts { StartsRun (table p.now) (call_begun p.now run.old.depth this.now args.now
         (callable heap.old (Value.Object function)) heap.old) fuel heap.old heap.new run.old run.new
         result }
+    ensures memory { length args.now ≤ run.old.value_room → TakesNoMemory result }
+    ensures values { OnOk result (values_of run.new ≤ length args.now + fuel + 1) }
     ensures depth { run.new.depth ≡ run.old.depth }
+    ensures value_room { run.new.value_room ≡ run.old.value_room }
     ensures nested { IsInside (run.new.depth + 1) run.new.control run.new.frames }
     ensures grows { Grows heap.old heap.new }
 {
@@ -159,7 +133,10 @@ fn start_call(
     ensures starts { StartsRun (table p.now) (call_begun p.now run.old.depth this.now args.now
         (Invocable.OfScript function.0 function.1) heap.old) fuel heap.old heap.new run.old run.new
         result }
+    ensures memory { TakesNoMemory result }
+    ensures values { OnOk result (values_of run.new ≤ fuel + 1) }
     ensures depth { run.new.depth ≡ run.old.depth }
+    ensures value_room { run.new.value_room ≡ run.old.value_room }
     ensures nested { IsInside (run.new.depth + 1) run.new.control run.new.frames }
     ensures grows { Grows heap.old heap.new }
 {
@@ -170,40 +147,13 @@ fn start_call(
     let (f, scope) = function;
     let at = outside(depth, this);
     let first = call_statements(p, &at, &running(f, heap.scopes(), this), Ending::Call);
-    if !can_begin(run, &first) {
-        return Err(Refused::Memory);
-    }
-    match enter_with(p, heap, f, scope, args) {
-        Ok(Some(_)) => {
-            stand_at(run, &at, &first, fuel);
+    match enter_function(p, heap, f, scope, args) {
+        Some(_) => {
+            run.begin(&at, &first, fuel);
             Ok(())
         },
-        Ok(None) => Err(Refused::Limit(Limit::Cells)),
-        Err(NoMemory) => Err(Refused::Memory),
+        None => Err(Refused::Limit(Limit::Cells)),
     }
-}
-
-/// The scope of a function that is entered with these arguments, which is a new one; none where the charge would pass the
-/// limit.
-fn enter_with(
-    p: &Source,
-    heap: &mut Heap,
-    f: u32,
-    scope: u32,
-    args: &[Value],
-) -> Result<Option<u32>, NoMemory>
-    ensures entered { IfOk result (λ made. MatchOption made
-        (function_entered p.now f scope args.now heap.old ≡ None)
-        (λ s. function_entered p.now f scope args.now heap.old ≡ Some (s, heap.new))) }
-    ensures kept { IfOk result (λ made. MatchOption made (heap.new ≡ heap.old) (λ _. ⊤)) }
-    ensures back { OnErr result (heap.new ≡ heap.old) }
-    ensures grows { Grows heap.old heap.new }
-{
-    let args = Arguments {
-        values: args,
-        last: None,
-    };
-    enter_function(p, heap, f, scope, &args)
 }
 
 /// Charges the arguments of a built-in function, and stands where it is called from outside.
@@ -219,7 +169,10 @@ fn start_builtin(
         (builtin_begun p run.old.depth b this.now args.now
         (charging (length args.now) heap.old (λ x. x))) fuel heap.old heap.new run.old run.new
         result }
+    ensures memory { length args.now ≤ run.old.value_room → TakesNoMemory result }
+    ensures values { OnOk result (values_of run.new ≤ length args.now + fuel + 1) }
     ensures depth { run.new.depth ≡ run.old.depth }
+    ensures value_room { run.new.value_room ≡ run.old.value_room }
     ensures nested { IsInside (run.new.depth + 1) run.new.control run.new.frames }
     ensures grows { Grows heap.old heap.new }
 {
@@ -254,16 +207,16 @@ fn start_throw(
     ensures starts { (p : Loaded) → StartsRun (table p)
         (call_begun p run.old.depth this.now args.now Invocable.NotCallable heap.old) fuel heap.old
         heap.new run.old run.new result }
+    ensures memory { TakesNoMemory result }
+    ensures values { OnOk result (values_of run.new ≤ fuel + 1) }
     ensures depth { run.new.depth ≡ run.old.depth }
+    ensures value_room { run.new.value_room ≡ run.old.value_room }
     ensures nested { IsInside (run.new.depth + 1) run.new.control run.new.frames }
     ensures grows { Grows heap.old heap.new }
 {
     let _ = args;
     let depth = run.greatest_depth();
     let thrown = throw(alloc, heap, Class::ThrownTypeError);
-    if !can_begin(run, &thrown) {
-        return Err(Refused::Memory);
-    }
-    stand_at(run, &outside(depth, this), &thrown, fuel);
+    run.begin(&outside(depth, this), &thrown, fuel);
     Ok(())
 }

@@ -32,14 +32,14 @@ pub data Writing : Type 0 where
   Exceeds : Limit → Writing
   AsksHost : ℕ → Span → Writing
 
--- the answer is this end; where nothing is written the world is as before. Of want of memory nothing else is said
+-- the answer is this end; where nothing is written the world is as before. Memory is never wanting
 abbrev pub IsWriting : Writing → World → Result Written Abrupt → World → Type 0
 IsWriting meant old (Ok Done) new = meant ≡ Writes new
 IsWriting meant old (Ok (Host n name)) new = (meant ≡ AsksHost n name) × (new ≡ old)
 IsWriting meant old (Err TypeError) new = (meant ≡ Throws) × (new ≡ old)
 IsWriting meant old (Err (AtFault fault)) new = (meant ≡ Faults fault) × (new ≡ old)
 IsWriting meant old (Err (AtLimit limit)) new = (meant ≡ Exceeds limit) × (new ≡ old)
-IsWriting meant old (Err Memory) new = new ≡ old
+IsWriting meant old (Err Memory) new = ⊥
 
 -- a step that costs cells, or that would pass their limit
 abbrev pub stepped : Option World → Writing

@@ -132,3 +132,30 @@ frames-kept m es below e r vs v f h g k =
     let n : r.values ≡ length (back ++ v ∷ []) = omega (arith, length-drop (length vs - e.values) vs, length_push back v, s.2) in
     let cut : vs ++ v ∷ [] ≡ front ++ (back ++ v ∷ []) = ap (λ xs. xs ++ v ∷ []) (sym (take-append-drop (length vs - e.values) vs)) ∙ append_assoc front back (v ∷ []) in
     ap (joined (below ++ r ∷ [])) cut ∙ joined-push below r front (back ++ v ∷ []) s.1 n ∙ ap₂ (λ os xs. os ++ framed r.frame (xs ++ v ∷ []) ∷ []) l.1 l.2
+
+-- as many values are beside the last frame as its entry says
+pub last-count : (m : Frames) (es below : List Entry) (e : Entry) (vs values : List Value) (os : List Open) (o : Open) → joined es vs ≡ m.frames → es ≡ below ++ e ∷ [] → sum_by (λ e. e.values) es ≡ length vs
+    → m.frames ≡ os ++ o ∷ [] → o.values ≡ values → e.values ≡ length values
+last-count m es below e vs values os o f h g is beside =
+    let s = joined-split es below e vs h g in
+    let l = frames-last m es below e vs f h g in
+    let last : drop (length vs - e.values) vs ≡ values = l.2 ∙ ap last_values is ∙ last_values-push os o ∙ beside in
+    omega (arith, ap length last, length-drop (length vs - e.values) vs, s.2)
+
+-- an entry with one value less in place of the last one
+pub frames-taken : (m : Frames) (es below : List Entry) (e r : Entry) (vs us : List Value) (os : List Open) (values : List Value) (v : Value) → joined es vs ≡ m.frames → es ≡ below ++ e ∷ [] → sum_by (λ e. e.values) es ≡ length vs
+    → m.frames ≡ os ++ framed r.frame (values ++ v ∷ []) ∷ [] → us ≡ take (length vs - 1) vs → r.values ≡ e.values - 1 → joined (below ++ r ∷ []) us ≡ os ++ framed r.frame values ∷ []
+frames-taken m es below e r vs us os values v f h g is k n =
+    let s = joined-split es below e vs h g in
+    let l = frames-last m es below e vs f h g in
+    let x : Open = framed r.frame (values ++ v ∷ []) in
+    let front : List Value = take (length vs - e.values) vs in
+    let back : List Value = drop (length vs - e.values) vs in
+    let before : joined below front ≡ os = l.1 ∙ ap without_last is ∙ without_last-push os x in
+    let beside : back ≡ values ++ v ∷ [] = l.2 ∙ ap last_values is ∙ last_values-push os x in
+    let all : vs ≡ (front ++ values) ++ v ∷ [] = sym (take-append-drop (length vs - e.values) vs) ∙ ap (λ xs. front ++ xs) beside ∙ sym (append_assoc front values (v ∷ [])) in
+    let len : length vs - 1 ≡ length (front ++ values) = omega (arith, ap length all, length_push (front ++ values) v) in
+    let cut : us ≡ front ++ values = k ∙ ap (λ i. take i vs) len ∙ ap (take (length (front ++ values))) all ∙ take-append_seam (front ++ values) (v ∷ []) in
+    let all_count : e.values ≡ length (values ++ v ∷ []) = last-count m es below e vs (values ++ v ∷ []) os x f h g is refl in
+    let count : r.values ≡ length values = omega (arith, all_count, length_push values v) in
+    ap (joined (below ++ r ∷ [])) cut ∙ joined-push below r front values s.1 count ∙ ap (λ os. os ++ framed r.frame values ∷ []) before

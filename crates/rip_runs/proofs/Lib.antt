@@ -4,6 +4,7 @@ pub mod Later
 pub mod Laws
 pub mod Nested
 pub mod Resumes
+pub mod Roomed
 pub mod Runs
 pub mod Settles
 pub mod StepLaws

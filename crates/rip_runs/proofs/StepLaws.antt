@@ -1,5 +1,5 @@
 -- What one step leaves of a run.
-use Rattle.std.proofs.Common.{◌≡◌, ℕ, ◌+◌, ◌-◌, ◌==◌, Bool, true, List, [], ◌∷◌, ◌++◌, length, Result, Ok, Err, IfOk, OnOk, OnErr, refl, ap, sym, ◌∙◌, add-one, arith}
+use Rattle.std.proofs.Common.{◌≡◌, ℕ, ◌+◌, ◌-◌, ◌==◌, Bool, true, List, [], ◌∷◌, ◌++◌, length, Result, Ok, Err, OnOk, refl, ap, sym, ◌∙◌, add-one, arith}
 use Rattle.rip_values.specs.declared.value.Value.{Value}
 use Rattle.rip_heap.specs.World.{World}
 use Rattle.rip_runs.specs.declared.completion.Completion.{Completion}
@@ -15,11 +15,6 @@ use Rattle.rip_runs.specs.Settle.{settle}
 use Rattle.rip_runs.proofs.Laws.{rest-next, rest-enters, rest-gives}
 use Rattle.rip_runs.proofs.Settles.{run-settles}
 
--- two facts of an answer give a third
-pub ok_both : {T E : Type 0} (r : Result T E) (P Q F : Type 0) → OnOk r P → OnOk r Q → (P → Q → F) → OnOk r F
-ok_both (Ok x) P Q F p q go = go p q
-ok_both (Err e) P Q F p q go = tt
-
 -- values whose test says that there are none
 pub no_values : (b : Bool) (vs : List Value) → b ≡ (length vs == 0) → b ≡ true → vs ≡ []
 no_values b [] e t = refl
@@ -29,21 +24,6 @@ no_values b (v ∷ vs) e t = absurd (grind (arith, e, t))
 pub ok_map : {T E : Type 0} (r : Result T E) (P Q : Type 0) → OnOk r P → (P → Q) → OnOk r Q
 ok_map (Ok x) P Q p go = go p
 ok_map (Err e) P Q p go = tt
-
--- what two facts of an answer give, or what it leaves where it is none
-pub ok_or_kept : {T E : Type 0} (r : Result T E) (P Q K F : Type 0) → OnOk r P → OnOk r Q → OnErr r K → (P → Q → F) → (K → F) → F
-ok_or_kept (Ok x) P Q K F p q k go kept = go p q
-ok_or_kept (Err e) P Q K F p q k go kept = kept k
-
--- what holds in any case
-pub on_ok : {T E : Type 0} {F : Type 0} (r : Result T E) → F → OnOk r F
-on_ok (Ok x) f = f
-on_ok (Err e) f = tt
-
--- what holds of a value with each y holds of it with this one
-pub ok_at : {T E A : Type 0} (r : Result T E) (P : T → A → Type 0) (y : A) → IfOk r (λ x. (z : A) → P x z) → IfOk r (λ x. P x y)
-ok_at (Ok x) P y p = p y
-ok_at (Err e) P y p = tt
 
 -- after a part was entered
 pub enter_rest : {S : Type 0} (h : Calling S) (t : Table) (part : Part) (next : Next) (os frames : List Open) (control : Control) (w x : World) (s : S) (u : ℕ)

@@ -5,9 +5,10 @@ use Rattle.rip_runs.specs.Stack.{Open}
 use Rattle.rip_runs.specs.Nesting.{IsInside}
 
 -- the units counted and those of the fuel that is left fit 64 bits, and the depth and one more 32; so many frames have
--- room, and the run stays inside
-pub record IsRun (fuel spent depth most : ℕ) (control : Control) (frames : List Open) : Type 0 where
+-- room, and the run stays inside; and one value has room beside a frame
+pub record IsRun (fuel spent depth most room : ℕ) (control : Control) (frames : List Open) : Type 0 where
   pub counted : spent + fuel < 2 ^ 64
   pub numbered : depth + 1 < 2 ^ 32
   pub reserved : most ≡ depth + 1
   pub inside : IsInside (depth + 1) control frames
+  pub some : 0 < room

@@ -13,6 +13,7 @@ use Rattle.rip_runs.specs.declared.next.Next.{Next}
 use Rattle.rip_runs.specs.Cut.{rest_of}
 use Rattle.rip_runs.specs.declared.part.Part.{Part}
 use Rattle.rip_runs.specs.Rest.{as_row, control_of, frame_of, rest, room_in}
+use Rattle.rip_runs.specs.Room.{most_values}
 use Rattle.rip_runs.specs.Row.{Row, Table}
 use Rattle.rip_runs.specs.Run.{Answer, Completes, Stops, Cuts, Calling}
 use Rattle.rip_runs.specs.Stack.{Open}
@@ -59,6 +60,10 @@ open_at depth (Halted stop room) frames = depth - room
 -- how many nodes are entered and not ended, and functions are running, where a machine stands
 abbrev pub open_depth : Standing → ℕ
 open_depth m = open_at m.depth m.control m.frames
+
+-- the most values that are ever beside the open frames of a run
+abbrev pub values_of : Standing → ℕ
+values_of m = most_values m.control m.frames m.fuel
 
 -- STEPS
 

@@ -8,6 +8,7 @@ pub mod Law
 pub mod Nesting
 pub mod Plan
 pub mod Rest
+pub mod Room
 pub mod Row
 pub mod Run
 pub mod Settle

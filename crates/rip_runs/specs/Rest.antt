@@ -1,5 +1,5 @@
 -- What is left of a run that stands.
-use Rattle.std.specs.Prelude.{ℕ, ◌-◌, ◌==◌, Bool, true, nat_lt, if◌then◌else◌, List, [], ◌∷◌, ◌++◌}
+use Rattle.std.specs.Prelude.{ℕ, ◌-◌, ◌==◌, if◌then◌else◌, List, [], ◌∷◌, ◌++◌}
 use Rattle.rip_values.specs.declared.value.Value.{Value}
 use Rattle.rip_values.specs.declared.value.Limit.TheVariants.{Depth}
 use Rattle.rip_heap.specs.World.{World}
@@ -69,15 +69,6 @@ control_of at (Ask part wait) = Enter (inside at part)
 control_of at (Keep part wait v) = Enter (inside at part)
 control_of at (Turn part wait) = Enter (inside at part)
 control_of at (Call part node wait) = called_control (inside at part) node
-
--- the value that is kept has room beside a first frame, where so many have
-abbrev pub has_room : ℕ → Next → Bool
-has_room room (End c) = true
-has_room room (Halt stop) = true
-has_room room (Ask part wait) = true
-has_room room (Keep part wait v) = nat_lt 0 room
-has_room room (Turn part wait) = true
-has_room room (Call part node wait) = true
 
 -- the frame of a part that was called inside the open one
 abbrev pub called_frame : Part → Wait → List Open

@@ -20,7 +20,8 @@
 //! | a part that is done at once, without a cut and without the host | `Done.Done`, by `Done.Comes` of its row |
 //! | what is left of a run that stands | `Rest.rest`, by `Rest.finish` and `Rest.unwind` |
 //! | a run cut after any unit, and its fuel | `Cut.run_of`, `Cut.rest_of` |
-//! | [`Run`] | contracts see `Law.Standing`; what each keeps is `Keeping.IsRun`, with `Nesting.IsInside` |
+//! | [`Run`] | contracts see `Law.Standing`; what each keeps is `Keeping.IsRun`, with `Nesting.IsInside` and `Room.most_values` |
+//! | the values beside a frame and the one that it was given, side by side | `Room.AreTogether` |
 //! | [`Run::begin`], [`Run::resume`], [`Run::depth`] | `Law.Begins`, `Law.Resumes`, `Law.open_depth` |
 //! | what an item or a batch does, as a program that asks for runs | `Plan.Plan`, joined by `Plan.and_then` |
 //! | what a [`Planner`] answers, a [`Step`] of a plan | `Plan.ahead`: the plan is that step, and then what is left |
@@ -39,9 +40,11 @@
 //! | more units change no run that has come to its end | `proofs/Later.antt`: `of-later` |
 //! | a row whose calls of the host were made runs on as the row did | `proofs/Settles.antt`: `run-settles`, `settled` |
 //! | open parts are nested within the depth | `proofs/Nested.antt`: `next_inside` |
+//! | each value that is kept took a unit | `proofs/Roomed.antt`: `next_values` |
 //! | what the steps of a call leave is what `resume` promises; a run that begins is the whole run of its row | `proofs/Resumes.antt`: `resumes`, `begins_whole` |
 //!
-//! Frames own no memory. The room of a stack is taken by [`Run::make`] and [`Run::reserve`].
+//! Frames own no memory. The room of a stack is taken by [`Run::make`] and [`Run::reserve`]; a run for whose fuel there is
+//! room wants no memory but where its host may (`Room.WantsMemory`), and any other takes more as its values come.
 #![tactic(auto)]
 
 mod close;

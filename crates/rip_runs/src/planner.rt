@@ -6,7 +6,7 @@ use std::alloc::Global;
 /// What makes a plan step by step. It sees neither units nor fuel nor a program, and no run: a step that begins one is gone
 /// on from in the world and the host after it.
 pub trait Planner<H: Host> {
-    ghost use Rattle.std.specs.Prelude.{◌≡◌, ℕ, IfOk, OnErr};
+    ghost use Rattle.std.specs.Prelude.{◌≡◌, ◌<◌, ℕ, IfOk, OnErr};
     ghost use Rattle.rip_heap.specs.Growth.{Grows};
     ghost use Rattle.rip_heap.specs.World.{World};
     ghost use Rattle.rip_runs.specs.Plan.{Plan, ahead, IsFewer};
@@ -17,7 +17,13 @@ pub trait Planner<H: Host> {
     // A bound of the steps that are left.
     ghost steps: { Self → ℕ };
 
-    /// The next step, with what is done in heap and host before it. Where memory is wanting, all is as before.
+    // The room of the planner, and the least with which no step wants memory at this host.
+    ghost room: { Self → ℕ };
+
+    ghost need: { H → ℕ };
+
+    /// The next step, with what is done in heap and host before it. Memory is wanting only where the room is too little, and
+    /// then all is as before.
     fn next(&mut self, alloc: Global, heap: &mut Heap, host: &mut H) -> Result<Step, NoMemory>
         requires { H.fits host.old heap.old }
         ensures fits { H.fits host.new heap.new }
@@ -28,5 +34,7 @@ pub trait Planner<H: Host> {
         ensures fewer { IfOk result (λ step. IsFewer step (steps self.new) (steps self.old)) }
         ensures memory { OnErr result
             ((plan self.new ≡ plan self.old) × (steps self.new ≡ steps self.old)
-            × (heap.new ≡ heap.old) × (host.new ≡ host.old)) };
+            × (heap.new ≡ heap.old) × (host.new ≡ host.old)) }
+        ensures lack { OnErr result (room self.old < need host.old) }
+        ensures room { room self.new ≡ room self.old };
 }

@@ -5,15 +5,16 @@ use crate::part::Part;
 use rip_heap::{Heap, Host};
 use rip_values::{NoMemory, Value};
 
-/// The rows of a program, as code. What the table of its meaning says, these do, each time up to the next part. No error but
-/// want of memory has a place here: a fault and a limit are a `Next`. Whoever has the rows has the allocator too.
+/// The rows of a program, as code. What the table of its meaning says, these do, each time up to the next part. A fault and a
+/// limit are a `Next`; memory is wanting only where the host may want it.
 pub trait Rows {
-    ghost use Rattle.std.specs.Prelude.{◌≡◌, ◌≤◌, List, IfOk, MatchOption};
+    ghost use Rattle.std.specs.Prelude.{◌≡◌, ◌<◌, ◌≤◌, List, length, IfOk, IsTrue, MatchOption, OnErr};
     ghost use Rattle.rip_values.specs.declared.value.Value.{Value as ScriptValue};
     ghost use Rattle.rip_heap.specs.Growth.{Grows};
     ghost use Rattle.rip_runs.specs.Done.{Done};
     ghost use Rattle.rip_runs.specs.Frame.{waiting};
     ghost use Rattle.rip_runs.specs.Rest.{as_row};
+    ghost use Rattle.rip_runs.specs.Room.{AreTogether};
     ghost use Rattle.rip_runs.specs.Row.{Table};
     ghost use Rattle.rip_runs.specs.Settle.{settle};
     ghost use Rattle.rip_runs.specs.Stack.{framed};
@@ -22,10 +23,10 @@ pub trait Rows {
     ghost table: { Self → Table };
 
     /// What a part does that is entered. Some depth is left for it.
-    fn begin(&self, heap: &mut Heap, at: &Part) -> Result<Next, NoMemory>
-        ensures row { IfOk result (λ next. (values : List ScriptValue)
-            → as_row (table self.now) at.now next values heap.new
-            ≡ (table self.now).row at.now heap.old) }
+    fn begin(&self, heap: &mut Heap, at: &Part) -> Next
+        ensures row { (values : List ScriptValue)
+            → as_row (table self.now) at.now result values heap.new
+            ≡ (table self.now).row at.now heap.old }
         ensures grows { Grows heap.old heap.new };
 
     /// What a part comes to that is done at once, with at most so many units. Of any part it may be none, and then nothing
@@ -37,7 +38,8 @@ pub trait Rows {
         ensures grows { Grows heap.old heap.new };
 
     /// What an open part does with the completion of the part that it waits for so, where these values are beside its frame.
-    /// The calls of the host with which its row goes on are made.
+    /// The calls of the host with which its row goes on are made. Where there are such values, and the completion has one too,
+    /// all of them are at hand side by side.
     fn finish<H: Host>(
         &self,
         heap: &mut Heap,
@@ -45,15 +47,18 @@ pub trait Rows {
         at: &Part,
         wait: &Wait,
         values: &[Value],
+        all: &[Value],
         c: &Completion,
     ) -> Result<Next, NoMemory>
-        requires { H.fits host.old heap.old }
+        requires fits { H.fits host.old heap.old }
+        requires all { 0 < length values.now → AreTogether values.now c.now all.now }
         ensures row { IfOk result (λ next. (
           as_row (table self.now) at.now next values.now
               heap.new,
           host.new,
         ) ≡ settle H.answers ((table self.now).rest
             (framed (waiting at.now wait.now) values.now) c.now heap.old) host.old) }
+        ensures memory { OnErr result (IsTrue H.may_want_memory) }
         ensures fits { H.fits host.new heap.new }
         ensures grows { Grows heap.old heap.new };
 }

@@ -1,9 +1,10 @@
-ghost use Rattle.std.specs.Prelude.{◌≡◌, ◌+◌, ◌<◌, ◌≤◌, ◌^◌, [], true, length, max, IfOk, OnErr, OnOk};
+ghost use Rattle.std.specs.Prelude.{◌≡◌, ◌+◌, ◌<◌, ◌≤◌, ◌^◌, [], length, max, IfOk, OnErr, OnOk};
 ghost use Rattle.rip_heap.specs.Growth.{Grows};
 ghost use Rattle.rip_heap.specs.World.{World};
-ghost use Rattle.rip_runs.specs.Law.{Begins, Resumes, open_depth, outcome_of, stop_outcome, turned_of};
+ghost use Rattle.rip_runs.specs.Law.{Begins, Resumes, open_depth, outcome_of, stop_outcome, turned_of, values_of};
 ghost use Rattle.rip_runs.specs.Nesting.{IsInside};
-ghost use Rattle.rip_runs.specs.Rest.{as_row, has_room};
+ghost use Rattle.rip_runs.specs.Rest.{as_row};
+ghost use Rattle.rip_runs.specs.Room.{WantsMemory};
 ghost use Rattle.rip_runs.specs.Row.{Table};
 ghost use Rattle.rip_runs.specs.Stack.{framed};
 
@@ -45,11 +46,12 @@ impl Model for Run {
       value_room = m.stack.room;
     } };
 
-    ghost invariant = { λ m. IsRun m.fuel m.spent m.depth m.stack.most m.control m.stack.frames };
+    ghost invariant = { λ m. IsRun m.fuel m.spent m.depth m.stack.most m.stack.room m.control m.stack.frames };
 }
 
 impl Run {
-    /// Nothing runs yet. Runs may nest so deep; a depth that 32 bits cannot count with one more is want of memory.
+    /// Nothing runs yet, and one value beside frames has room. Runs may nest so deep; a depth that 32 bits cannot count with one
+    /// more is want of memory.
     pub fn make(alloc: Global, depth: u32) -> Result<Run, NoMemory>
         ensures { IfOk result (λ run. run ≡ record {
           control = Control.Give (Completion.Normal Value.Undefined);
@@ -57,14 +59,16 @@ impl Run {
           fuel = 0;
           spent = 0;
           depth = depth;
-          value_room = 0;
+          value_room = 1;
         }) }
     {
         if depth == u32::MAX {
             return Err(NoMemory);
         }
+        let mut stack = Stack::make(alloc, depth + 1)?;
+        stack.reserve(1)?;
         Ok(Run {
-            stack: Stack::make(alloc, depth + 1)?,
+            stack,
             control: Control::Give(Completion::Normal(Value::Undefined)),
             fuel: 0,
             spent: 0,
@@ -80,16 +84,6 @@ impl Run {
     {
         let _ = &self.depth;
         self.stack.reserve(values)
-    }
-
-    /// Whether a run can begin with this: a value that is kept beside its first frame has room.
-    pub fn has_room(&self, next: &Next) -> bool
-        ensures { result ≡ has_room self.now.value_room next.now }
-    {
-        match next {
-            Next::Keep(..) => self.stack.room() > 0,
-            _ => true,
-        }
     }
 
     /// How many values beside frames have room.
@@ -141,17 +135,15 @@ impl Run {
     /// Stands at the beginning of a run with so much fuel: at what a part does next that has all the depth.
     pub fn begin(&mut self, at: &Part, next: &Next, fuel: u64)
         requires depth { at.now.room ≡ self.old.depth + 1 }
-        requires room { has_room self.old.value_room next.now ≡ true }
         ensures begins { (t : Table) (w : World)
             → Begins t (as_row t at.now next.now [] w) fuel w self.new }
         ensures nested { IsInside (self.new.depth + 1) self.new.control self.new.frames }
         ensures depth { self.new.depth ≡ self.old.depth }
+        ensures values { (self.new.value_room ≡ self.old.value_room)
+            × (values_of self.new ≤ fuel + 1) }
     {
         self.stack.clear();
-        match open(&mut self.stack, at, next, &mut self.control) {
-            Ok(()) => {},
-            Err(NoMemory) => unreachable!(),
-        }
+        open(&mut self.stack, at, next, &mut self.control);
         self.fuel = fuel;
         self.spent = 0;
     }
@@ -166,6 +158,8 @@ impl Run {
             fuel w self.new }
         ensures nested { IsInside (self.new.depth + 1) self.new.control self.new.frames }
         ensures depth { self.new.depth ≡ self.old.depth }
+        ensures values { (self.new.value_room ≡ self.old.value_room)
+            × (values_of self.new ≤ length values.now + fuel + 1) }
     {
         self.control = Control::Give(Completion::Normal(Value::Undefined));
         self.stack.clear();
@@ -175,7 +169,8 @@ impl Run {
         self.spent = 0;
     }
 
-    /// Goes on for at most `n` units.
+    /// Goes on for at most `n` units. Memory is wanting only where the host may want it, or where the values that may be beside
+    /// frames have no room, which then is taken as they come.
     pub fn resume<R: Rows, H: Host>(
         &mut self,
         rows: &R,
@@ -187,6 +182,10 @@ impl Run {
         ensures fits { H.fits host.new heap.new }
         ensures depth { self.new.depth ≡ self.old.depth }
         ensures nested { IsInside (self.new.depth + 1) self.new.control self.new.frames }
+        ensures value_room { self.old.value_room ≤ self.new.value_room }
+        ensures memory { result ≡ Turned.Done Outcome.Memory → WantsMemory H.may_want_memory
+            self.old.value_room (values_of self.old) }
+        ensures values { values_of self.new ≤ values_of self.old }
         ensures counted { self.new.spent + self.new.fuel ≡ self.old.spent + self.old.fuel }
         ensures later { self.old.spent ≤ self.new.spent }
         ensures grows { Grows heap.old heap.new }
@@ -201,14 +200,12 @@ impl Run {
             left: budget,
         };
         let ran = steps(rows, heap, host, &mut self.stack, &mut ahead);
+        let used = budget - ahead.left;
         self.control = ahead.control;
+        self.fuel -= used;
+        self.spent += used;
         match ran {
-            Ok(()) => {
-                let used = budget - ahead.left;
-                self.fuel -= used;
-                self.spent += used;
-                turned_of(&self.control, more)
-            },
+            Ok(()) => turned_of(&self.control, more),
             Err(NoMemory) => Turned::Done(Outcome::Memory),
         }
     }

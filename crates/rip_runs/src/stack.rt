@@ -1,5 +1,6 @@
-ghost use Rattle.std.specs.Prelude.{◌≡◌, ◌↔◌, ◌<◌, ◌≤◌, ◌-◌, ◌∷◌, ◌++◌, [], length, take, max, IsOk, IfOk, IfErr, OnOk, OnErr, MatchOption};
-ghost use Rattle.rip_runs.specs.Stack.{Frames, empty_frames, framed, without_last, last_values, count_of_values};
+ghost use Rattle.std.specs.Prelude.{◌≡◌, ◌↔◌, ◌<◌, ◌≤◌, ◌-◌, ◌∷◌, ◌++◌, List, [], length, take, max, IsOk, IfOk, IfErr, OnOk, OnErr, MatchOption};
+ghost use Rattle.rip_values.specs.declared.value.Value.{Value as ScriptValue};
+ghost use Rattle.rip_runs.specs.Stack.{Frames, Open, empty_frames, framed, without_last, last_values, count_of_values};
 
 use crate::frame::Frame;
 use rip_values::{Limit, NoMemory, Value};
@@ -66,6 +67,14 @@ impl Stack {
         ensures { result ≡ self.now.room }
     {
         self.room
+    }
+
+    /// How many values are beside the frames, at most as many as have room.
+    pub fn count(&self) -> u32
+        ensures count { result ≡ count_of_values self.now.frames }
+        ensures within { result ≤ self.now.room }
+    {
+        self.values.len() as u32
     }
 
     /// How many frames are open, at most as many as have room.
@@ -175,6 +184,21 @@ impl Stack {
                 Ok(())
             },
             None => Err(NoMemory),
+        }
+    }
+
+    /// Takes the last value beside the innermost frame away. Where there is none, nothing is said.
+    pub fn take_back(&mut self, frame: &Frame)
+        ensures { (os : List Open) (values : List ScriptValue) (v : ScriptValue)
+            → self.old.frames ≡ os ++ framed frame.now (values ++ v ∷ []) ∷ []
+            → self.new ≡ record self.old { frames = os ++ framed frame.now values ∷ [] } }
+    {
+        if let Some(entry) = self.entries.last_mut() {
+            if entry.values > 0 {
+                entry.frame = *frame;
+                entry.values -= 1;
+                self.values.truncate(self.values.len() - 1);
+            }
         }
     }
 

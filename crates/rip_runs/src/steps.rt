@@ -1,12 +1,14 @@
-ghost use Rattle.std.specs.Prelude.{◌≡◌, ℕ, ◌+◌, ◌-◌, ◌*◌, ◌<◌, ◌≤◌, ◌∷◌, ◌++◌, [], ⊤, false, length, IfOk, OnErr, OnOk};
+ghost use Rattle.std.specs.Prelude.{◌≡◌, ℕ, ◌+◌, ◌-◌, ◌*◌, ◌<◌, ◌≤◌, ◌∷◌, ◌++◌, [], ⊤, false, length, IfOk, IsTrue, OnErr, OnOk};
 ghost use Rattle.std.specs.Bool.{MatchBool};
 ghost use Rattle.rip_heap.specs.Growth.{Grows};
 ghost use Rattle.rip_runs.specs.Frame.{waiting};
 ghost use Rattle.rip_runs.specs.Law.{SameRest, Stands, weight};
 ghost use Rattle.rip_runs.specs.Nesting.{IsInside};
-ghost use Rattle.rip_runs.specs.Rest.{called_control, called_frame, control_of, frame_of, has_room, next_run};
+ghost use Rattle.rip_runs.specs.Rest.{as_row, called_control, called_frame, control_of, frame_of, next_run};
+ghost use Rattle.rip_runs.specs.Room.{WantsMemory, most_values};
 ghost use Rattle.rip_runs.specs.Run.{run};
-ghost use Rattle.rip_runs.specs.Stack.{framed, last_values, without_last};
+ghost use Rattle.rip_runs.specs.Settle.{settle};
+ghost use Rattle.rip_runs.specs.Stack.{count_of_values, framed, last_values, without_last};
 
 use crate::completion::{Completion, Stop};
 use crate::frame::{Frame, Wait};
@@ -66,21 +68,28 @@ fn open_called(stack: &mut Stack, at: &Part, wait: &Wait)
     }
 }
 
-/// Opens the frame of what an open part does next, and goes on with that. The frame has room; a value that has none is want
-/// of memory.
-pub(crate) fn open(
-    stack: &mut Stack,
-    at: &Part,
-    next: &Next,
-    control: &mut Control,
-) -> Result<(), NoMemory>
-    requires { length stack.old.frames < stack.old.most }
-    ensures control { OnOk result (control.new ≡ control_of at.now next.now) }
-    ensures frames { OnOk result (stack.new ≡ record stack.old
-        { frames = stack.old.frames ++ frame_of at.now next.now [] }) }
-    ensures kept { OnErr result ((stack.new ≡ stack.old) × (control.new ≡ control.old)) }
-    ensures full { OnErr result (stack.old.frames ≡ []
-        → has_room stack.old.room next.now ≡ false) }
+/// Puts a frame in place of the innermost one, and a value behind the values beside it, which has room.
+fn kept(stack: &mut Stack, frame: &Frame, value: &Value)
+    requires some { 0 < length stack.old.frames }
+    requires room { count_of_values stack.old.frames < stack.old.room }
+    ensures { stack.new ≡ record stack.old {
+      frames = without_last stack.old.frames ++ framed frame.now
+          (last_values stack.old.frames ++ value.now ∷ []) ∷ [];
+    } }
+{
+    match stack.keep(frame, value) {
+        Ok(()) => {},
+        Err(NoMemory) => unreachable!(),
+    }
+}
+
+/// Opens the frame of what an open part does next, and goes on with that. The frame has room, and so has a value.
+pub(crate) fn open(stack: &mut Stack, at: &Part, next: &Next, control: &mut Control)
+    requires frames { length stack.old.frames < stack.old.most }
+    requires values { count_of_values stack.old.frames < stack.old.room }
+    ensures control { control.new ≡ control_of at.now next.now }
+    ensures frames { stack.new ≡ record stack.old
+        { frames = stack.old.frames ++ frame_of at.now next.now [] } }
 {
     match next {
         Next::End(c) => *control = Control::Give(*c),
@@ -93,12 +102,7 @@ pub(crate) fn open(
             *control = Control::Enter(at.inside(part));
         },
         Next::Keep(part, wait, v) => {
-            let frame = waiting(at, wait);
-            pushed(stack, &frame);
-            if let Err(NoMemory) = stack.keep(&frame, v) {
-                stack.close();
-                return Err(NoMemory);
-            }
+            open_beside(stack, &waiting(at, wait), v);
             *control = Control::Enter(at.inside(part));
         },
         Next::Call(part, node, wait) => {
@@ -107,19 +111,28 @@ pub(crate) fn open(
             *control = called_control(&inside, *node);
         },
     }
-    Ok(())
 }
 
-/// The same for what is done at the innermost frame, in whose place the new one is put. A value that has no room is want
-/// of memory.
-fn reopen(stack: &mut Stack, at: &Part, next: &Next, control: &mut Control) -> Result<(), NoMemory>
-    requires { 0 < length stack.old.frames }
-    ensures control { OnOk result (control.new ≡ control_of at.now next.now) }
-    ensures frames { OnOk result (stack.new ≡ record stack.old {
+/// Puts a frame behind the others, with a value beside it. Both have room.
+fn open_beside(stack: &mut Stack, frame: &Frame, value: &Value)
+    requires frames { length stack.old.frames < stack.old.most }
+    requires values { count_of_values stack.old.frames < stack.old.room }
+    ensures { stack.new ≡ record stack.old
+        { frames = stack.old.frames ++ framed frame.now (value.now ∷ []) ∷ [] } }
+{
+    pushed(stack, frame);
+    kept(stack, frame, value);
+}
+
+/// The same for what is done at the innermost frame, in whose place the new one is put.
+fn reopen(stack: &mut Stack, at: &Part, next: &Next, control: &mut Control)
+    requires some { 0 < length stack.old.frames }
+    requires values { count_of_values stack.old.frames < stack.old.room }
+    ensures control { control.new ≡ control_of at.now next.now }
+    ensures frames { stack.new ≡ record stack.old {
       frames = without_last stack.old.frames ++ frame_of at.now next.now
           (last_values stack.old.frames);
-    }) }
-    ensures kept { OnErr result ((stack.new ≡ stack.old) × (control.new ≡ control.old)) }
+    } }
 {
     match next {
         Next::End(c) => {
@@ -136,7 +149,7 @@ fn reopen(stack: &mut Stack, at: &Part, next: &Next, control: &mut Control) -> R
             *control = Control::Enter(at.inside(part));
         },
         Next::Keep(part, wait, v) => {
-            stack.keep(&waiting(at, wait), v)?;
+            kept(stack, &waiting(at, wait), v);
             *control = Control::Enter(at.inside(part));
         },
         Next::Call(part, node, wait) => {
@@ -145,7 +158,6 @@ fn reopen(stack: &mut Stack, at: &Part, next: &Next, control: &mut Control) -> R
             *control = called_control(&inside, *node);
         },
     }
-    Ok(())
 }
 
 /// The frame of a part that was called stands in place of the innermost one, where there is depth for it.
@@ -191,6 +203,7 @@ fn take_part<R: Rows, H: Host>(
     ensures run { OnOk result ((k : ℕ) → next_run H.answers (R.table rows.now) at.now next.new
         (left.new + k) heap.new host.new ≡ next_run H.answers (R.table rows.now) at.now next.old
         (left.old + k) heap.old host.old) }
+    ensures memory { OnErr result (IsTrue H.may_want_memory) }
     ensures less { IfOk result (λ taken. MatchBool taken (left.new < left.old) ⊤) }
     ensures within { left.new ≤ left.old }
     ensures fits { H.fits host.new heap.new }
@@ -201,7 +214,7 @@ fn take_part<R: Rows, H: Host>(
             match rows.at_once(heap, &at.inside(inner), *left) {
                 Some(done) => {
                     *left -= done.units;
-                    match rows.finish(heap, host, at, wait, &[], &done.completion) {
+                    match rows.finish(heap, host, at, wait, &[], &[], &done.completion) {
                         Ok(then) => {
                             *next = then;
                             Ok(true)
@@ -229,6 +242,7 @@ fn take_parts<R: Rows, H: Host>(
     ensures run { OnOk result ((k : ℕ) → next_run H.answers (R.table rows.now) at.now next.new
         (left.new + k) heap.new host.new ≡ next_run H.answers (R.table rows.now) at.now next.old
         (left.old + k) heap.old host.old) }
+    ensures memory { OnErr result (IsTrue H.may_want_memory) }
     ensures within { left.new ≤ left.old }
     ensures fits { H.fits host.new heap.new }
     ensures grows { Grows heap.old heap.new }
@@ -264,16 +278,20 @@ fn enter<R: Rows, H: Host>(
     requires fits { H.fits host.old heap.old }
     requires inside { IsInside stack.old.most (Control.Enter part.now) stack.old.frames }
     requires some { 0 < ahead.old.left }
+    requires room { count_of_values stack.old.frames < stack.old.room }
     ensures rest { OnOk result (SameRest H.answers (R.table rows.now)
         (Control.Enter part.now) stack.old.frames ahead.old.left heap.old host.old
         ahead.new.control stack.new.frames ahead.new.left heap.new host.new) }
     ensures weight { OnOk result (weight ahead.new.control stack.new.frames
         ≤ 2 * length stack.old.frames + 2) }
     ensures inside { OnOk result (IsInside stack.new.most ahead.new.control stack.new.frames) }
+    ensures values { OnOk result (most_values ahead.new.control stack.new.frames ahead.new.left
+        ≤ most_values (Control.Enter part.now) stack.old.frames ahead.old.left) }
     ensures kept { OnErr result ((stack.new ≡ stack.old)
         × (ahead.new.control ≡ ahead.old.control)) }
+    ensures memory { OnErr result (IsTrue H.may_want_memory) }
     ensures less { ahead.new.left < ahead.old.left }
-    ensures most { stack.new.most ≡ stack.old.most }
+    ensures most { (stack.new.most ≡ stack.old.most) × (stack.new.room ≡ stack.old.room) }
     ensures fits { H.fits host.new heap.new }
     ensures grows { Grows heap.old heap.new }
 {
@@ -307,14 +325,12 @@ fn begin<R: Rows, H: Host>(
     ensures run { OnOk result ((k : ℕ) → next_run H.answers (R.table rows.now) part.now next.new
         (left.new + k) heap.new host.new ≡ run H.answers (R.table rows.now) (part.now.room - 1)
         ((R.table rows.now).row part.now heap.old) (left.old + k) host.old) }
+    ensures memory { OnErr result (IsTrue H.may_want_memory) }
     ensures within { left.new ≤ left.old }
     ensures fits { H.fits host.new heap.new }
     ensures grows { Grows heap.old heap.new }
 {
-    match rows.begin(heap, part) {
-        Ok(first) => *next = first,
-        Err(NoMemory) => return Err(NoMemory),
-    }
+    *next = rows.begin(heap, part);
     take_parts(rows, heap, host, part, next, left)
 }
 
@@ -330,21 +346,63 @@ fn enter_row<R: Rows, H: Host>(
     requires fits { H.fits host.old heap.old }
     requires inside { IsInside stack.old.most (Control.Enter part.now) stack.old.frames }
     requires some { 0 < part.now.room }
+    requires room { count_of_values stack.old.frames < stack.old.room }
     ensures rest { OnOk result (SameRest H.answers (R.table rows.now)
         (Control.Enter part.now) stack.old.frames (ahead.old.left + 1) heap.old host.old
         ahead.new.control stack.new.frames ahead.new.left heap.new host.new) }
     ensures weight { OnOk result (weight ahead.new.control stack.new.frames
         ≤ 2 * length stack.old.frames + 2) }
     ensures inside { OnOk result (IsInside stack.new.most ahead.new.control stack.new.frames) }
+    ensures values { OnOk result (most_values ahead.new.control stack.new.frames ahead.new.left
+        ≤ most_values (Control.Enter part.now) stack.old.frames (ahead.old.left + 1)) }
     ensures kept { OnErr result ((stack.new ≡ stack.old)
         × (ahead.new.control ≡ ahead.old.control)) }
+    ensures memory { OnErr result (IsTrue H.may_want_memory) }
     ensures within { ahead.new.left ≤ ahead.old.left }
-    ensures most { stack.new.most ≡ stack.old.most }
+    ensures most { (stack.new.most ≡ stack.old.most) × (stack.new.room ≡ stack.old.room) }
     ensures fits { H.fits host.new heap.new }
     ensures grows { Grows heap.old heap.new }
 {
     begin(rows, heap, host, part, &mut ahead.next, &mut ahead.left)?;
-    open(stack, part, &ahead.next, &mut ahead.control)
+    open(stack, part, &ahead.next, &mut ahead.control);
+    Ok(())
+}
+
+/// What the innermost frame does with a completion, where values are beside it. For the time of the call the value of the
+/// completion stands behind them.
+fn finish_beside<R: Rows, H: Host>(
+    rows: &R,
+    heap: &mut Heap,
+    host: &mut H,
+    stack: &mut Stack,
+    frame: &Frame,
+    c: &Completion,
+) -> Result<Next, NoMemory>
+    requires fits { H.fits host.old heap.old }
+    requires frame { stack.old.frames ≡ without_last stack.old.frames
+        ++ framed frame.now (last_values stack.old.frames) ∷ [] }
+    requires room { count_of_values stack.old.frames < stack.old.room }
+    ensures row { IfOk result (λ next. (
+      as_row (R.table rows.now) frame.now.at next (last_values stack.old.frames) heap.new,
+      host.new,
+    ) ≡ settle H.answers ((R.table rows.now).rest
+        (framed frame.now (last_values stack.old.frames)) c.now heap.old) host.old) }
+    ensures stack { stack.new ≡ stack.old }
+    ensures memory { OnErr result (IsTrue H.may_want_memory) }
+    ensures fits { H.fits host.new heap.new }
+    ensures grows { Grows heap.old heap.new }
+{
+    match c {
+        Completion::Normal(v) => {
+            kept(stack, frame, v);
+            let all = stack.values();
+            let values = &all[..all.len() - 1];
+            let then = rows.finish(heap, host, &frame.at, &frame.wait, values, all, c);
+            stack.take_back(frame);
+            then
+        },
+        _ => rows.finish(heap, host, &frame.at, &frame.wait, stack.values(), &[], c),
+    }
 }
 
 /// A completion is given to the innermost frame; where there is none, nothing is done.
@@ -358,6 +416,7 @@ fn give<R: Rows, H: Host>(
 ) -> Result<bool, NoMemory>
     requires fits { H.fits host.old heap.old }
     requires inside { IsInside stack.old.most (Control.Give c.now) stack.old.frames }
+    requires room { count_of_values stack.old.frames < stack.old.room }
     ensures rest { IfOk result (λ given. MatchBool given
         (SameRest H.answers (R.table rows.now)
         (Control.Give c.now) stack.old.frames ahead.old.left heap.old host.old
@@ -368,10 +427,14 @@ fn give<R: Rows, H: Host>(
         (weight ahead.new.control stack.new.frames < weight (Control.Give c.now) stack.old.frames) ⊤) }
     ensures inside { IfOk result (λ given. MatchBool given
         (IsInside stack.new.most ahead.new.control stack.new.frames) ⊤) }
+    ensures values { IfOk result (λ given. MatchBool given
+        (most_values ahead.new.control stack.new.frames ahead.new.left
+        ≤ most_values (Control.Give c.now) stack.old.frames ahead.old.left) ⊤) }
     ensures kept { OnErr result ((stack.new ≡ stack.old)
         × (ahead.new.control ≡ ahead.old.control)) }
+    ensures memory { OnErr result (IsTrue H.may_want_memory) }
     ensures within { ahead.new.left ≤ ahead.old.left }
-    ensures most { stack.new.most ≡ stack.old.most }
+    ensures most { (stack.new.most ≡ stack.old.most) × (stack.new.room ≡ stack.old.room) }
     ensures fits { H.fits host.new heap.new }
     ensures grows { Grows heap.old heap.new }
 {
@@ -380,19 +443,64 @@ fn give<R: Rows, H: Host>(
         None => return Ok(false),
     };
     let at = frame.at;
-    let values = stack.values();
-    match rows.finish(heap, host, &at, &frame.wait, values, c) {
-        Ok(then) => ahead.next = then,
-        Err(NoMemory) => return Err(NoMemory),
+    if stack.values().is_empty() {
+        finish_alone(rows, heap, host, &at, &frame.wait, c, ahead)?;
+    } else {
+        let frame = *frame;
+        ahead.next = finish_beside(rows, heap, host, stack, &frame, c)?;
     }
-    if values.is_empty() {
-        take_parts(rows, heap, host, &at, &mut ahead.next, &mut ahead.left)?;
-    }
-    reopen(stack, &at, &ahead.next, &mut ahead.control)?;
+    reopen(stack, &at, &ahead.next, &mut ahead.control);
     Ok(true)
 }
 
-/// One step of a run, and whether there was one: none where no unit is left for a part, or the run is at its end.
+/// What a frame does with a completion, where no values are beside it, and after it the parts that are done at once.
+fn finish_alone<R: Rows, H: Host>(
+    rows: &R,
+    heap: &mut Heap,
+    host: &mut H,
+    at: &Part,
+    wait: &Wait,
+    c: &Completion,
+    ahead: &mut Ahead,
+) -> Result<(), NoMemory>
+    requires fits { H.fits host.old heap.old }
+    ensures run { OnOk result ((k : ℕ) → next_run H.answers (R.table rows.now) at.now
+        ahead.new.next (ahead.new.left + k) heap.new host.new
+        ≡ run H.answers (R.table rows.now) (at.now.room - 1)
+        ((R.table rows.now).rest (framed (waiting at.now wait.now) []) c.now heap.old)
+        (ahead.old.left + k) host.old) }
+    ensures control { ahead.new.control ≡ ahead.old.control }
+    ensures memory { OnErr result (IsTrue H.may_want_memory) }
+    ensures within { ahead.new.left ≤ ahead.old.left }
+    ensures fits { H.fits host.new heap.new }
+    ensures grows { Grows heap.old heap.new }
+{
+    match rows.finish(heap, host, at, wait, &[], &[], c) {
+        Ok(then) => ahead.next = then,
+        Err(NoMemory) => return Err(NoMemory),
+    }
+    take_parts(rows, heap, host, at, &mut ahead.next, &mut ahead.left)
+}
+
+/// Takes more room for values where each that there is holds one. A run for whose units there is room never gets here.
+fn spare(stack: &mut Stack) -> Result<(), NoMemory>
+    ensures ok { OnOk result (count_of_values stack.new.frames < stack.new.room) }
+    ensures frames { (stack.new.frames ≡ stack.old.frames) × (stack.new.most ≡ stack.old.most) }
+    ensures room { stack.old.room ≤ stack.new.room }
+    ensures kept { OnErr result (stack.new ≡ stack.old) }
+    ensures memory { OnErr result (stack.old.room ≤ count_of_values stack.old.frames) }
+{
+    if stack.count() < stack.room() {
+        return Ok(());
+    }
+    if stack.room() == u32::MAX {
+        return Err(NoMemory);
+    }
+    stack.reserve(stack.room().saturating_mul(2).saturating_add(1))
+}
+
+/// One step of a run, and whether there was one: none where no unit is left for a part, or the run is at its end. Memory is
+/// wanting where the host may want it, or for a value that has no room.
 fn step<R: Rows, H: Host>(
     rows: &R,
     heap: &mut Heap,
@@ -412,7 +520,11 @@ fn step<R: Rows, H: Host>(
         < 3 * ahead.old.left + weight ahead.old.control stack.old.frames) ⊤) }
     ensures within { ahead.new.left ≤ ahead.old.left }
     ensures inside { IsInside stack.new.most ahead.new.control stack.new.frames }
-    ensures most { stack.new.most ≡ stack.old.most }
+    ensures values { most_values ahead.new.control stack.new.frames ahead.new.left
+        ≤ most_values ahead.old.control stack.old.frames ahead.old.left }
+    ensures memory { OnErr result (WantsMemory H.may_want_memory stack.old.room
+        (most_values ahead.old.control stack.old.frames ahead.old.left)) }
+    ensures most { (stack.new.most ≡ stack.old.most) × (stack.old.room ≤ stack.new.room) }
     ensures fits { H.fits host.new heap.new }
     ensures grows { Grows heap.old heap.new }
 {
@@ -422,11 +534,13 @@ fn step<R: Rows, H: Host>(
                 return Ok(false);
             }
             let part = *part;
+            spare(stack)?;
             enter(rows, heap, host, stack, &part, ahead)?;
             Ok(true)
         },
         Control::Give(c) => {
             let c = *c;
+            spare(stack)?;
             give(rows, heap, host, stack, &c, ahead)
         },
         Control::Halted { .. } => Ok(false),
@@ -449,7 +563,11 @@ pub(crate) fn steps<R: Rows, H: Host>(
     ensures stands { OnOk result (Stands ahead.new.control stack.new.frames ahead.new.left) }
     ensures within { ahead.new.left ≤ ahead.old.left }
     ensures inside { IsInside stack.new.most ahead.new.control stack.new.frames }
-    ensures most { stack.new.most ≡ stack.old.most }
+    ensures values { most_values ahead.new.control stack.new.frames ahead.new.left
+        ≤ most_values ahead.old.control stack.old.frames ahead.old.left }
+    ensures memory { OnErr result (WantsMemory H.may_want_memory stack.old.room
+        (most_values ahead.old.control stack.old.frames ahead.old.left)) }
+    ensures most { (stack.new.most ≡ stack.old.most) × (stack.old.room ≤ stack.new.room) }
     ensures fits { H.fits host.new heap.new }
     ensures grows { Grows heap.old heap.new }
 {

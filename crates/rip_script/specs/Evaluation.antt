@@ -35,7 +35,7 @@ world_at_first limits = empty_world (record { cells = limits.cells; units = limi
 
 -- the evaluator before a program is loaded
 abbrev pub machine_at_first : RunLimits → Standing
-machine_at_first limits = record { control = Give (Normal Undefined); frames = []; fuel = 0; spent = 0; depth = limits.depth; literals = []; value_room = 0 }
+machine_at_first limits = record { control = Give (Normal Undefined); frames = []; fuel = 0; spent = 0; depth = limits.depth; literals = []; value_room = 1 }
 
 -- the world has the top scope, scope 0, and nothing else
 abbrev pub HasTopScope : RunLimits → Code → World → Type 0
@@ -57,7 +57,7 @@ empty_host = record {}
 pub record IsLoaded (limits : RunLimits) (code : Code) (w : World) (m : Standing) : Type 0 where
   pub before : World
   pub scope : HasTopScope limits code before
-  pub loads : Loads code limits.fuel before (machine_at_first limits) (Ok tt) w m
+  pub loads : Loads code before (machine_at_first limits) (Ok tt) w m
 
 -- the script, the only one of its program, stands at its beginning with all its fuel
 pub record IsStarted (limits : RunLimits) (code : Code) (w : World) (m : Standing) : Type 0 where
@@ -82,7 +82,7 @@ pub record IsNotLoaded (limits : RunLimits) (code : Code) (ended : Ended) : Type
   pub w : World
   pub scope : HasTopScope limits code w
   pub limit : Limit
-  pub loads : Loads code limits.fuel w (machine_at_first limits) (Err (At limit)) w (machine_at_first limits)
+  pub loads : Loads code w (machine_at_first limits) (Err (At limit)) w (machine_at_first limits)
   pub is : ended ≡ stopped limit w
 
 -- what is bound and charged at the beginning of the script would pass a limit

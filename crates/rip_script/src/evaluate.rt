@@ -71,7 +71,7 @@ fn begin(
 {
     heap.new_scope(alloc, None, program.top_names())?;
     let fuel = u64::from(limits.fuel);
-    machine.load(alloc, program, heap, fuel)?;
+    machine.load(alloc, program, heap)?;
     machine.start(alloc, program, heap, script, fuel)
 }
 

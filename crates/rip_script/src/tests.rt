@@ -107,7 +107,7 @@ fn begun(alloc: Global, program: &Program) -> Result<(Heap, Machine), Fail> {
     let mut heap = Heap::make(alloc, HEAP)?;
     let mut machine = Machine::make(alloc, DEPTH)?;
     heap.new_scope(alloc, None, program.top_names())?;
-    machine.load(alloc, program, &mut heap, FUEL)?;
+    machine.load(alloc, program, &mut heap)?;
     machine.start(alloc, program, &mut heap, &Start::Script(1), FUEL)?;
     Ok((heap, machine))
 }

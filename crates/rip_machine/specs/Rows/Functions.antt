@@ -105,28 +105,3 @@ function_entered p f scope args w =
     if nat_le (w.cells + cost_of_entering p f (length args)) w.limit
     then option_and_then (scope_filled p f args) (scope_made p f scope (length args) w)
     else None
-
--- IN TWO STEPS: the functions are made, and then bound. No public clause cites these
-
--- the functions that are declared among these nodes
-abbrev pub declared_in : Loaded → List ℕ → List ℕ
-declared_in p [] = []
-declared_in p (f ∷ fs) = if is_declaration (form_of p f) then f ∷ declared_in p fs else declared_in p fs
-
--- these functions are made, one behind the other
-abbrev pub functions_made : ℕ → List ℕ → World → Option World
-functions_made scope [] w = Some w
-functions_made scope (f ∷ fs) w = option_and_then (λ made. functions_made scope fs made.1) (new_function w f scope)
-
--- these functions are bound, the first of which has this number; each is made behind its own `prototype`
-abbrev pub functions_bound : Loaded → ℕ → List ℕ → ℕ → World → World
-functions_bound p scope [] n w = w
-functions_bound p scope (f ∷ fs) n w = functions_bound p scope fs (n + 2) (bound w scope (scoping p f).resolved (Object n))
-
--- the new scope with these functions, none of which is bound
-abbrev pub scope_with : List ℕ → ℕ × World → Option (ℕ × World)
-scope_with fs made = option_map (λ x. (made.0, x)) (functions_made made.0 fs made.1)
-
--- where arguments are charged and a scope with so many names is made
-abbrev pub scope_charged : ℕ → ℕ → ℕ → World → Option (ℕ × World)
-scope_charged outer names args w = option_and_then (λ x. new_scope x (Some outer) names) (charging args w (λ x. x))

@@ -1,4 +1,4 @@
-ghost use Rattle.std.specs.Prelude.{◌≡◌, MatchOption, Ok};
+ghost use Rattle.std.specs.Prelude.{◌≡◌, MatchOption};
 ghost use Rattle.rip_values.specs.declared.value.Value.{Value as ScriptValue};
 ghost use Rattle.rip_heap.specs.World.{World};
 ghost use Rattle.rip_heap.specs.Conversions.{boolean_of};
@@ -8,7 +8,8 @@ use rip_heap::{Heap, to_boolean};
 use rip_runs::{Completion, HostedWait, Inner, Next, OwnWait, Stop, Wait};
 use rip_values::{NoMemory, Value};
 
-/// What a row function answers: what the part does next. A limit of 32 bits that nothing else meets is want of memory.
+/// What a row function answers that may ask the host: what the part does next. Memory is wanting only where the host may want
+/// it.
 pub(crate) type Answer = Result<Next, NoMemory>;
 
 /// The value of a normal completion; any other ends the row.
@@ -23,45 +24,45 @@ pub(crate) fn value_of(c: &Completion) -> Option<Value>
 }
 
 /// The row ends with a value.
-pub(crate) fn give(v: Value) -> Answer
-    ensures { result ≡ Ok (Next.End (Completion.Normal v)) }
+pub(crate) fn give(v: Value) -> Next
+    ensures { result ≡ Next.End (Completion.Normal v) }
 {
-    Ok(Next::End(Completion::Normal(v)))
+    Next::End(Completion::Normal(v))
 }
 
 /// The row ends with a completion.
-pub(crate) fn end(c: &Completion) -> Answer
-    ensures { result ≡ Ok (Next.End c.now) }
+pub(crate) fn end(c: &Completion) -> Next
+    ensures { result ≡ Next.End c.now }
 {
-    Ok(Next::End(*c))
+    Next::End(*c)
 }
 
 /// The row waits for this part.
-pub(crate) fn ask(part: Inner, wait: OwnWait) -> Answer
-    ensures { result ≡ Ok (Next.Ask part (Wait.Own wait)) }
+pub(crate) fn ask(part: Inner, wait: OwnWait) -> Next
+    ensures { result ≡ Next.Ask part (Wait.Own wait) }
 {
-    Ok(Next::Ask(part, Wait::Own(wait)))
+    Next::Ask(part, Wait::Own(wait))
 }
 
 /// The same, where the host may be asked next.
-pub(crate) fn ask_hosted(part: Inner, wait: HostedWait) -> Answer
-    ensures { result ≡ Ok (Next.Ask part (Wait.Hosted wait)) }
+pub(crate) fn ask_hosted(part: Inner, wait: HostedWait) -> Next
+    ensures { result ≡ Next.Ask part (Wait.Hosted wait) }
 {
-    Ok(Next::Ask(part, Wait::Hosted(wait)))
+    Next::Ask(part, Wait::Hosted(wait))
 }
 
 /// The row waits for this part of a turn of a loop.
-pub(crate) fn turn(part: Inner, wait: OwnWait) -> Answer
-    ensures { result ≡ Ok (Next.Turn part (Wait.Own wait)) }
+pub(crate) fn turn(part: Inner, wait: OwnWait) -> Next
+    ensures { result ≡ Next.Turn part (Wait.Own wait) }
 {
-    Ok(Next::Turn(part, Wait::Own(wait)))
+    Next::Turn(part, Wait::Own(wait))
 }
 
 /// The run stops.
-pub(crate) fn halt(stop: Stop) -> Answer
-    ensures { result ≡ Ok (Next.Halt stop) }
+pub(crate) fn halt(stop: Stop) -> Next
+    ensures { result ≡ Next.Halt stop }
 {
-    Ok(Next::Halt(stop))
+    Next::Halt(stop)
 }
 
 /// Whether a value counts as true (ECMA-262 9.2).

@@ -1,4 +1,4 @@
-ghost use Rattle.std.specs.Prelude.{◌≡◌, [], pos, IfOk};
+ghost use Rattle.std.specs.Prelude.{◌≡◌, [], pos, IfOk, IsTrue, OnErr};
 ghost use Rattle.rip_heap.specs.Growth.{Grows};
 ghost use Rattle.rip_machine.specs.Does.{DoesPurely, DoesWithHost, GivesValue};
 ghost use Rattle.rip_machine.specs.Reading.{part_at};
@@ -34,6 +34,7 @@ fn read_target<H: Host>(
     requires { H.fits host.old heap.old }
     ensures read { IfOk result (λ answer. GivesValue H.answers answer heap.new host.new
         (read_target p.now at.now target.now heap.old) host.old) }
+    ensures memory { OnErr result (IsTrue H.may_want_memory) }
     ensures fits { H.fits host.new heap.new }
     ensures grows { Grows heap.old heap.new }
 {
@@ -41,7 +42,7 @@ fn read_target<H: Host>(
         Some(member) => read_value(p.alloc(), heap, host, &member.base, member.key),
         None => match target_found(p, heap, at) {
             Some(v) => Ok(Ok(v)),
-            None => Ok(Err(throw(p.alloc(), heap, Class::ThrownReferenceError)?)),
+            None => Ok(Err(throw(p.alloc(), heap, Class::ThrownReferenceError))),
         },
     }
 }
@@ -60,28 +61,29 @@ fn writes<H: Host>(
     requires { H.fits host.old heap.old }
     ensures row { DoesWithHost H.answers p.now at.now result heap.new host.new
         (writes p.now at.now target.now v.now given.now heap.old) host.old }
+    ensures memory { OnErr result (IsTrue H.may_want_memory) }
     ensures fits { H.fits host.new heap.new }
     ensures grows { Grows heap.old heap.new }
 {
     match target {
         Some(member) => match write_value(p.alloc(), heap, host, &member.base, member.key, v)? {
-            Ok(()) => give(*given),
+            Ok(()) => Ok(give(*given)),
             Err(next) => Ok(next),
         },
         None => match write(heap, at.scope, p.scoping(p.child(at.node, 0)), *v) {
-            Ok(()) => give(*given),
-            Err(class) => throw(p.alloc(), heap, class),
+            Ok(()) => Ok(give(*given)),
+            Err(class) => Ok(throw(p.alloc(), heap, class)),
         },
     }
 }
 
-pub(crate) fn begin_assign(p: &Source, at: &Part) -> Answer
+pub(crate) fn begin_assign(p: &Source, at: &Part) -> Next
     ensures row { DoesPurely p.now at.now result (assign_row p.now at.now) }
 {
     ask(p.target_at(at, 0), OwnWait::AssignTarget)
 }
 
-pub(crate) fn after_assign_target(p: &Source, at: &Part, c: &Completion) -> Answer
+pub(crate) fn after_assign_target(p: &Source, at: &Part, c: &Completion) -> Next
     ensures row { DoesPurely p.now at.now result
         (own_rest p.now at.now OwnWait.AssignTarget [] c.now) }
 {
@@ -103,16 +105,17 @@ pub(crate) fn after_assign_value<H: Host>(
     requires { H.fits host.old heap.old }
     ensures row { DoesWithHost H.answers p.now at.now result heap.new host.new
         (hosted_rest p.now at.now (HostedWait.AssignValue target.now) [] c.now heap.old) host.old }
+    ensures memory { OnErr result (IsTrue H.may_want_memory) }
     ensures fits { H.fits host.new heap.new }
     ensures grows { Grows heap.old heap.new }
 {
     match value_of(c) {
         Some(v) => writes(p, heap, host, at, target, &v, &v),
-        None => end(c),
+        None => Ok(end(c)),
     }
 }
 
-pub(crate) fn begin_compound(p: &Source, at: &Part) -> Answer
+pub(crate) fn begin_compound(p: &Source, at: &Part) -> Next
     ensures row { DoesPurely p.now at.now result (compound_row p.now at.now) }
 {
     ask_hosted(p.target_at(at, 0), HostedWait::CompoundTarget)
@@ -129,20 +132,21 @@ pub(crate) fn after_compound_target<H: Host>(
     requires { H.fits host.old heap.old }
     ensures row { DoesWithHost H.answers p.now at.now result heap.new host.new
         (hosted_rest p.now at.now HostedWait.CompoundTarget [] c.now heap.old) host.old }
+    ensures memory { OnErr result (IsTrue H.may_want_memory) }
     ensures fits { H.fits host.new heap.new }
     ensures grows { Grows heap.old heap.new }
 {
     match target_of(c) {
         Ok(target) => match read_target(p, heap, host, at, &target)? {
-            Ok(old) => compound_right(p, at, target, old),
+            Ok(old) => Ok(compound_right(p, at, target, old)),
             Err(next) => Ok(next),
         },
-        Err(other) => end(&other),
+        Err(other) => Ok(end(&other)),
     }
 }
 
 /// The right side, beside which the target and its value stand.
-fn compound_right(p: &Source, at: &Part, target: Option<Reference>, old: Value) -> Answer
+fn compound_right(p: &Source, at: &Part, target: Option<Reference>, old: Value) -> Next
     ensures row { DoesPurely p.now at.now result
         (λ w. Asks (part_at p.now at.now 1) w (compound_value p.now at.now target old)) }
 {
@@ -163,19 +167,20 @@ pub(crate) fn after_compound_value<H: Host>(
     ensures row { DoesWithHost H.answers p.now at.now result heap.new host.new
         (hosted_rest p.now at.now (HostedWait.CompoundValue target.now old.now) [] c.now heap.old)
         host.old }
+    ensures memory { OnErr result (IsTrue H.may_want_memory) }
     ensures fits { H.fits host.new heap.new }
     ensures grows { Grows heap.old heap.new }
 {
     match value_of(c) {
         Some(right) => match binary(p.alloc(), heap, p.operator(at.node), *old, right) {
             Ok(v) => writes(p, heap, host, at, target, &v, &v),
-            Err(cause) => abrupt(p.alloc(), heap, cause),
+            Err(cause) => Ok(abrupt(p.alloc(), heap, cause)),
         },
-        None => end(c),
+        None => Ok(end(c)),
     }
 }
 
-pub(crate) fn begin_step(p: &Source, at: &Part) -> Answer
+pub(crate) fn begin_step(p: &Source, at: &Part) -> Next
     ensures row { DoesPurely p.now at.now result (step_row p.now at.now) }
 {
     ask_hosted(p.target_at(at, 0), HostedWait::StepTarget)
@@ -192,6 +197,7 @@ pub(crate) fn after_step_target<H: Host>(
     requires { H.fits host.old heap.old }
     ensures row { DoesWithHost H.answers p.now at.now result heap.new host.new
         (hosted_rest p.now at.now HostedWait.StepTarget [] c.now heap.old) host.old }
+    ensures memory { OnErr result (IsTrue H.may_want_memory) }
     ensures fits { H.fits host.new heap.new }
     ensures grows { Grows heap.old heap.new }
 {
@@ -200,7 +206,7 @@ pub(crate) fn after_step_target<H: Host>(
             Ok(v) => stepped(p, heap, host, at, &target, v),
             Err(next) => Ok(next),
         },
-        Err(other) => end(&other),
+        Err(other) => Ok(end(&other)),
     }
 }
 
@@ -217,12 +223,13 @@ fn stepped<H: Host>(
     requires { H.fits host.old heap.old }
     ensures row { DoesWithHost H.answers p.now at.now result heap.new host.new
         (stepped p.now at.now target.now v heap.old) host.old }
+    ensures memory { OnErr result (IsTrue H.may_want_memory) }
     ensures fits { H.fits host.new heap.new }
     ensures grows { Grows heap.old heap.new }
 {
     let (old, new) = match numbers_of_step(heap, p.step_operator(at.node), v) {
         Ok(numbers) => numbers,
-        Err(fault) => return halt(Stop::Fault(fault)),
+        Err(fault) => return Ok(halt(Stop::Fault(fault))),
     };
     let given = if p.is_postfix(at.node) { old } else { new };
     writes(p, heap, host, at, target, &new, &given)

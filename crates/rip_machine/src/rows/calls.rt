@@ -1,7 +1,9 @@
-ghost use Rattle.std.specs.Prelude.{◌≡◌, [], length, IfOk, List, MatchOption, MatchResult, ◌-◌, ◌<◌};
+ghost use Rattle.std.specs.Prelude.{◌≡◌, ◌-◌, ◌<◌, ◌++◌, ◌∷◌, [], drop, length, slice_index_or, IsTrue, MatchOption, MatchResult, OnErr};
 ghost use Rattle.rip_values.specs.declared.value.Value.{Value as ScriptValue};
+ghost use Rattle.rip_values.specs.declared.value.Value.TheVariants.{Undefined};
 ghost use Rattle.rip_heap.specs.Growth.{Grows};
 ghost use Rattle.rip_heap.specs.World.{World};
+ghost use Rattle.rip_runs.specs.Room.{AreTogether};
 ghost use Rattle.rip_runs.specs.Row.{Ends, Halts, Row};
 ghost use Rattle.rip_machine.specs.Does.{Does, DoesPurely, DoesAnywhere, DoesWithHost, DoesBesideWithHost, DoesAnywhereWithHost};
 ghost use Rattle.rip_values.specs.Builtins.{number_of};
@@ -15,7 +17,6 @@ ghost use Rattle.rip_machine.specs.Rows.Statements.{statements};
 ghost use Rattle.rip_runs.specs.Frame.{inside};
 
 use crate::rows::answers::{Answer, ask_hosted, end, give, halt, value_of};
-use crate::rows::arguments::Arguments;
 use crate::rows::functions::{enter_function, parameters};
 use crate::rows::host::ask_call;
 use crate::rows::names::{abrupt, throw};
@@ -25,8 +26,9 @@ use rip_builtins::builtin;
 use rip_heap::{Class, Heap, Host};
 use rip_members::builtin_of;
 use rip_runs::{Completion, Ending, HostedWait, Inner, Next, OwnWait, Part, Role, Stop, Wait};
-use rip_values::{Builtin, BuiltinHome, Fault, Limit, NoMemory, Value};
+use rip_values::{Builtin, BuiltinHome, Fault, Limit, Value};
 use std::alloc::Global;
+use std::slice;
 
 /// What a value is as a callee.
 #[derive(Clone, Copy, Debug, PartialEq, Eq)]
@@ -105,9 +107,9 @@ pub(crate) fn enter(
     at: &Part,
     function: (u32, u32),
     this: &Value,
-    args: &Arguments,
+    args: &[Value],
     ending: Ending,
-) -> Answer
+) -> Next
     ensures row { Does p.now at.now result heap.new
         (enters p.now at.now function.0 function.1 this.now args.now ending heap.old) }
     ensures grows { Grows heap.old heap.new }
@@ -116,26 +118,26 @@ pub(crate) fn enter(
         return halt(Stop::Limit(Limit::Depth));
     }
     let (f, scope) = function;
-    match enter_function(p, heap, f, scope, args)? {
+    match enter_function(p, heap, f, scope, args) {
         Some(made) => call_statements(p, at, &running(f, made, this), ending),
         None => halt(Stop::Limit(Limit::Cells)),
     }
 }
 
 /// The statements of a function that runs inside the open part.
-pub(crate) fn call_statements(p: &Source, at: &Part, function: &Inner, ending: Ending) -> Answer
+pub(crate) fn call_statements(p: &Source, at: &Part, function: &Inner, ending: Ending) -> Next
     requires { 0 < at.now.room - 1 }
     ensures row { DoesPurely p.now at.now result
         (statements p.now (inside at.now function.now) ending (body p.now function.now.node)) }
 {
     let running = at.inside(function);
-    match first_statement(p, &running, parameters(p, function.node))? {
+    match first_statement(p, &running, parameters(p, function.node)) {
         Some(s) => {
             let wait = OwnWait::Statement {
                 place: s.place,
                 ending,
             };
-            Ok(Next::Call(*function, s.node, Wait::Own(wait)))
+            Next::Call(*function, s.node, Wait::Own(wait))
         },
         None => end(&ended(ending, Completion::Normal(Value::Undefined))),
     }
@@ -144,21 +146,17 @@ pub(crate) fn call_statements(p: &Source, at: &Part, function: &Inner, ending: E
 // BUILT-IN FUNCTIONS
 
 /// Charges the arguments of a built-in function, or answers the limit at which the run stops.
-pub(crate) fn charge(heap: &mut Heap, args: &Arguments) -> Result<Result<(), Limit>, NoMemory>
-    ensures charged { IfOk result (λ r. MatchResult r
+pub(crate) fn charge(heap: &mut Heap, args: &[Value]) -> Result<(), Limit>
+    ensures charged { MatchResult result
         (λ _. (go : World → Row) → charged (length args.now) heap.old go ≡ go heap.new)
         (λ limit. (go : World → Row) → charged (length args.now) heap.old go
-        ≡ Halts (Stop.Limit limit) heap.new)) }
+        ≡ Halts (Stop.Limit limit) heap.new) }
     ensures grows { Grows heap.old heap.new }
 {
-    let count = args.count();
-    if count > u32::MAX as usize {
-        return Err(NoMemory);
+    if args.len() > heap.free_cells() as usize {
+        return Err(Limit::Cells);
     }
-    match heap.charge(count as u32) {
-        Ok(()) => Ok(Ok(())),
-        Err(limit) => Ok(Err(limit)),
-    }
+    heap.charge(args.len() as u32)
 }
 
 /// What the table of built-in functions answers.
@@ -167,21 +165,8 @@ pub(crate) fn call_table(
     heap: &mut Heap,
     b: Builtin,
     this: &Value,
-    args: &Arguments,
-) -> Answer
-    ensures row { DoesAnywhere result heap.new (with_outcome (builtin heap.old b this.now args.now)
-        heap.old gives) }
-    ensures grows { Grows heap.old heap.new }
-{
-    if let Some(list) = args.side_by_side() {
-        return answer_table(alloc, heap, b, this, list);
-    }
-    let list = args.to_vec(alloc)?;
-    answer_table(alloc, heap, b, this, list.as_slice())
-}
-
-/// The same of arguments in a list.
-fn answer_table(alloc: Global, heap: &mut Heap, b: Builtin, this: &Value, args: &[Value]) -> Answer
+    args: &[Value],
+) -> Next
     ensures row { DoesAnywhere result heap.new (with_outcome (builtin heap.old b this.now args.now)
         heap.old gives) }
     ensures grows { Grows heap.old heap.new }
@@ -193,7 +178,7 @@ fn answer_table(alloc: Global, heap: &mut Heap, b: Builtin, this: &Value, args: 
 }
 
 /// `call` is a call of functions of the script alone.
-fn call_on_other(alloc: Global, heap: &mut Heap, this: &Value) -> Answer
+fn call_on_other(alloc: Global, heap: &mut Heap, this: &Value) -> Next
     ensures row { DoesAnywhere result heap.new (call_on_other this.now heap.old) }
     ensures grows { Grows heap.old heap.new }
 {
@@ -203,17 +188,27 @@ fn call_on_other(alloc: Global, heap: &mut Heap, this: &Value) -> Answer
     }
 }
 
+/// The first argument, which is undefined where it is missing, and the others.
+fn first_and_rest(args: &[Value]) -> (Value, &[Value])
+    ensures first { result.0 ≡ slice_index_or args.now 0 Undefined }
+    ensures rest { result.1.now ≡ drop 1 args.now }
+{
+    if args.is_empty() {
+        return (Value::Undefined, &[]);
+    }
+    (args[0], &args[1..])
+}
+
 /// The call that `call` makes, with its first argument as `this`.
-fn call_through(p: &Source, heap: &mut Heap, at: &Part, this: &Value, args: &Arguments) -> Answer
+fn call_through(p: &Source, heap: &mut Heap, at: &Part, this: &Value, args: &[Value]) -> Next
     ensures row { Does p.now at.now result heap.new
         (call_through p.now at.now (callable heap.old this.now) this.now args.now heap.old) }
     ensures grows { Grows heap.old heap.new }
 {
     match callable(heap, this) {
         Invocable::OfScript(f, scope) => {
-            let first = args.get(0);
-            let rest = args.rest();
-            enter(p, heap, at, (f, scope), &first, &rest, Ending::Call)
+            let (first, rest) = first_and_rest(args);
+            enter(p, heap, at, (f, scope), &first, rest, Ending::Call)
         },
         _ => call_on_other(p.alloc(), heap, this),
     }
@@ -227,17 +222,18 @@ fn answer_builtin<H: Host>(
     at: &Part,
     b: Builtin,
     this: &Value,
-    args: &Arguments,
+    args: &[Value],
 ) -> Answer
     requires { H.fits host.old heap.old }
     ensures row { DoesWithHost H.answers p.now at.now result heap.new host.new
         (answered_by p.now at.now (answerer_of b) b this.now args.now heap.old) host.old }
+    ensures memory { OnErr result (IsTrue H.may_want_memory) }
     ensures fits { H.fits host.new heap.new }
     ensures grows { Grows heap.old heap.new }
 {
     match answerer_of(b) {
-        Answerer::Evaluator => call_through(p, heap, at, this, args),
-        Answerer::BuiltinTable => call_table(p.alloc(), heap, b, this, args),
+        Answerer::Evaluator => Ok(call_through(p, heap, at, this, args)),
+        Answerer::BuiltinTable => Ok(call_table(p.alloc(), heap, b, this, args)),
         Answerer::HostItself => call_host(p.alloc(), heap, host, b, this, args),
     }
 }
@@ -250,17 +246,18 @@ fn call_builtin<H: Host>(
     at: &Part,
     b: Builtin,
     this: &Value,
-    args: &Arguments,
+    args: &[Value],
 ) -> Answer
     requires { H.fits host.old heap.old }
     ensures row { DoesWithHost H.answers p.now at.now result heap.new host.new
         (builtin_called p.now at.now b this.now args.now heap.old) host.old }
+    ensures memory { OnErr result (IsTrue H.may_want_memory) }
     ensures fits { H.fits host.new heap.new }
     ensures grows { Grows heap.old heap.new }
 {
-    match charge(heap, args)? {
+    match charge(heap, args) {
         Ok(()) => answer_builtin(p, heap, host, at, b, this, args),
-        Err(limit) => halt(Stop::Limit(limit)),
+        Err(limit) => Ok(halt(Stop::Limit(limit))),
     }
 }
 
@@ -278,37 +275,15 @@ pub(crate) fn after_called<H: Host>(
     ensures row { DoesBesideWithHost H.answers p.now at.now values.now result heap.new host.new
         (answered_by p.now at.now (answerer_of function) function this.now values.now heap.old)
         host.old }
+    ensures memory { OnErr result (IsTrue H.may_want_memory) }
     ensures fits { H.fits host.new heap.new }
     ensures grows { Grows heap.old heap.new }
 {
-    let args = Arguments { values, last: None };
-    answer_builtin(p, heap, host, at, function, this, &args)
+    answer_builtin(p, heap, host, at, function, this, values)
 }
 
 /// What the host answers.
 fn call_host<H: Host>(
-    alloc: Global,
-    heap: &mut Heap,
-    host: &mut H,
-    b: Builtin,
-    this: &Value,
-    args: &Arguments,
-) -> Answer
-    requires { H.fits host.old heap.old }
-    ensures row { DoesAnywhereWithHost H.answers result heap.new host.new
-        (asks_call (number_of b) this.now args.now heap.old gives) host.old }
-    ensures fits { H.fits host.new heap.new }
-    ensures grows { Grows heap.old heap.new }
-{
-    if let Some(list) = args.side_by_side() {
-        return ask_host(alloc, heap, host, b, this, list);
-    }
-    let list = args.to_vec(alloc)?;
-    ask_host(alloc, heap, host, b, this, list.as_slice())
-}
-
-/// The same of arguments in a list.
-fn ask_host<H: Host>(
     alloc: Global,
     heap: &mut Heap,
     host: &mut H,
@@ -319,16 +294,29 @@ fn ask_host<H: Host>(
     requires { H.fits host.old heap.old }
     ensures row { DoesAnywhereWithHost H.answers result heap.new host.new
         (asks_call (number_of b) this.now args.now heap.old gives) host.old }
+    ensures memory { OnErr result (IsTrue H.may_want_memory) }
     ensures fits { H.fits host.new heap.new }
     ensures grows { Grows heap.old heap.new }
 {
     match ask_call(alloc, heap, host, b.number(), *this, args)? {
-        Ok(v) => give(v),
+        Ok(v) => Ok(give(v)),
         Err(next) => Ok(next),
     }
 }
 
 // CALLS
+
+/// The arguments of a call, the last of which has come: all of them, where others are beside the frame.
+pub(crate) fn arguments<'a>(values: &'a [Value], v: &'a Value, all: &'a [Value]) -> &'a [Value]
+    requires { 0 < length values.now
+        → AreTogether values.now (Completion.Normal v.now) all.now }
+    ensures { result.now ≡ values.now ++ v.now ∷ [] }
+{
+    if values.is_empty() {
+        return slice::from_ref(v);
+    }
+    all
+}
 
 /// The call of a value on `this` with these arguments.
 fn called<H: Host>(
@@ -338,20 +326,21 @@ fn called<H: Host>(
     at: &Part,
     callee: &Value,
     this: &Value,
-    args: &Arguments,
+    args: &[Value],
 ) -> Answer
     requires { H.fits host.old heap.old }
     ensures row { DoesWithHost H.answers p.now at.now result heap.new host.new
         (called p.now at.now callee.now this.now args.now heap.old) host.old }
+    ensures memory { OnErr result (IsTrue H.may_want_memory) }
     ensures fits { H.fits host.new heap.new }
     ensures grows { Grows heap.old heap.new }
 {
     match callable(heap, callee) {
         Invocable::OfScript(f, scope) => {
-            enter(p, heap, at, (f, scope), this, args, Ending::Call)
+            Ok(enter(p, heap, at, (f, scope), this, args, Ending::Call))
         },
         Invocable::OfBuiltin(b) => call_builtin(p, heap, host, at, b, this, args),
-        Invocable::NotCallable => throw(p.alloc(), heap, Class::ThrownTypeError),
+        Invocable::NotCallable => Ok(throw(p.alloc(), heap, Class::ThrownTypeError)),
     }
 }
 
@@ -366,7 +355,7 @@ fn callee(p: &Source, at: &Part) -> Inner
     }
 }
 
-pub(crate) fn begin_call(p: &Source, at: &Part) -> Answer
+pub(crate) fn begin_call(p: &Source, at: &Part) -> Next
     ensures row { DoesPurely p.now at.now result (call_row p.now at.now) }
 {
     ask_hosted(callee(p, at), HostedWait::Callee)
@@ -410,12 +399,13 @@ pub(crate) fn after_callee<H: Host>(
     requires { H.fits host.old heap.old }
     ensures row { DoesWithHost H.answers p.now at.now result heap.new host.new
         (hosted_rest p.now at.now HostedWait.Callee [] c.now heap.old) host.old }
+    ensures memory { OnErr result (IsTrue H.may_want_memory) }
     ensures fits { H.fits host.new heap.new }
     ensures grows { Grows heap.old heap.new }
 {
     let method = match method_of(c) {
         Some(method) => method,
-        None => return end(c),
+        None => return Ok(end(c)),
     };
     match p.child_at(at.node, 1) {
         Some(a) => {
@@ -424,15 +414,9 @@ pub(crate) fn after_callee<H: Host>(
                 callee: method.function,
                 this: method.this,
             };
-            ask_hosted(at.inner(a), wait)
+            Ok(ask_hosted(at.inner(a), wait))
         },
-        None => {
-            let args = Arguments {
-                values: &[],
-                last: None,
-            };
-            called(p, heap, host, at, &method.function, &method.this, &args)
-        },
+        None => { called(p, heap, host, at, &method.function, &method.this, &[]) },
     }
 }
 
@@ -446,20 +430,20 @@ pub(crate) fn after_argument<H: Host>(
     callee: &Value,
     this: &Value,
     values: &[Value],
+    all: &[Value],
     c: &Completion,
 ) -> Answer
-    requires { H.fits host.old heap.old }
+    requires fits { H.fits host.old heap.old }
+    requires all { 0 < length values.now → AreTogether values.now c.now all.now }
     ensures row { DoesBesideWithHost H.answers p.now at.now values.now result heap.new host.new
         (hosted_rest p.now at.now (HostedWait.Argument place callee.now this.now) values.now c.now
         heap.old) host.old }
+    ensures memory { OnErr result (IsTrue H.may_want_memory) }
     ensures fits { H.fits host.new heap.new }
     ensures grows { Grows heap.old heap.new }
 {
-    if place > u32::MAX - 2 {
-        return Err(NoMemory);
-    }
     match value_of(c) {
-        Some(v) => match p.child_at(at.node, place + 2) {
+        Some(v) => match p.child_at(at.node, p.behind(place, 2)) {
             Some(a) => {
                 let wait = HostedWait::Argument {
                     place: place + 1,
@@ -469,13 +453,10 @@ pub(crate) fn after_argument<H: Host>(
                 Ok(Next::Keep(at.inner(a), Wait::Hosted(wait), v))
             },
             None => {
-                let args = Arguments {
-                    values,
-                    last: Some(v),
-                };
-                called(p, heap, host, at, callee, this, &args)
+                let args = arguments(values, &v, all);
+                called(p, heap, host, at, callee, this, args)
             },
         },
-        None => end(c),
+        None => Ok(end(c)),
     }
 }

@@ -1,18 +1,18 @@
-ghost use Rattle.std.specs.Prelude.{◌≡◌, []};
+ghost use Rattle.std.specs.Prelude.{◌≡◌, ◌<◌, [], length};
 ghost use Rattle.rip_heap.specs.Growth.{Grows};
 ghost use Rattle.rip_machine.specs.Does.{Does, DoesPurely, DoesBeside, DoesAnywhere};
 ghost use Rattle.rip_machine.specs.Rows.Constructing.{constructed_from, constructs, made_by, making_of, new_row, plain_prototype, prototype_of};
 ghost use Rattle.rip_machine.specs.Table.{own_rest};
+ghost use Rattle.rip_runs.specs.Room.{AreTogether};
 
-use crate::rows::answers::{Answer, ask, end, halt, value_of};
-use crate::rows::arguments::Arguments;
-use crate::rows::calls::{Invocable, call_table, callable, charge, enter};
+use crate::rows::answers::{ask, end, halt, value_of};
+use crate::rows::calls::{Invocable, arguments, call_table, callable, charge, enter};
 use crate::rows::names::throw;
 use crate::source::Source;
 use rip_heap::{Class, Heap};
 use rip_members::{Base, base_of};
 use rip_runs::{Completion, Ending, Next, OwnWait, Part, Stop, Wait};
-use rip_values::{Builtin, Fault, FixedText, NoMemory, Refused, Value};
+use rip_values::{Builtin, Fault, FixedText, Refused, Value};
 use std::alloc::Global;
 
 /// What `new` makes of a built-in function.
@@ -68,8 +68,8 @@ fn construct(
     at: &Part,
     function: (u32, u32),
     proto: Result<Option<u32>, Fault>,
-    args: &Arguments,
-) -> Answer
+    args: &[Value],
+) -> Next
     ensures row { Does p.now at.now result heap.new
         (constructed_from p.now at.now function.0 function.1 args.now proto heap.old) }
     ensures grows { Grows heap.old heap.new }
@@ -85,17 +85,17 @@ fn construct(
             enter(p, heap, at, function, &this, args, ending)
         },
         Err(Refused::Limit(limit)) => halt(Stop::Limit(limit)),
-        Err(Refused::Memory) => Err(NoMemory),
+        Err(Refused::Memory) => unreachable!(),
     }
 }
 
 /// What `new` makes of a built-in function.
-fn construct_builtin(alloc: Global, heap: &mut Heap, b: Builtin, args: &Arguments) -> Answer
+fn construct_builtin(alloc: Global, heap: &mut Heap, b: Builtin, args: &[Value]) -> Next
     ensures row { DoesAnywhere result heap.new (made_by (making_of b) b args.now heap.old) }
     ensures grows { Grows heap.old heap.new }
 {
     match making_of(b) {
-        Making::Errors => match charge(heap, args)? {
+        Making::Errors => match charge(heap, args) {
             Ok(()) => call_table(alloc, heap, b, &Value::Undefined, args),
             Err(limit) => halt(Stop::Limit(limit)),
         },
@@ -105,13 +105,7 @@ fn construct_builtin(alloc: Global, heap: &mut Heap, b: Builtin, args: &Argument
 }
 
 /// What `new` makes of a value with these arguments.
-fn constructs(
-    p: &Source,
-    heap: &mut Heap,
-    at: &Part,
-    constructor: &Value,
-    args: &Arguments,
-) -> Answer
+fn constructs(p: &Source, heap: &mut Heap, at: &Part, constructor: &Value, args: &[Value]) -> Next
     ensures row { Does p.now at.now result heap.new
         (constructs p.now at.now constructor.now args.now heap.old) }
     ensures grows { Grows heap.old heap.new }
@@ -126,14 +120,14 @@ fn constructs(
     }
 }
 
-pub(crate) fn begin_new(p: &Source, at: &Part) -> Answer
+pub(crate) fn begin_new(p: &Source, at: &Part) -> Next
     ensures row { DoesPurely p.now at.now result (new_row p.now at.now) }
 {
     ask(p.part_at(at, 0), OwnWait::Constructor)
 }
 
 #[tactic(auto, using(crate::proofs::Children::children_some, crate::proofs::Children::children_none))]
-pub(crate) fn after_constructor(p: &Source, heap: &mut Heap, at: &Part, c: &Completion) -> Answer
+pub(crate) fn after_constructor(p: &Source, heap: &mut Heap, at: &Part, c: &Completion) -> Next
     ensures row { Does p.now at.now result heap.new
         (own_rest p.now at.now OwnWait.Constructor [] c.now heap.old) }
     ensures grows { Grows heap.old heap.new }
@@ -147,13 +141,7 @@ pub(crate) fn after_constructor(p: &Source, heap: &mut Heap, at: &Part, c: &Comp
                 };
                 ask(at.inner(a), wait)
             },
-            None => {
-                let args = Arguments {
-                    values: &[],
-                    last: None,
-                };
-                constructs(p, heap, at, &constructor, &args)
-            },
+            None => { constructs(p, heap, at, &constructor, &[]) },
         },
         None => end(c),
     }
@@ -167,31 +155,27 @@ pub(crate) fn after_new_argument(
     place: u32,
     constructor: &Value,
     values: &[Value],
+    all: &[Value],
     c: &Completion,
-) -> Answer
+) -> Next
+    requires all { 0 < length values.now → AreTogether values.now c.now all.now }
     ensures row { DoesBeside p.now at.now values.now result heap.new
         (own_rest p.now at.now (OwnWait.NewArgument place constructor.now) values.now c.now
         heap.old) }
     ensures grows { Grows heap.old heap.new }
 {
-    if place > u32::MAX - 2 {
-        return Err(NoMemory);
-    }
     match value_of(c) {
-        Some(v) => match p.child_at(at.node, place + 2) {
+        Some(v) => match p.child_at(at.node, p.behind(place, 2)) {
             Some(a) => {
                 let wait = OwnWait::NewArgument {
                     place: place + 1,
                     constructor: *constructor,
                 };
-                Ok(Next::Keep(at.inner(a), Wait::Own(wait), v))
+                Next::Keep(at.inner(a), Wait::Own(wait), v)
             },
             None => {
-                let args = Arguments {
-                    values,
-                    last: Some(v),
-                };
-                constructs(p, heap, at, constructor, &args)
+                let args = arguments(values, &v, all);
+                constructs(p, heap, at, constructor, args)
             },
         },
         None => end(c),

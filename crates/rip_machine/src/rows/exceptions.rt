@@ -4,21 +4,21 @@ ghost use Rattle.rip_machine.specs.Does.{Does, DoesPurely, DoesAlways};
 ghost use Rattle.rip_machine.specs.Rows.Exceptions.{catch_part, finally_end, finally_row, throw_row, try_row, throw_end};
 ghost use Rattle.rip_machine.specs.Table.{own_rest};
 
-use crate::rows::answers::{Answer, ask, end, halt, value_of};
+use crate::rows::answers::{ask, end, halt, value_of};
 use crate::source::Source;
 use rip_heap::Heap;
 use rip_runs::{Completion, Inner, Next, OwnWait, Part, Role, Stop};
-use rip_values::{NoMemory, Refused, Value};
+use rip_values::{Refused, Value};
 
 // THROW
 
-pub(crate) fn begin_throw(p: &Source, at: &Part) -> Answer
+pub(crate) fn begin_throw(p: &Source, at: &Part) -> Next
     ensures row { DoesPurely p.now at.now result (throw_row p.now at.now) }
 {
     ask(p.part_at(at, 0), OwnWait::ThrowValue)
 }
 
-pub(crate) fn after_throw_value(c: &Completion) -> Answer
+pub(crate) fn after_throw_value(c: &Completion) -> Next
     ensures row { DoesAlways result (throw_end c.now) }
 {
     match value_of(c) {
@@ -29,13 +29,13 @@ pub(crate) fn after_throw_value(c: &Completion) -> Answer
 
 // TRY
 
-pub(crate) fn begin_try(p: &Source, at: &Part) -> Answer
+pub(crate) fn begin_try(p: &Source, at: &Part) -> Next
     ensures row { DoesPurely p.now at.now result (try_row p.now at.now) }
 {
     ask(p.part_at(at, 0), OwnWait::TryBlock)
 }
 
-pub(crate) fn after_try_block(p: &Source, heap: &mut Heap, at: &Part, c: &Completion) -> Answer
+pub(crate) fn after_try_block(p: &Source, heap: &mut Heap, at: &Part, c: &Completion) -> Next
     ensures row { Does p.now at.now result heap.new
         (own_rest p.now at.now OwnWait.TryBlock [] c.now heap.old) }
     ensures grows { Grows heap.old heap.new }
@@ -47,7 +47,7 @@ pub(crate) fn after_try_block(p: &Source, heap: &mut Heap, at: &Part, c: &Comple
 }
 
 /// What was thrown is caught, where there is a clause that catches.
-fn caught(p: &Source, heap: &mut Heap, at: &Part, v: Value) -> Answer
+fn caught(p: &Source, heap: &mut Heap, at: &Part, v: Value) -> Next
     ensures row { Does p.now at.now result heap.new
         (own_rest p.now at.now OwnWait.TryBlock [] (Completion.Thrown v) heap.old) }
     ensures grows { Grows heap.old heap.new }
@@ -62,7 +62,7 @@ fn caught(p: &Source, heap: &mut Heap, at: &Part, v: Value) -> Answer
             ask(catch_part(p, at, clause, scope), wait)
         },
         Err(Refused::Limit(limit)) => halt(Stop::Limit(limit)),
-        Err(Refused::Memory) => Err(NoMemory),
+        Err(Refused::Memory) => unreachable!(),
     }
 }
 
@@ -79,7 +79,7 @@ fn catch_part(p: &Source, at: &Part, clause: u32, scope: u32) -> Inner
 }
 
 /// `finally` runs last, where there is one, after a completion of what stands before it.
-pub(crate) fn finally(p: &Source, at: &Part, before: &Completion) -> Answer
+pub(crate) fn finally(p: &Source, at: &Part, before: &Completion) -> Next
     ensures row { DoesPurely p.now at.now result (finally_row p.now at.now before.now) }
 {
     match p.child_at(at.node, 2) {
@@ -91,7 +91,7 @@ pub(crate) fn finally(p: &Source, at: &Part, before: &Completion) -> Answer
     }
 }
 
-pub(crate) fn after_finally_block(before: &Completion, c: &Completion) -> Answer
+pub(crate) fn after_finally_block(before: &Completion, c: &Completion) -> Next
     ensures row { DoesAlways result (finally_end before.now c.now) }
 {
     match c {

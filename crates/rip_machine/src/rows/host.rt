@@ -1,4 +1,4 @@
-ghost use Rattle.std.specs.Prelude.{◌≡◌, List, IfOk, IsErr, MatchResult, pos};
+ghost use Rattle.std.specs.Prelude.{◌≡◌, List, IfOk, IsErr, IsTrue, MatchResult, OnErr, pos};
 ghost use Rattle.rip_values.specs.declared.value.Value.{Value as ScriptValue};
 ghost use Rattle.rip_heap.specs.Growth.{Grows};
 ghost use Rattle.rip_heap.specs.World.{World};
@@ -8,7 +8,7 @@ ghost use Rattle.rip_machine.specs.Rows.Host.{asks_call, asks_read, asks_write, 
 ghost use Rattle.rip_runs.specs.declared.part.Part.{Part};
 ghost use Rattle.rip_runs.specs.Rest.{as_row};
 
-use crate::rows::answers::{Answer, halt};
+use crate::rows::answers::halt;
 use crate::rows::names::throw;
 use rip_heap::{Class, Heap, Host, HostDone};
 use rip_runs::{Completion, Next, Part, Stop};
@@ -26,6 +26,7 @@ pub(crate) fn ask_read<H: Host>(
     requires { H.fits host.old heap.old }
     ensures asked { IfOk result (λ answer. GivesValue H.answers answer heap.new host.new
         (asks_read object name heap.old) host.old) }
+    ensures memory { OnErr result (IsTrue H.may_want_memory) }
     ensures fits { H.fits host.new heap.new }
     ensures grows { Grows heap.old heap.new }
 {
@@ -45,6 +46,7 @@ pub(crate) fn ask_write<H: Host>(
     requires { H.fits host.old heap.old }
     ensures asked { IfOk result (λ answer. GivesWorld H.answers answer heap.new host.new
         (asks_write object name v.now heap.old) host.old) }
+    ensures memory { OnErr result (IsTrue H.may_want_memory) }
     ensures fits { H.fits host.new heap.new }
     ensures grows { Grows heap.old heap.new }
 {
@@ -67,6 +69,7 @@ pub(crate) fn ask_call<H: Host>(
     requires { H.fits host.old heap.old }
     ensures asked { IfOk result (λ answer. GivesValue H.answers answer heap.new host.new
         (asks_call which this args.now heap.old) host.old) }
+    ensures memory { OnErr result (IsTrue H.may_want_memory) }
     ensures fits { H.fits host.new heap.new }
     ensures grows { Grows heap.old heap.new }
 {
@@ -81,13 +84,14 @@ fn answered(alloc: Global, heap: &mut Heap, done: HostDone) -> Result<Result<Val
         (λ next. (go : ScriptValue → World → Row) (t : Table) (at : Part)
         (values : List ScriptValue) → as_row t at next values heap.new
         ≡ with_reply done heap.old go)) }
-    ensures memory { done ≡ HostDone.Memory → IsErr result }
+    ensures lack { done ≡ HostDone.Memory → IsErr result }
+    ensures memory { OnErr result (done ≡ HostDone.Memory) }
     ensures grows { Grows heap.old heap.new }
 {
     match done {
         HostDone::Value(v) => Ok(Ok(v)),
-        HostDone::TypeFault => Ok(Err(throw(alloc, heap, Class::ThrownTypeError)?)),
-        HostDone::Dom(code) => Ok(Err(throw_code(alloc, heap, code)?)),
+        HostDone::TypeFault => Ok(Err(throw(alloc, heap, Class::ThrownTypeError))),
+        HostDone::Dom(code) => Ok(Err(throw_code(alloc, heap, code))),
         HostDone::Fault(fault) => Ok(Err(Next::Halt(Stop::Fault(fault)))),
         HostDone::Limit(limit) => Ok(Err(Next::Halt(Stop::Limit(limit)))),
         HostDone::Memory => Err(NoMemory),
@@ -95,18 +99,18 @@ fn answered(alloc: Global, heap: &mut Heap, done: HostDone) -> Result<Result<Val
 }
 
 /// Throws a new object that has this code of the document.
-fn throw_code(alloc: Global, heap: &mut Heap, code: u8) -> Answer
+fn throw_code(alloc: Global, heap: &mut Heap, code: u8) -> Next
     ensures row { DoesAnywhere result heap.new (throws_code code heap.old) }
     ensures grows { Grows heap.old heap.new }
 {
     match heap.new_of(alloc, Class::Code) {
         Ok(object) => match heap.put(alloc, object, FixedText::Code.span(), code_value(code)) {
-            Ok(()) => Ok(Next::End(Completion::Thrown(Value::Object(object)))),
+            Ok(()) => Next::End(Completion::Thrown(Value::Object(object))),
             Err(Refused::Limit(limit)) => halt(Stop::Limit(limit)),
-            Err(Refused::Memory) => Err(NoMemory),
+            Err(Refused::Memory) => unreachable!(),
         },
         Err(Refused::Limit(limit)) => halt(Stop::Limit(limit)),
-        Err(Refused::Memory) => Err(NoMemory),
+        Err(Refused::Memory) => unreachable!(),
     }
 }
 

@@ -1,16 +1,13 @@
-ghost use Rattle.std.specs.Prelude.{◌≡◌, [], Ok, Some, IfOk, IsErr, List, MatchResult, Option};
-ghost use Rattle.rip_values.specs.declared.value.Value.{Value as ScriptValue};
+ghost use Rattle.std.specs.Prelude.{◌≡◌, [], Some, IfOk, IsTrue, MatchResult, OnErr, Option};
 ghost use Rattle.rip_heap.specs.declared.keys.Reference.{Reference as Target};
 ghost use Rattle.rip_heap.specs.Growth.{Grows};
 ghost use Rattle.rip_heap.specs.World.{World};
 ghost use Rattle.rip_members.specs.Reading.{read};
 ghost use Rattle.rip_members.specs.Writing.{write};
-ghost use Rattle.rip_runs.specs.Row.{Ends, Row, Table};
+ghost use Rattle.rip_runs.specs.Row.{Ends, Row};
 ghost use Rattle.rip_runs.specs.declared.part.Part.{Part};
-ghost use Rattle.rip_runs.specs.Rest.{as_row};
 ghost use Rattle.rip_machine.specs.Does.{DoesPurely, DoesAnywhere, DoesWithHost, DoesAnywhereWithHost, GivesValue, GivesWorld};
 ghost use Rattle.rip_machine.specs.Reading.{literal};
-ghost use Rattle.rip_machine.specs.Rows.Expressions.{abruptly};
 ghost use Rattle.rip_machine.specs.Rows.Host.{asks_read};
 ghost use Rattle.rip_machine.specs.Rows.Members.{deletes, index_row, member_for, member_row, with_base, with_read, with_target, with_writing};
 ghost use Rattle.rip_machine.specs.Table.{own_rest, hosted_rest};
@@ -19,7 +16,7 @@ use crate::rows::answers::{Answer, ask, ask_hosted, end, give, halt, value_of};
 use crate::rows::host::{ask_read, ask_write};
 use crate::rows::names::{abrupt, throw};
 use crate::source::Source;
-use rip_heap::{Abrupt, Class, Heap, Host, Key, Reference};
+use rip_heap::{Class, Heap, Host, Key, Reference};
 use rip_members::{Read, Written, delete, key_of, read, write};
 use rip_runs::{Completion, HostedWait, Next, OwnWait, Part, Role, Stop};
 use rip_values::{Fault, NoMemory, Span, Value};
@@ -39,12 +36,13 @@ pub(crate) fn read_value<H: Host>(
     requires { H.fits host.old heap.old }
     ensures read { IfOk result (λ answer. GivesValue H.answers answer heap.new host.new
         (with_read (read heap.old base.now key) heap.old) host.old) }
+    ensures memory { OnErr result (IsTrue H.may_want_memory) }
     ensures fits { H.fits host.new heap.new }
     ensures grows { Grows heap.old heap.new }
 {
     match read(heap, *base, key) {
         Read::Value(v) => Ok(Ok(v)),
-        Read::TypeFault => Ok(Err(throw(alloc, heap, Class::ThrownTypeError)?)),
+        Read::TypeFault => Ok(Err(throw(alloc, heap, Class::ThrownTypeError))),
         Read::Fault(fault) => Ok(Err(Next::Halt(Stop::Fault(fault)))),
         Read::Host { object, name } => ask_read(alloc, heap, host, object, name),
     }
@@ -63,6 +61,7 @@ pub(crate) fn write_value<H: Host>(
     requires { H.fits host.old heap.old }
     ensures written { IfOk result (λ answer. GivesWorld H.answers answer heap.new host.new
         (with_writing (write heap.old base.now key v.now) v.now heap.old) host.old) }
+    ensures memory { OnErr result (IsTrue H.may_want_memory) }
     ensures fits { H.fits host.new heap.new }
     ensures grows { Grows heap.old heap.new }
 {
@@ -71,19 +70,8 @@ pub(crate) fn write_value<H: Host>(
             Written::Done => Ok(Ok(())),
             Written::Host { object, name } => ask_write(alloc, heap, host, object, name, v),
         },
-        Err(cause) => not_written(alloc, heap, cause),
+        Err(cause) => Ok(Err(abrupt(alloc, heap, cause))),
     }
-}
-
-/// What the row does where a member cannot be written.
-fn not_written(alloc: Global, heap: &mut Heap, cause: Abrupt) -> Result<Result<(), Next>, NoMemory>
-    ensures row { IfOk result (λ answer. MatchResult answer (λ _. ⊥)
-        (λ next. (t : Table) (at : Part) (values : List ScriptValue)
-        → as_row t at next values heap.new ≡ abruptly cause heap.old)) }
-    ensures memory { cause ≡ Abrupt.Memory → IsErr result }
-    ensures grows { Grows heap.old heap.new }
-{
-    Ok(Err(abrupt(alloc, heap, cause)?))
 }
 
 /// What a member is evaluated for: its value, what it means as a target, or its value and the base.
@@ -98,13 +86,14 @@ fn member_for<H: Host>(
     requires { H.fits host.old heap.old }
     ensures row { DoesAnywhereWithHost H.answers result heap.new host.new
         (member_for role base.now key heap.old) host.old }
+    ensures memory { OnErr result (IsTrue H.may_want_memory) }
     ensures fits { H.fits host.new heap.new }
     ensures grows { Grows heap.old heap.new }
 {
     match role {
         Role::Target => {
             let target = Reference { base: *base, key };
-            end(&Completion::Referred(target))
+            Ok(end(&Completion::Referred(target)))
         },
         Role::Value => member_value(alloc, heap, host, base, key),
         Role::Callee => method(alloc, heap, host, base, key),
@@ -123,13 +112,14 @@ fn member_value<H: Host>(
     requires { H.fits host.old heap.old }
     ensures row { DoesAnywhereWithHost H.answers result heap.new host.new
         (member_for Role.Value base.now key heap.old) host.old }
+    ensures memory { OnErr result (IsTrue H.may_want_memory) }
     ensures fits { H.fits host.new heap.new }
     ensures grows { Grows heap.old heap.new }
 {
     match read(heap, *base, key) {
-        Read::Value(v) => give(v),
-        Read::TypeFault => throw(alloc, heap, Class::ThrownTypeError),
-        Read::Fault(fault) => halt(Stop::Fault(fault)),
+        Read::Value(v) => Ok(give(v)),
+        Read::TypeFault => Ok(throw(alloc, heap, Class::ThrownTypeError)),
+        Read::Fault(fault) => Ok(halt(Stop::Fault(fault))),
         Read::Host { object, name } => host_value(alloc, heap, host, object, name),
     }
 }
@@ -145,11 +135,12 @@ fn host_value<H: Host>(
     requires { H.fits host.old heap.old }
     ensures row { DoesAnywhereWithHost H.answers result heap.new host.new
         (asks_read object name heap.old (λ v x. Ends (Completion.Normal v) x)) host.old }
+    ensures memory { OnErr result (IsTrue H.may_want_memory) }
     ensures fits { H.fits host.new heap.new }
     ensures grows { Grows heap.old heap.new }
 {
     match ask_read(alloc, heap, host, object, name)? {
-        Ok(v) => give(v),
+        Ok(v) => Ok(give(v)),
         Err(next) => Ok(next),
     }
 }
@@ -160,13 +151,14 @@ fn method<H: Host>(alloc: Global, heap: &mut Heap, host: &mut H, base: &Value, k
     requires { H.fits host.old heap.old }
     ensures row { DoesAnywhereWithHost H.answers result heap.new host.new
         (member_for Role.Callee base.now key heap.old) host.old }
+    ensures memory { OnErr result (IsTrue H.may_want_memory) }
     ensures fits { H.fits host.new heap.new }
     ensures grows { Grows heap.old heap.new }
 {
     match read(heap, *base, key) {
-        Read::Value(v) => method_on(base, v),
-        Read::TypeFault => throw(alloc, heap, Class::ThrownTypeError),
-        Read::Fault(fault) => halt(Stop::Fault(fault)),
+        Read::Value(v) => Ok(method_on(base, v)),
+        Read::TypeFault => Ok(throw(alloc, heap, Class::ThrownTypeError)),
+        Read::Fault(fault) => Ok(halt(Stop::Fault(fault))),
         Read::Host { object, name } => host_method(alloc, heap, host, base, object, name),
     }
 }
@@ -183,28 +175,29 @@ fn host_method<H: Host>(
     requires { H.fits host.old heap.old }
     ensures row { DoesAnywhereWithHost H.answers result heap.new host.new
         (asks_read object name heap.old (λ f x. Ends (Completion.Method f base.now) x)) host.old }
+    ensures memory { OnErr result (IsTrue H.may_want_memory) }
     ensures fits { H.fits host.new heap.new }
     ensures grows { Grows heap.old heap.new }
 {
     match ask_read(alloc, heap, host, object, name)? {
-        Ok(function) => method_on(base, function),
+        Ok(function) => Ok(method_on(base, function)),
         Err(next) => Ok(next),
     }
 }
 
 /// The row ends with a function and the base of which it is a member.
-fn method_on(base: &Value, function: Value) -> Answer
-    ensures { result ≡ Ok (Next.End (Completion.Method function base.now)) }
+fn method_on(base: &Value, function: Value) -> Next
+    ensures { result ≡ Next.End (Completion.Method function base.now) }
 {
-    Ok(Next::End(Completion::Method {
+    Next::End(Completion::Method {
         function,
         this: *base,
-    }))
+    })
 }
 
 // MEMBERS
 
-pub(crate) fn begin_member(p: &Source, at: &Part) -> Answer
+pub(crate) fn begin_member(p: &Source, at: &Part) -> Next
     ensures row { DoesPurely p.now at.now result (member_row p.now at.now) }
 {
     ask_hosted(p.part_at(at, 0), HostedWait::MemberBase)
@@ -221,12 +214,13 @@ pub(crate) fn after_member_base<H: Host>(
     requires { H.fits host.old heap.old }
     ensures row { DoesWithHost H.answers p.now at.now result heap.new host.new
         (hosted_rest p.now at.now HostedWait.MemberBase [] c.now heap.old) host.old }
+    ensures memory { OnErr result (IsTrue H.may_want_memory) }
     ensures fits { H.fits host.new heap.new }
     ensures grows { Grows heap.old heap.new }
 {
     match value_of(c) {
         Some(base) => named_member(p, heap, host, at, &base),
-        None => end(c),
+        None => Ok(end(c)),
     }
 }
 
@@ -243,11 +237,12 @@ fn named_member<H: Host>(
     ensures row { DoesWithHost H.answers p.now at.now result heap.new host.new
         (with_base base.now heap.old (member_for at.now.role base.now
         (Key.Name (literal p.now at.now.node)) heap.old)) host.old }
+    ensures memory { OnErr result (IsTrue H.may_want_memory) }
     ensures fits { H.fits host.new heap.new }
     ensures grows { Grows heap.old heap.new }
 {
     match base {
-        Value::Undefined | Value::Null => throw(p.alloc(), heap, Class::ThrownTypeError),
+        Value::Undefined | Value::Null => Ok(throw(p.alloc(), heap, Class::ThrownTypeError)),
         _ => {
             let key = Key::Name(p.literal(at.node));
             member_for(p.alloc(), heap, host, at.role, base, key)
@@ -255,13 +250,13 @@ fn named_member<H: Host>(
     }
 }
 
-pub(crate) fn begin_index(p: &Source, at: &Part) -> Answer
+pub(crate) fn begin_index(p: &Source, at: &Part) -> Next
     ensures row { DoesPurely p.now at.now result (index_row p.now at.now) }
 {
     ask(p.part_at(at, 0), OwnWait::IndexBase)
 }
 
-pub(crate) fn after_index_base(p: &Source, at: &Part, c: &Completion) -> Answer
+pub(crate) fn after_index_base(p: &Source, at: &Part, c: &Completion) -> Next
     ensures row { DoesPurely p.now at.now result
         (own_rest p.now at.now OwnWait.IndexBase [] c.now) }
 {
@@ -283,15 +278,16 @@ pub(crate) fn after_subscript<H: Host>(
     requires { H.fits host.old heap.old }
     ensures row { DoesWithHost H.answers p.now at.now result heap.new host.new
         (hosted_rest p.now at.now (HostedWait.Subscript base.now) [] c.now heap.old) host.old }
+    ensures memory { OnErr result (IsTrue H.may_want_memory) }
     ensures fits { H.fits host.new heap.new }
     ensures grows { Grows heap.old heap.new }
 {
     match value_of(c) {
         Some(subscript) => match key_of(p.alloc(), heap, *base, subscript) {
             Ok(key) => member_for(p.alloc(), heap, host, at.role, base, key),
-            Err(cause) => abrupt(p.alloc(), heap, cause),
+            Err(cause) => Ok(abrupt(p.alloc(), heap, cause)),
         },
-        None => end(c),
+        None => Ok(end(c)),
     }
 }
 
@@ -311,7 +307,7 @@ pub(crate) fn target_of(c: &Completion) -> Result<Option<Reference>, Completion>
 }
 
 /// Takes the member away that a target is; what is no member is left.
-pub(crate) fn deletes(alloc: Global, heap: &mut Heap, target: &Option<Reference>) -> Answer
+pub(crate) fn deletes(alloc: Global, heap: &mut Heap, target: &Option<Reference>) -> Next
     ensures row { DoesAnywhere result heap.new (deletes target.now heap.old) }
     ensures grows { Grows heap.old heap.new }
 {
@@ -321,7 +317,7 @@ pub(crate) fn deletes(alloc: Global, heap: &mut Heap, target: &Option<Reference>
     }
 }
 
-fn delete_member(alloc: Global, heap: &mut Heap, member: &Reference) -> Answer
+fn delete_member(alloc: Global, heap: &mut Heap, member: &Reference) -> Next
     ensures row { DoesAnywhere result heap.new (deletes (Some member.now) heap.old) }
     ensures grows { Grows heap.old heap.new }
 {

@@ -1,43 +1,40 @@
 ghost use Rattle.rip_machine.specs.Rows.Expressions.{abruptly, name_row};
-ghost use Rattle.std.specs.Prelude.{◌≡◌, ℕ, Ok, Err, true, IfOk, IsErr, OnErr, MatchResult};
+ghost use Rattle.std.specs.Prelude.{◌≡◌, Ok, Err, OnErr, MatchResult};
 ghost use Rattle.rip_heap.specs.Growth.{Grows};
-ghost use Rattle.rip_runs.specs.Rest.{has_room};
 ghost use Rattle.rip_machine.specs.Does.{DoesAnywhere, Does};
 ghost use Rattle.rip_machine.specs.Rows.Names.{bound, found, scope_up, throws, written};
 
-use crate::rows::answers::{Answer, give, halt};
+use crate::rows::answers::{give, halt};
 use crate::source::Source;
 use rip_heap::{Abrupt, Class, Heap};
 use rip_runs::{Completion, Next, Part, Role, Stop};
 use rip_tree::{Resolved, Scoping};
-use rip_values::{Limit, NoMemory, Refused, Value};
+use rip_values::{Limit, Refused, Value};
 use std::alloc::Global;
 
-/// Throws a new error of this class. Where memory is wanting the heap is as before.
-pub(crate) fn throw(alloc: Global, heap: &mut Heap, class: Class) -> Answer
+/// Throws a new error of this class.
+pub(crate) fn throw(alloc: Global, heap: &mut Heap, class: Class) -> Next
     ensures row { DoesAnywhere result heap.new (throws class heap.old) }
-    ensures ends { IfOk result (λ next. (room : ℕ) → has_room room next ≡ true) }
-    ensures kept { OnErr result (heap.new ≡ heap.old) }
     ensures grows { Grows heap.old heap.new }
 {
     match heap.new_of(alloc, class) {
-        Ok(error) => Ok(Next::End(Completion::Thrown(Value::Object(error)))),
+        Ok(error) => Next::End(Completion::Thrown(Value::Object(error))),
         Err(Refused::Limit(limit)) => halt(Stop::Limit(limit)),
-        Err(Refused::Memory) => Err(NoMemory),
+        Err(Refused::Memory) => unreachable!(),
     }
 }
 
-/// What a row does where an operation has no value.
-pub(crate) fn abrupt(alloc: Global, heap: &mut Heap, cause: Abrupt) -> Answer
+/// What a row does where an operation has no value, though no memory was wanting.
+pub(crate) fn abrupt(alloc: Global, heap: &mut Heap, cause: Abrupt) -> Next
+    requires { cause ≡ Abrupt.Memory → ⊥ }
     ensures row { DoesAnywhere result heap.new (abruptly cause heap.old) }
-    ensures memory { cause ≡ Abrupt.Memory → IsErr result }
     ensures grows { Grows heap.old heap.new }
 {
     match cause {
         Abrupt::TypeError => throw(alloc, heap, Class::ThrownTypeError),
         Abrupt::Fault(fault) => halt(Stop::Fault(fault)),
         Abrupt::Limit(limit) => halt(Stop::Limit(limit)),
-        Abrupt::Memory => Err(NoMemory),
+        Abrupt::Memory => unreachable!(),
     }
 }
 
@@ -100,7 +97,7 @@ pub(crate) fn bind(heap: &mut Heap, scope: u32, name: Option<Resolved>, v: Value
     }
 }
 
-pub(crate) fn begin_name(p: &Source, heap: &mut Heap, at: &Part) -> Answer
+pub(crate) fn begin_name(p: &Source, heap: &mut Heap, at: &Part) -> Next
     ensures row { Does p.now at.now result heap.new (name_row p.now at.now at.now.role heap.old) }
     ensures grows { Grows heap.old heap.new }
 {

@@ -4,21 +4,21 @@ ghost use Rattle.rip_machine.specs.Does.{Does, DoesPurely};
 ghost use Rattle.rip_machine.specs.Rows.Expressions.{binary_row, comma_row, conditional_row, is_decided, logical_row};
 ghost use Rattle.rip_machine.specs.Table.{own_rest};
 
-use crate::rows::answers::{Answer, ask, end, give, truth_of, value_of};
+use crate::rows::answers::{ask, end, give, truth_of, value_of};
 use crate::rows::names::abrupt;
 use crate::source::Source;
 use rip_heap::{Heap, to_boolean};
 use rip_ops::binary;
-use rip_runs::{Completion, OwnWait, Part};
+use rip_runs::{Completion, Next, OwnWait, Part};
 use rip_values::{LogicalOperator, Value};
 
-pub(crate) fn begin_binary(p: &Source, at: &Part) -> Answer
+pub(crate) fn begin_binary(p: &Source, at: &Part) -> Next
     ensures row { DoesPurely p.now at.now result (binary_row p.now at.now) }
 {
     ask(p.part_at(at, 0), OwnWait::Left)
 }
 
-pub(crate) fn after_left(p: &Source, at: &Part, c: &Completion) -> Answer
+pub(crate) fn after_left(p: &Source, at: &Part, c: &Completion) -> Next
     ensures row { DoesPurely p.now at.now result (own_rest p.now at.now OwnWait.Left [] c.now) }
 {
     match value_of(c) {
@@ -33,7 +33,7 @@ pub(crate) fn after_right(
     at: &Part,
     left: Value,
     c: &Completion,
-) -> Answer
+) -> Next
     ensures row { Does p.now at.now result heap.new
         (own_rest p.now at.now (OwnWait.Right left) [] c.now heap.old) }
     ensures grows { Grows heap.old heap.new }
@@ -47,13 +47,13 @@ pub(crate) fn after_right(
     }
 }
 
-pub(crate) fn begin_logical(p: &Source, at: &Part) -> Answer
+pub(crate) fn begin_logical(p: &Source, at: &Part) -> Next
     ensures row { DoesPurely p.now at.now result (logical_row p.now at.now) }
 {
     ask(p.part_at(at, 0), OwnWait::LogicalLeft)
 }
 
-pub(crate) fn after_logical_left(p: &Source, heap: &Heap, at: &Part, c: &Completion) -> Answer
+pub(crate) fn after_logical_left(p: &Source, heap: &Heap, at: &Part, c: &Completion) -> Next
     ensures row { Does p.now at.now result heap.now
         (own_rest p.now at.now OwnWait.LogicalLeft [] c.now heap.now) }
 {
@@ -79,13 +79,13 @@ pub(crate) fn is_decided(op: LogicalOperator, truth: bool) -> bool
     }
 }
 
-pub(crate) fn begin_conditional(p: &Source, at: &Part) -> Answer
+pub(crate) fn begin_conditional(p: &Source, at: &Part) -> Next
     ensures row { DoesPurely p.now at.now result (conditional_row p.now at.now) }
 {
     ask(p.part_at(at, 0), OwnWait::ConditionalTest)
 }
 
-pub(crate) fn after_conditional_test(p: &Source, heap: &Heap, at: &Part, c: &Completion) -> Answer
+pub(crate) fn after_conditional_test(p: &Source, heap: &Heap, at: &Part, c: &Completion) -> Next
     ensures row { Does p.now at.now result heap.now
         (own_rest p.now at.now OwnWait.ConditionalTest [] c.now heap.now) }
 {
@@ -98,13 +98,13 @@ pub(crate) fn after_conditional_test(p: &Source, heap: &Heap, at: &Part, c: &Com
     }
 }
 
-pub(crate) fn begin_comma(p: &Source, at: &Part) -> Answer
+pub(crate) fn begin_comma(p: &Source, at: &Part) -> Next
     ensures row { DoesPurely p.now at.now result (comma_row p.now at.now) }
 {
     ask(p.part_at(at, 0), OwnWait::CommaLeft)
 }
 
-pub(crate) fn after_comma_left(p: &Source, at: &Part, c: &Completion) -> Answer
+pub(crate) fn after_comma_left(p: &Source, at: &Part, c: &Completion) -> Next
     ensures row { DoesPurely p.now at.now result
         (own_rest p.now at.now OwnWait.CommaLeft [] c.now) }
 {

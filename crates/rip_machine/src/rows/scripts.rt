@@ -1,13 +1,13 @@
-ghost use Rattle.std.specs.Prelude.{◌≡◌, ◌+◌, ◌<◌, ◌^◌, fold, Some, None, IfOk, OnErr};
+ghost use Rattle.std.specs.Prelude.{◌≡◌, ◌+◌, ◌<◌, ◌^◌, fold, Some, None};
 ghost use Rattle.std.specs.Bool.{MatchBool};
 ghost use Rattle.rip_heap.specs.Growth.{Grows};
 ghost use Rattle.rip_machine.specs.Rows.Scripts.{script_entered, script_part, with_var};
 
-use crate::rows::functions::{bind_functions, declared_in, make_functions};
+use crate::rows::functions::{count_declared, declare_functions};
 use crate::source::Source;
 use rip_heap::Heap;
 use rip_runs::{Part, Role};
-use rip_values::{FIRST_HEAP_OBJECT, NoMemory, Value};
+use rip_values::Value;
 
 /// Declares names of `var`, by their places in the top scope: each keeps its value, or begins as undefined.
 fn declare_vars(heap: &mut Heap, places: &[u32])
@@ -29,25 +29,20 @@ fn declare_var(heap: &mut Heap, place: u32)
     }
 }
 
-/// Binds what a script declares, and tells whether its charge fits; where it does not, and where memory is wanting, nothing is
-/// done.
-pub(crate) fn enter_script(p: &Source, heap: &mut Heap, script: u32) -> Result<bool, NoMemory>
-    ensures entered { IfOk result (λ fits. MatchBool fits
-        (script_entered p.now script heap.old ≡ Some heap.new)
-        ((script_entered p.now script heap.old ≡ None) × (heap.new ≡ heap.old))) }
-    ensures back { OnErr result (heap.new ≡ heap.old) }
+/// Binds what a script declares, and tells whether its charge fits; where it does not, nothing is done.
+pub(crate) fn enter_script(p: &Source, heap: &mut Heap, script: u32) -> bool
+    ensures entered { MatchBool result (script_entered p.now script heap.old ≡ Some heap.new)
+        ((script_entered p.now script heap.old ≡ None) × (heap.new ≡ heap.old)) }
     ensures grows { Grows heap.old heap.new }
 {
-    let root = p.program.root(script);
-    let functions = declared_in(p, root, 0)?;
-    if 4 * functions.len() > heap.free_cells() as usize {
-        return Ok(false);
+    let root = p.root(script);
+    let declared = count_declared(p, root, 0);
+    if 4 * u64::from(declared) > u64::from(heap.free_cells()) {
+        return false;
     }
-    let first = FIRST_HEAP_OBJECT + heap.objects() + 1;
-    make_functions(p.alloc(), heap, 0, &functions);
-    bind_functions(p, heap, 0, &functions, first);
+    declare_functions(p, heap, 0, root, 0);
     declare_vars(heap, p.program.vars(script));
-    Ok(true)
+    true
 }
 
 /// The part of a script.

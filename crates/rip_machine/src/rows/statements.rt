@@ -1,4 +1,4 @@
-ghost use Rattle.std.specs.Prelude.{◌≡◌, [], IfOk, MatchResult};
+ghost use Rattle.std.specs.Prelude.{◌≡◌, [], MatchResult};
 ghost use Rattle.rip_heap.specs.World.{World};
 ghost use Rattle.rip_heap.specs.Growth.{Grows};
 ghost use Rattle.rip_runs.specs.Row.{Ends, Row, with_value};
@@ -8,13 +8,13 @@ ghost use Rattle.rip_machine.specs.Rows.Statements.{block_row, constructed, decl
 ghost use Rattle.rip_machine.specs.Table.{own_rest};
 ghost use Rattle.rip_runs.specs.declared.frame.Ending.{Ending};
 
-use crate::rows::answers::{Answer, ask, end, give, truth_of, turn, value_of};
+use crate::rows::answers::{ask, end, give, truth_of, turn, value_of};
 use crate::rows::names::{throw, write};
 use crate::source::Source;
 use rip_heap::Heap;
 use rip_runs::{Completion, Ending, Next, OwnWait, Part};
 use rip_tree::Form;
-use rip_values::{NoMemory, Value};
+use rip_values::Value;
 
 // LISTS
 
@@ -85,33 +85,29 @@ pub(crate) struct Listed {
     pub node: u32,
 }
 
-/// The first statement of a list that is no declaration, from this place on. A place that 32 bits cannot count is want of
-/// memory.
+/// The first statement of a list that is no declaration, from this place on.
 #[tactic(auto, using(crate::proofs::Children::children_some, crate::proofs::Children::children_none))]
-pub(crate) fn first_statement(p: &Source, at: &Part, from: u32) -> Result<Option<Listed>, NoMemory>
-    ensures { IfOk result (λ first. (ending : Ending) (w : World)
-        → IsFirst p.now at.now ending first w (statements p.now at.now ending
-        (children_from p.now at.now.node from) w)) }
+pub(crate) fn first_statement(p: &Source, at: &Part, from: u32) -> Option<Listed>
+    ensures { (ending : Ending) (w : World)
+        → IsFirst p.now at.now ending result w (statements p.now at.now ending
+        (children_from p.now at.now.node from) w) }
 {
     let mut place = from;
     while let Some(node) = p.child_at(at.node, place) {
         if !is_declaration(p.form(node)) {
-            return Ok(Some(Listed { place, node }));
-        }
-        if place == u32::MAX {
-            return Err(NoMemory);
+            return Some(Listed { place, node });
         }
         place += 1;
     }
-    Ok(None)
+    None
 }
 
 /// The statements of a list from this place on.
-pub(crate) fn statements(p: &Source, at: &Part, ending: Ending, from: u32) -> Answer
+pub(crate) fn statements(p: &Source, at: &Part, ending: Ending, from: u32) -> Next
     ensures row { DoesPurely p.now at.now result
         (statements p.now at.now ending (children_from p.now at.now.node from)) }
 {
-    match first_statement(p, at, from)? {
+    match first_statement(p, at, from) {
         Some(s) => ask(
             at.inner(s.node),
             OwnWait::Statement {
@@ -129,22 +125,17 @@ pub(crate) fn after_statement(
     place: u32,
     ending: Ending,
     c: &Completion,
-) -> Answer
+) -> Next
     ensures row { DoesPurely p.now at.now result
         (own_rest p.now at.now (OwnWait.Statement place ending) [] c.now) }
 {
     match c {
-        Completion::Normal(_) => {
-            if place == u32::MAX {
-                return Err(NoMemory);
-            }
-            statements(p, at, ending, place + 1)
-        },
+        Completion::Normal(_) => statements(p, at, ending, p.behind(place, 1)),
         _ => end(&ended(ending, *c)),
     }
 }
 
-pub(crate) fn begin_block(p: &Source, at: &Part) -> Answer
+pub(crate) fn begin_block(p: &Source, at: &Part) -> Next
     ensures row { DoesPurely p.now at.now result (block_row p.now at.now) }
 {
     statements(p, at, Ending::Block, 0)
@@ -152,13 +143,13 @@ pub(crate) fn begin_block(p: &Source, at: &Part) -> Answer
 
 // SIMPLE STATEMENTS
 
-pub(crate) fn begin_expression(p: &Source, at: &Part) -> Answer
+pub(crate) fn begin_expression(p: &Source, at: &Part) -> Next
     ensures row { DoesPurely p.now at.now result (expression_row p.now at.now) }
 {
     ask(p.part_at(at, 0), OwnWait::Expression)
 }
 
-pub(crate) fn after_expression(c: &Completion) -> Answer
+pub(crate) fn after_expression(c: &Completion) -> Next
     ensures row { DoesAlways result (λ w. with_value c.now w (λ _. done w)) }
 {
     match value_of(c) {
@@ -167,13 +158,13 @@ pub(crate) fn after_expression(c: &Completion) -> Answer
     }
 }
 
-pub(crate) fn begin_if(p: &Source, at: &Part) -> Answer
+pub(crate) fn begin_if(p: &Source, at: &Part) -> Next
     ensures row { DoesPurely p.now at.now result (if_row p.now at.now) }
 {
     ask(p.part_at(at, 0), OwnWait::IfTest)
 }
 
-pub(crate) fn after_if_test(p: &Source, heap: &Heap, at: &Part, c: &Completion) -> Answer
+pub(crate) fn after_if_test(p: &Source, heap: &Heap, at: &Part, c: &Completion) -> Next
     ensures row { Does p.now at.now result heap.now
         (own_rest p.now at.now OwnWait.IfTest [] c.now heap.now) }
 {
@@ -191,7 +182,7 @@ pub(crate) fn after_if_test(p: &Source, heap: &Heap, at: &Part, c: &Completion) 
     }
 }
 
-pub(crate) fn begin_return(p: &Source, at: &Part) -> Answer
+pub(crate) fn begin_return(p: &Source, at: &Part) -> Next
     ensures row { DoesPurely p.now at.now result (return_row p.now at.now) }
 {
     match p.child_at(at.node, 0) {
@@ -200,7 +191,7 @@ pub(crate) fn begin_return(p: &Source, at: &Part) -> Answer
     }
 }
 
-pub(crate) fn after_return_value(c: &Completion) -> Answer
+pub(crate) fn after_return_value(c: &Completion) -> Next
     ensures row { DoesAlways result (return_end c.now) }
 {
     match value_of(c) {
@@ -240,13 +231,13 @@ fn tested(heap: &Heap, c: &Completion) -> Result<(), Completion>
     }
 }
 
-pub(crate) fn begin_do(p: &Source, at: &Part) -> Answer
+pub(crate) fn begin_do(p: &Source, at: &Part) -> Next
     ensures row { DoesPurely p.now at.now result (do_row p.now at.now) }
 {
     turn(p.part_at(at, 0), OwnWait::DoBody)
 }
 
-pub(crate) fn after_do_body(p: &Source, at: &Part, c: &Completion) -> Answer
+pub(crate) fn after_do_body(p: &Source, at: &Part, c: &Completion) -> Next
     ensures row { DoesPurely p.now at.now result (own_rest p.now at.now OwnWait.DoBody [] c.now) }
 {
     match goes_on(c) {
@@ -255,7 +246,7 @@ pub(crate) fn after_do_body(p: &Source, at: &Part, c: &Completion) -> Answer
     }
 }
 
-pub(crate) fn after_do_test(p: &Source, heap: &Heap, at: &Part, c: &Completion) -> Answer
+pub(crate) fn after_do_test(p: &Source, heap: &Heap, at: &Part, c: &Completion) -> Next
     ensures row { Does p.now at.now result heap.now
         (own_rest p.now at.now OwnWait.DoTest [] c.now heap.now) }
 {
@@ -265,13 +256,13 @@ pub(crate) fn after_do_test(p: &Source, heap: &Heap, at: &Part, c: &Completion) 
     }
 }
 
-pub(crate) fn begin_while(p: &Source, at: &Part) -> Answer
+pub(crate) fn begin_while(p: &Source, at: &Part) -> Next
     ensures row { DoesPurely p.now at.now result (while_row p.now at.now) }
 {
     turn(p.part_at(at, 0), OwnWait::WhileTest)
 }
 
-pub(crate) fn after_while_test(p: &Source, heap: &Heap, at: &Part, c: &Completion) -> Answer
+pub(crate) fn after_while_test(p: &Source, heap: &Heap, at: &Part, c: &Completion) -> Next
     ensures row { Does p.now at.now result heap.now
         (own_rest p.now at.now OwnWait.WhileTest [] c.now heap.now) }
 {
@@ -281,7 +272,7 @@ pub(crate) fn after_while_test(p: &Source, heap: &Heap, at: &Part, c: &Completio
     }
 }
 
-pub(crate) fn after_while_body(p: &Source, at: &Part, c: &Completion) -> Answer
+pub(crate) fn after_while_body(p: &Source, at: &Part, c: &Completion) -> Next
     ensures row { DoesPurely p.now at.now result
         (own_rest p.now at.now OwnWait.WhileBody [] c.now) }
 {
@@ -292,14 +283,14 @@ pub(crate) fn after_while_body(p: &Source, at: &Part, c: &Completion) -> Answer
 }
 
 /// The statement of a `for`.
-fn for_statement(p: &Source, at: &Part) -> Answer
+fn for_statement(p: &Source, at: &Part) -> Next
     ensures row { DoesPurely p.now at.now result (for_statement p.now at.now) }
 {
     turn(p.part_at(at, 3), OwnWait::ForBody)
 }
 
 /// A turn of a `for`: its test, or its statement where it has none.
-fn for_turn(p: &Source, at: &Part) -> Answer
+fn for_turn(p: &Source, at: &Part) -> Next
     ensures row { DoesPurely p.now at.now result (for_turn p.now at.now) }
 {
     match p.child_at(at.node, 1) {
@@ -308,7 +299,7 @@ fn for_turn(p: &Source, at: &Part) -> Answer
     }
 }
 
-pub(crate) fn after_for_test(p: &Source, heap: &Heap, at: &Part, c: &Completion) -> Answer
+pub(crate) fn after_for_test(p: &Source, heap: &Heap, at: &Part, c: &Completion) -> Next
     ensures row { Does p.now at.now result heap.now
         (own_rest p.now at.now OwnWait.ForTest [] c.now heap.now) }
 {
@@ -318,7 +309,7 @@ pub(crate) fn after_for_test(p: &Source, heap: &Heap, at: &Part, c: &Completion)
     }
 }
 
-pub(crate) fn after_for_body(p: &Source, at: &Part, c: &Completion) -> Answer
+pub(crate) fn after_for_body(p: &Source, at: &Part, c: &Completion) -> Next
     ensures row { DoesPurely p.now at.now result (own_rest p.now at.now OwnWait.ForBody [] c.now) }
 {
     match goes_on(c) {
@@ -328,7 +319,7 @@ pub(crate) fn after_for_body(p: &Source, at: &Part, c: &Completion) -> Answer
 }
 
 /// The update of a `for`, or its next turn where it has none.
-fn for_update(p: &Source, at: &Part) -> Answer
+fn for_update(p: &Source, at: &Part) -> Next
     ensures row { DoesPurely p.now at.now result
         (for_update_by p.now at.now (child_at p.now at.now.node 2)) }
 {
@@ -338,7 +329,7 @@ fn for_update(p: &Source, at: &Part) -> Answer
     }
 }
 
-pub(crate) fn after_for_update(p: &Source, at: &Part, c: &Completion) -> Answer
+pub(crate) fn after_for_update(p: &Source, at: &Part, c: &Completion) -> Next
     ensures row { DoesPurely p.now at.now result
         (own_rest p.now at.now OwnWait.ForUpdate [] c.now) }
 {
@@ -374,7 +365,7 @@ fn declarators_in(p: &Source, at: &Part) -> u32
 }
 
 /// What follows the declarators.
-fn declared(p: &Source, at: &Part) -> Answer
+fn declared(p: &Source, at: &Part) -> Next
     ensures row { DoesPurely p.now at.now result (declared p.now at.now) }
 {
     if is_for(p.form(at.node)) {
@@ -386,7 +377,7 @@ fn declared(p: &Source, at: &Part) -> Answer
 
 /// The initialisers from this place on.
 #[tactic(auto, using(crate::proofs::Children::children_some, crate::proofs::Children::children_none))]
-fn declarations(p: &Source, at: &Part, from: u32) -> Answer
+fn declarations(p: &Source, at: &Part, from: u32) -> Next
     ensures row { DoesPurely p.now at.now result
         (declarations p.now at.now (children_from p.now (declarators_in p.now at.now) from)) }
 {
@@ -396,15 +387,12 @@ fn declarations(p: &Source, at: &Part, from: u32) -> Answer
         if let Some(e) = p.child_at(d, 0) {
             return ask(at.inner(e), OwnWait::Initialiser { place });
         }
-        if place == u32::MAX {
-            return Err(NoMemory);
-        }
         place += 1;
     }
     declared(p, at)
 }
 
-pub(crate) fn begin_var(p: &Source, at: &Part) -> Answer
+pub(crate) fn begin_var(p: &Source, at: &Part) -> Next
     ensures row { DoesPurely p.now at.now result (var_row p.now at.now) }
 {
     declarations(p, at, 0)
@@ -416,19 +404,16 @@ pub(crate) fn after_initialiser(
     at: &Part,
     place: u32,
     c: &Completion,
-) -> Answer
+) -> Next
     ensures row { Does p.now at.now result heap.new
         (own_rest p.now at.now (OwnWait.Initialiser place) [] c.now heap.old) }
     ensures grows { Grows heap.old heap.new }
 {
-    if place == u32::MAX {
-        return Err(NoMemory);
-    }
     match value_of(c) {
         Some(v) => {
             let name = p.scoping(p.child(declarators_in(p, at), place));
             match write(heap, at.scope, name, v) {
-                Ok(()) => declarations(p, at, place + 1),
+                Ok(()) => declarations(p, at, p.behind(place, 1)),
                 Err(class) => throw(p.alloc(), heap, class),
             }
         },
@@ -436,7 +421,7 @@ pub(crate) fn after_initialiser(
     }
 }
 
-pub(crate) fn begin_for(p: &Source, at: &Part) -> Answer
+pub(crate) fn begin_for(p: &Source, at: &Part) -> Next
     ensures row { DoesPurely p.now at.now result (for_row p.now at.now) }
 {
     match p.child_at(at.node, 0) {
@@ -451,7 +436,7 @@ pub(crate) fn begin_for(p: &Source, at: &Part) -> Answer
     }
 }
 
-pub(crate) fn after_for_start(p: &Source, at: &Part, c: &Completion) -> Answer
+pub(crate) fn after_for_start(p: &Source, at: &Part, c: &Completion) -> Next
     ensures row { DoesPurely p.now at.now result (own_rest p.now at.now OwnWait.ForStart [] c.now) }
 {
     match value_of(c) {

@@ -5,16 +5,13 @@ ghost use Rattle.rip_machine.specs.Reading.{form_of};
 ghost use Rattle.rip_machine.specs.Rows.Switch.{case_tests, clauses_from, entered_at, from_default, is_default, switch_row};
 ghost use Rattle.rip_machine.specs.Table.{own_rest};
 
-use crate::rows::answers::{Answer, ask, end, give, value_of};
+use crate::rows::answers::{ask, end, give, value_of};
 use crate::rows::statements::ended;
 use crate::source::Source;
 use rip_heap::{Heap, strictly_equal};
 use rip_runs::{Completion, Ending, Next, OwnWait, Part};
 use rip_tree::Form;
-use rip_values::{NoMemory, Value};
-
-/// The greatest number of clauses; a place past it is want of memory.
-const MOST_CLAUSES: u32 = u32::MAX - 2;
+use rip_values::Value;
 
 fn is_default(form: Form) -> bool
     ensures { result ≡ is_default form }
@@ -29,13 +26,13 @@ fn place_of_first(p: &Source, clause: u32) -> u32
     if is_default(p.form(clause)) { 0 } else { 1 }
 }
 
-pub(crate) fn begin_switch(p: &Source, at: &Part) -> Answer
+pub(crate) fn begin_switch(p: &Source, at: &Part) -> Next
     ensures row { DoesPurely p.now at.now result (switch_row p.now at.now) }
 {
     ask(p.part_at(at, 0), OwnWait::Discriminant)
 }
 
-pub(crate) fn after_discriminant(p: &Source, at: &Part, c: &Completion) -> Answer
+pub(crate) fn after_discriminant(p: &Source, at: &Part, c: &Completion) -> Next
     ensures row { DoesPurely p.now at.now result
         (own_rest p.now at.now OwnWait.Discriminant [] c.now) }
 {
@@ -49,22 +46,19 @@ pub(crate) fn after_discriminant(p: &Source, at: &Part, c: &Completion) -> Answe
 
 /// The tests of the clauses from this place on, and behind them `default`.
 #[tactic(auto, using(crate::proofs::Children::children_some, crate::proofs::Children::children_none))]
-fn tests(p: &Source, at: &Part, v: Value, from: u32) -> Answer
+fn tests(p: &Source, at: &Part, v: Value, from: u32) -> Next
     ensures row { DoesPurely p.now at.now result
         (case_tests p.now at.now v (clauses_from p.now at.now from)) }
 {
     let mut clause = from;
-    while clause < MOST_CLAUSES {
-        let Some(c) = p.child_at(at.node, clause + 1) else {
-            return default_clause(p, at);
-        };
+    while let Some(c) = p.child_at(at.node, p.behind(clause, 1)) {
         if !is_default(p.form(c)) {
             let wait = OwnWait::CaseTest { clause, value: v };
             return ask(at.inner(p.child(c, 0)), wait);
         }
         clause += 1;
     }
-    Err(NoMemory)
+    default_clause(p, at)
 }
 
 /// Whether the value of a test is that of the `switch`.
@@ -81,19 +75,16 @@ pub(crate) fn after_case_test(
     clause: u32,
     v: Value,
     c: &Completion,
-) -> Answer
+) -> Next
     ensures row { Does p.now at.now result heap.now
         (own_rest p.now at.now (OwnWait.CaseTest clause v) [] c.now heap.now) }
 {
-    if clause >= MOST_CLAUSES {
-        return Err(NoMemory);
-    }
     match value_of(c) {
         Some(test) => {
             if is_same(heap, &v, &test) {
                 clauses(p, at, clause)
             } else {
-                tests(p, at, v, clause + 1)
+                tests(p, at, v, p.behind(clause, 1))
             }
         },
         None => end(c),
@@ -102,36 +93,30 @@ pub(crate) fn after_case_test(
 
 /// `default` and the clauses behind it, where there is one.
 #[tactic(auto, using(crate::proofs::Children::children_some, crate::proofs::Children::children_none))]
-fn default_clause(p: &Source, at: &Part) -> Answer
+fn default_clause(p: &Source, at: &Part) -> Next
     ensures row { DoesPurely p.now at.now result
         (entered_at p.now at.now (from_default p.now (clauses_from p.now at.now 0))) }
 {
     let mut clause = 0;
-    while clause < MOST_CLAUSES {
-        let Some(c) = p.child_at(at.node, clause + 1) else {
-            return give(Value::Undefined);
-        };
+    while let Some(c) = p.child_at(at.node, p.behind(clause, 1)) {
         if is_default(p.form(c)) {
             return clauses(p, at, clause);
         }
         clause += 1;
     }
-    Err(NoMemory)
+    give(Value::Undefined)
 }
 
 // STATEMENTS
 
 /// The statements of the clauses from this place on.
 #[tactic(auto, using(crate::proofs::Children::children_some, crate::proofs::Children::children_none))]
-fn clauses(p: &Source, at: &Part, from: u32) -> Answer
+fn clauses(p: &Source, at: &Part, from: u32) -> Next
     ensures row { DoesPurely p.now at.now result
         (entered_at p.now at.now (clauses_from p.now at.now from)) }
 {
     let mut clause = from;
-    while clause < MOST_CLAUSES {
-        let Some(c) = p.child_at(at.node, clause + 1) else {
-            return give(Value::Undefined);
-        };
+    while let Some(c) = p.child_at(at.node, p.behind(clause, 1)) {
         let place = place_of_first(p, c);
         if let Some(s) = p.child_at(c, place) {
             let wait = OwnWait::ClauseStatement { clause, place };
@@ -139,7 +124,7 @@ fn clauses(p: &Source, at: &Part, from: u32) -> Answer
         }
         clause += 1;
     }
-    Err(NoMemory)
+    give(Value::Undefined)
 }
 
 #[tactic(auto, using(crate::proofs::Children::children_some, crate::proofs::Children::children_none))]
@@ -149,17 +134,14 @@ pub(crate) fn after_clause_statement(
     clause: u32,
     place: u32,
     c: &Completion,
-) -> Answer
+) -> Next
     ensures row { DoesPurely p.now at.now result
         (own_rest p.now at.now (OwnWait.ClauseStatement clause place) [] c.now) }
 {
-    if clause >= MOST_CLAUSES || place == u32::MAX {
-        return Err(NoMemory);
-    }
     match c {
         Completion::Normal(_) => {
-            let node = p.child(at.node, clause + 1);
-            match p.child_at(node, place + 1) {
+            let node = p.child(at.node, p.behind(clause, 1));
+            match p.child_at(node, p.behind(place, 1)) {
                 Some(s) => {
                     let wait = OwnWait::ClauseStatement {
                         clause,
@@ -167,7 +149,7 @@ pub(crate) fn after_clause_statement(
                     };
                     ask(at.inner(s), wait)
                 },
-                None => clauses(p, at, clause + 1),
+                None => clauses(p, at, p.behind(clause, 1)),
             }
         },
         _ => end(&ended(Ending::Switch, *c)),

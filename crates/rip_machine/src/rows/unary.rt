@@ -7,7 +7,7 @@ ghost use Rattle.rip_runs.specs.Row.{with_value};
 ghost use Rattle.rip_machine.specs.Rows.Expressions.{gives, is_built_in_function, is_delete, is_deleted, is_member, is_name, is_type_of, is_unread, kind_of, kind_of_found, kind_text, operand, operand_end, operated, target_found, unary_row, with_outcome};
 ghost use Rattle.rip_machine.specs.Table.{own_rest};
 
-use crate::rows::answers::{Answer, ask, end, give, value_of};
+use crate::rows::answers::{ask, end, give, value_of};
 use crate::rows::assignment::target_found;
 use crate::rows::members::{deletes, target_of};
 use crate::rows::names::abrupt;
@@ -15,12 +15,12 @@ use crate::source::Source;
 use rip_heap::Heap;
 use rip_members::builtin_of;
 use rip_ops::{UnaryOp, unary};
-use rip_runs::{Completion, Inner, OwnWait, Part};
+use rip_runs::{Completion, Inner, Next, OwnWait, Part};
 use rip_tree::Form;
 use rip_values::{Builtin, FixedText, Span, UnaryOperator, Value};
 use std::alloc::Global;
 
-pub(crate) fn begin_unary(p: &Source, at: &Part) -> Answer
+pub(crate) fn begin_unary(p: &Source, at: &Part) -> Next
     ensures row { DoesPurely p.now at.now result (unary_row p.now at.now) }
 {
     ask(operand(p, at), OwnWait::Operand)
@@ -72,7 +72,7 @@ fn is_member(form: Form) -> bool
     matches!(form, Form::Member(_) | Form::Index)
 }
 
-pub(crate) fn after_operand(p: &Source, heap: &mut Heap, at: &Part, c: &Completion) -> Answer
+pub(crate) fn after_operand(p: &Source, heap: &mut Heap, at: &Part, c: &Completion) -> Next
     ensures row { Does p.now at.now result heap.new
         (own_rest p.now at.now OwnWait.Operand [] c.now heap.old) }
     ensures grows { Grows heap.old heap.new }
@@ -84,7 +84,7 @@ pub(crate) fn after_operand(p: &Source, heap: &mut Heap, at: &Part, c: &Completi
 }
 
 /// What `delete` does with its operand.
-fn after_deleted(p: &Source, heap: &mut Heap, at: &Part, c: &Completion) -> Answer
+fn after_deleted(p: &Source, heap: &mut Heap, at: &Part, c: &Completion) -> Next
     ensures row { Does p.now at.now result heap.new
         (operand_end p.now at.now UnaryOperator.Delete c.now heap.old) }
     ensures grows { Grows heap.old heap.new }
@@ -96,7 +96,7 @@ fn after_deleted(p: &Source, heap: &mut Heap, at: &Part, c: &Completion) -> Answ
 }
 
 /// What another operator does with its operand.
-fn after_value(p: &Source, heap: &mut Heap, at: &Part, op: UnaryOperator, c: &Completion) -> Answer
+fn after_value(p: &Source, heap: &mut Heap, at: &Part, op: UnaryOperator, c: &Completion) -> Next
     ensures row { Does p.now at.now result heap.new
         (with_value c.now heap.old (λ a. operated p.now at.now op a heap.old)) }
     ensures grows { Grows heap.old heap.new }
@@ -107,7 +107,7 @@ fn after_value(p: &Source, heap: &mut Heap, at: &Part, op: UnaryOperator, c: &Co
     }
 }
 
-fn operated(p: &Source, heap: &mut Heap, at: &Part, op: UnaryOperator, a: Value) -> Answer
+fn operated(p: &Source, heap: &mut Heap, at: &Part, op: UnaryOperator, a: Value) -> Next
     ensures row { Does p.now at.now result heap.new (operated p.now at.now op a heap.old) }
     ensures grows { Grows heap.old heap.new }
 {
@@ -122,7 +122,7 @@ fn operated(p: &Source, heap: &mut Heap, at: &Part, op: UnaryOperator, a: Value)
     }
 }
 
-fn calculated(alloc: Global, heap: &mut Heap, op: UnaryOp, a: Value) -> Answer
+fn calculated(alloc: Global, heap: &mut Heap, op: UnaryOp, a: Value) -> Next
     ensures row { DoesAnywhere result heap.new (with_outcome (unary_outcome heap.old op a) heap.old
         gives) }
     ensures grows { Grows heap.old heap.new }

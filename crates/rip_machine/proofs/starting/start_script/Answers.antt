@@ -1,4 +1,4 @@
-use Rattle.std.proofs.Common.{◌≡◌, ℕ, Some, Ok, ap, subst}
+use Rattle.std.proofs.Common.{rules, ◌≡◌, ℕ, Some, Ok, ap, subst}
 use Rattle.rip_runs.specs.declared.frame.Ending.TheVariants.{Script}
 use Rattle.rip_runs.specs.declared.part.Part.{Part}
 use Rattle.rip_runs.specs.Law.{Begins}
@@ -11,19 +11,19 @@ use Rattle.rip_machine.specs.Table.{table}
 use Rattle.rip_machine.proofs.Beginnings.{stood}
 use Rattle.rip_machine.proofs.starting.start_script.Goals as goal
 
-pub returns-in-Ok-true-clause-starts : goal.returns-in-Ok-true-clause-starts
-returns-in-Ok-true-clause-starts c =
+pub returns-clause-starts : goal.returns-clause-starts
+returns-clause-starts c =
     let p = c.args.p.now in
     let m = c.args.run.now in
-    let n = c.stand_at.new.run in
+    let n = c.begin.new.self in
     let x = c.enter_script.new.heap in
     let root : ℕ = c.root.result in
     let at : Part = c.script_part-at.result in
-    let entered : script_entered p c.args.script c.args.heap.now ≡ Some x = rw c.in-Ok-true.field-0-test at c.in-Ok-true.ensures.entered in
+    let entered : script_entered p c.args.script c.args.heap.now ≡ Some x = search rules in
     let B : Part → Type 0 = λ at. Begins (table p) (statements p at Script (children_from p at.node 0) x) c.args.fuel x n in
     let D : ℕ → Type 0 = λ depth. B (script_part root depth) in
     let S : ℕ → Type 0 = λ r. StartsRun (table p) (script_begun p m.depth r (script_entered p c.args.script c.args.heap.now)) c.args.fuel c.args.heap.now x m n (Ok tt) in
     let begun : D m.depth =
     subst D c.greatest_depth-depth.ensures.depth (subst B c.script_part-at.ensures
-    (stood c.statements-first.result (table p) at (statements p at Script (children_from p at.node 0)) c.args.fuel n c.statements-first.ensures.row c.stand_at.ensures.begins x)) in
+    (stood c.statements-first.result (table p) at (statements p at Script (children_from p at.node 0)) c.args.fuel n c.statements-first.ensures.row c.begin.ensures.begins x)) in
     subst S c.root.ensures (script_row p root m.depth x, ap (script_begun p m.depth root) entered, begun)

@@ -9,5 +9,5 @@ use Rattle.rip_machine.proofs.starting.start_throw.Goals as goal
 pub returns-clause-starts : goal.returns-clause-starts
 returns-clause-starts c = λ p.
     let row = throws ThrownTypeError c.args.heap.now in
-    let stood = stood_in c.throw-thrown.result (table p) c.outside.result row c.args.fuel c.stand_at.new.run c.throw-thrown.new.heap c.throw-thrown.ensures.row c.stand_at.ensures.begins in
+    let stood = stood_in c.throw-thrown.result (table p) c.outside.result row c.args.fuel c.begin.new.self c.throw-thrown.new.heap c.throw-thrown.ensures.row c.begin.ensures.begins in
     (row, ap (Runs row) (sym stood.0), stood.1)

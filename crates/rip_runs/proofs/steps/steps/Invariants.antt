@@ -2,6 +2,7 @@ use Rattle.std.proofs.Common.{◌≡◌, ◌+◌, ◌*◌, ◌≤◌}
 use Rattle.rip_heap.specs.Growth.{Grows}
 use Rattle.rip_runs.specs.Law.{SameRest, weight}
 use Rattle.rip_runs.specs.Nesting.{IsInside}
+use Rattle.rip_runs.specs.Room.{most_values}
 use Rattle.rip_runs.proofs.steps.steps.Given as goal
 
 abbrev pub invariant-loop : goal.invariant-loop
@@ -10,7 +11,8 @@ invariant-loop g l = record {
   rest : SameRest g.H.Host.answers (g.R.Rows.table l.rows) l.fn.ahead.control l.fn.stack.frames l.fn.ahead.left l.fn.heap l.fn.host l.ahead.control l.stack.frames l.ahead.left l.heap l.host;
   within : l.ahead.left ≤ l.fn.ahead.left;
   inside : IsInside l.stack.most l.ahead.control l.stack.frames;
-  most : l.stack.most ≡ l.fn.stack.most;
+  values : most_values l.ahead.control l.stack.frames l.ahead.left ≤ most_values l.fn.ahead.control l.fn.stack.frames l.fn.ahead.left;
+  most : (l.stack.most ≡ l.fn.stack.most) × (l.fn.stack.room ≤ l.stack.room);
   grows : Grows l.fn.heap l.heap;
 }
 

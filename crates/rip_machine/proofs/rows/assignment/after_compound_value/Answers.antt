@@ -5,7 +5,7 @@ use Rattle.rip_ops.specs.Operators.{binary}
 use Rattle.rip_runs.specs.declared.completion.Completion.TheVariants.{Normal}
 use Rattle.rip_machine.specs.Reading.{operator}
 use Rattle.rip_machine.specs.Rows.Expressions.{abruptly, compound_value, writes}
-use Rattle.rip_machine.proofs.Abruptly.{does_with_host, outcome_abruptly}
+use Rattle.rip_machine.proofs.Abruptly.{answers_want_none, does_with_host, outcome_abruptly}
 use Rattle.rip_machine.proofs.rows.assignment.after_compound_value.Goals as goal
 
 pub returns-in-Err-clause-row : goal.returns-in-Err-clause-row
@@ -22,3 +22,6 @@ returns-in-Err-clause-row g c =
     let row = outcome_abruptly (binary w (operator p at.node) old c.in-Some.right) w x c.in-Err.cause (λ v y. writes p at target v v y) answers in
     does_with_host g.H.Host.answers p at c.abrupt.result c.abrupt.new.heap c.args.host.now (abruptly c.in-Err.cause x) (compound_value p at target old c.args.c.now w) c.abrupt.ensures.row
     (row ∙ ap (λ d. compound_value p at target old d w) (sym right))
+
+pub abrupt-requires : goal.abrupt-requires
+abrupt-requires g c = answers_want_none (binary c.args.heap.now c.operator.result c.args.old.now c.in-Some.right) c.args.heap.now c.binary.new.heap c.in-Err.cause c.in-Err.ensures.answers

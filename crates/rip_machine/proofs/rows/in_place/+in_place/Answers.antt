@@ -62,11 +62,11 @@ pub done_return-returns-in-Some-done_inside-clause-done : goal.done_return-retur
 done_return-returns-in-Some-done_inside-clause-done t c =
     let inner = c.in-Some-done_inside.inner in
     return_done c.args.p.now c.args.at.now c.args.heap.now c.done_inside.new.heap inner.completion c.returned.result c.in-Some.e inner.units
-    (sym c.in-Some.ensures) c.in-Some-done_inside.ensures.done c.returned.ensures
+    (sym c.in-Some.ensures.child) c.in-Some-done_inside.ensures.done c.returned.ensures
 
 pub done_return-returns-in-None-clause-done : goal.done_return-returns-in-None-clause-done
 done_return-returns-in-None-clause-done t c =
     let p = c.args.p.now in
     let at = c.args.at.now in
     let w = c.args.heap.now in
-    ended_done p (return_row p at w) w (Returned Undefined) c.ended.result c.ended.ensures (ap (λ e. return_of at e w) (sym c.in-None.ensures))
+    ended_done p (return_row p at w) w (Returned Undefined) c.ended.result c.ended.ensures (ap (λ e. return_of at e w) (sym c.in-None.ensures.child))

@@ -5,7 +5,7 @@ use Rattle.rip_ops.specs.Operators.{binary}
 use Rattle.rip_runs.specs.declared.completion.Completion.TheVariants.{Normal}
 use Rattle.rip_machine.specs.Reading.{operator}
 use Rattle.rip_machine.specs.Rows.Expressions.{abruptly, gives, right_end}
-use Rattle.rip_machine.proofs.Abruptly.{does_here, outcome_abruptly}
+use Rattle.rip_machine.proofs.Abruptly.{answers_want_none, does_here, outcome_abruptly}
 use Rattle.rip_machine.proofs.rows.operators.after_right.Goals as goal
 
 pub returns-in-Err-clause-row : goal.returns-in-Err-clause-row
@@ -21,3 +21,6 @@ returns-in-Err-clause-row c =
     let row = outcome_abruptly (binary w (operator p at.node) left c.in-Some.right) w x c.in-Err.cause gives answers in
     does_here p at c.abrupt.result c.abrupt.new.heap (abruptly c.in-Err.cause x) (right_end p at left c.args.c.now w) c.abrupt.ensures.row
     (row ∙ ap (λ d. right_end p at left d w) (sym right))
+
+pub abrupt-requires : goal.abrupt-requires
+abrupt-requires c = answers_want_none (binary c.args.heap.now c.operator.result c.args.left c.in-Some.right) c.args.heap.now c.binary.new.heap c.in-Err.cause c.in-Err.ensures.answers

@@ -3,8 +3,8 @@ use Rattle.rip_heap.specs.World.{World}
 use Rattle.rip_machine.specs.Rows.Switch.{case_tests, clauses_from}
 use Rattle.rip_machine.proofs.rows.switch.tests.Given as goal
 
-abbrev pub invariant-loop-clause : goal.invariant-loop-clause
-invariant-loop-clause l = (w : World) → case_tests l.p l.at l.v (clauses_from l.p l.at l.clause) w ≡ case_tests l.p l.at l.v (clauses_from l.p l.at l.from) w
+abbrev pub invariant-loop-c : goal.invariant-loop-c
+invariant-loop-c l = (w : World) → case_tests l.p l.at l.v (clauses_from l.p l.at l.clause) w ≡ case_tests l.p l.at l.v (clauses_from l.p l.at l.from) w
 
-abbrev pub decreases-loop-clause : goal.decreases-loop-clause
-decreases-loop-clause l = 2 ^ 32 - l.clause
+abbrev pub decreases-loop-c : goal.decreases-loop-c
+decreases-loop-c l = 2 ^ 32 - l.clause
