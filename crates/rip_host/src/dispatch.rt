@@ -1,6 +1,7 @@
 ghost use Rattle.std.specs.Prelude.{◌≡◌, ◌<◌, ℕ, Option, Some, None, IfSome, IfOk, OnErr};
 ghost use Rattle.rip_values.specs.declared.value.Refused.TheVariants.{Limit as At};
 ghost use Rattle.rip_heap.specs.Growth.{Grows};
+ghost use Rattle.rip_heap.specs.Step.{TakesNoMemory};
 ghost use Rattle.rip_heap.specs.World.{first_node};
 ghost use Rattle.rip_host.specs.Flow.{event_changed, event_opened, is_prevented, is_stopped, reached};
 ghost use Rattle.rip_host.specs.Opening.{Opens};
@@ -26,6 +27,7 @@ impl Browser {
         requires target { target < first_node }
         ensures opens { Opens (event_opened heap.old self.old kind target)
             heap.old self.old result heap.new self.new }
+        ensures memory { TakesNoMemory result }
         ensures document { self.new.dom ≡ self.old.dom }
         ensures fits { Fits self.new heap.new }
         ensures grows { Grows heap.old heap.new }

@@ -11,7 +11,7 @@ use std::alloc::Global;
 
 /// What the items of a batch do, one after another, where T is the type of an item.
 pub trait Items<H: Host, T> {
-    ghost use Rattle.std.specs.Prelude.{◌≡◌, ◌≤◌, ℕ, IfOk, OnErr};
+    ghost use Rattle.std.specs.Prelude.{◌≡◌, ◌<◌, ◌≤◌, ℕ, IfOk, OnErr};
     ghost use Rattle.rip_heap.specs.Growth.{Grows};
     ghost use Rattle.rip_heap.specs.World.{World};
     ghost use Rattle.rip_runs.specs.Plan.{Plan, ahead, IsFewer};
@@ -27,14 +27,20 @@ pub trait Items<H: Host, T> {
 
     ghost most: { Self → ℕ };
 
+    // The room of the items, and the least with which no step of an item wants memory at this host.
+    ghost room: { Self → ℕ };
+
+    ghost need: { H → ℕ };
+
     /// Stands before an item.
     fn begin(&mut self)
         ensures item_plan { item_plan self.new ≡ item_plan self.old }
         ensures under_way { under_way self.new ≡ item_plan self.old }
         ensures most { most self.new ≡ most self.old }
-        ensures steps { steps self.new ≤ most self.old };
+        ensures steps { steps self.new ≤ most self.old }
+        ensures room { room self.new ≡ room self.old };
 
-    /// The next step of the item under way. Where memory is wanting, all is as before.
+    /// The next step of the item under way. Memory is wanting only where the room is too little, and then all is as before.
     fn next_of(
         &mut self,
         alloc: Global,
@@ -54,7 +60,9 @@ pub trait Items<H: Host, T> {
         ensures most { most self.new ≡ most self.old }
         ensures memory { OnErr result
             ((under_way self.new ≡ under_way self.old) × (steps self.new ≡ steps self.old)
-            × (heap.new ≡ heap.old) × (host.new ≡ host.old)) };
+            × (heap.new ≡ heap.old) × (host.new ≡ host.old)) }
+        ensures lack { OnErr result (room self.old < need host.old) }
+        ensures room { room self.new ≡ room self.old };
 }
 
 /// Where a batch stands.
@@ -108,6 +116,7 @@ impl<I, T> Batch<I, T> {
             (length self.new.batch.items - self.new.begun) self.new.stage)
             (steps_of_batch (I.most self.old.items) 0 (length self.old.batch.items - self.old.begun)
             Stage.Between) }
+        ensures room { I.room self.new.items ≡ I.room self.old.items }
     {
         if (self.begun as usize) < self.batch.len() {
             self.begun += 1;
@@ -146,6 +155,8 @@ impl<I, T> Batch<I, T> {
             ((I.under_way self.new.items ≡ I.under_way self.old.items)
             × (I.steps self.new.items ≡ I.steps self.old.items) × (heap.new ≡ heap.old)
             × (host.new ≡ host.old)) }
+        ensures lack { OnErr result (I.room self.old.items < I.need host.old) }
+        ensures room { I.room self.new.items ≡ I.room self.old.items }
     {
         match self.batch.get(self.begun.saturating_sub(1) as usize) {
             None => Ok(None),
@@ -174,6 +185,10 @@ impl<H: Host, T, I: Items<H, T>> Planner<H> for Batch<I, T> {
     ghost plan = { λ b. left_of_batch (I.item_plan b.items) (I.under_way b.items) b.batch.items b.begun b.stage };
 
     ghost steps = { λ b. steps_of_batch (I.most b.items) (I.steps b.items) (length b.batch.items - b.begun) b.stage };
+
+    ghost room = { λ b. I.room b.items };
+
+    ghost need = { I.need };
 
     fn next(&mut self, alloc: Global, heap: &mut Heap, host: &mut H) -> Result<Step, NoMemory> {
         match self.stage {

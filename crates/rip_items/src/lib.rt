@@ -18,7 +18,8 @@
 //! | [`served_is_one`]: there is one such prefix | `Served.ServedIsOne` |
 //! | [`served_stepwise`]: it is found call by call | `Served.ServedStepwise` |
 //!
-//! A layer above may rest on this: want of memory at a step of an item leaves heap and page as before that step.
+//! A layer above may rest on this: want of memory at a step of an item comes only where its flow has room for fewer nodes than
+//! the page's document may have, and leaves heap and page as before that step.
 #![tactic(auto)]
 
 mod batch;

@@ -47,7 +47,7 @@ pub enum ReplyRefused {
 
 /// What stands behind the script of a page, as the items of a batch use it, where F is the type of a flow under way.
 pub trait PageHost<F>: Host {
-    ghost use Rattle.std.specs.Prelude.{◌≡◌, ◌<◌, ◌≤◌, ℕ, MatchOption, OnOk};
+    ghost use Rattle.std.specs.Prelude.{◌≡◌, ◌<◌, ◌≤◌, ℕ, MatchOption, OnOk, Err};
     ghost use Rattle.rip_heap.specs.Growth.{Grows};
     ghost use Rattle.rip_heap.specs.World.{World};
     ghost use Rattle.rip_runs.specs.Plan.{Plan};
@@ -61,7 +61,13 @@ pub trait PageHost<F>: Host {
 
     ghost most_flow_steps: { ℕ };
 
-    /// Does what an event does before its flow: what is left of it is the flow.
+    // For how many nodes a flow has room, and how many the document of the page may have.
+    ghost flow_room: { F → ℕ };
+
+    ghost most_nodes: { Self → ℕ };
+
+    /// Does what an event does before its flow: what is left of it is the flow. Memory is wanting only where the flow has too
+    /// little room for the page's document.
     fn report(
         &mut self,
         heap: &mut Heap,
@@ -73,7 +79,10 @@ pub trait PageHost<F>: Host {
         ensures grows { Grows heap.old heap.new }
         ensures reports { Reports rules report.now heap.old self.old result heap.new self.new
             flow.new }
-        ensures steps { OnOk result (flow_steps flow.new ≤ most_flow_steps) };
+        ensures steps { OnOk result (flow_steps flow.new ≤ most_flow_steps) }
+        ensures memory { result ≡ Err ReportRefused.Memory → flow_room flow.old
+            < most_nodes self.old }
+        ensures room { flow_room flow.new ≡ flow_room flow.old };
 
     /// What is to be called next in a flow; none where it is over, and then what follows it is done.
     fn next_call(&mut self, heap: &mut Heap, flow: &mut F) -> Option<FlowCall>
@@ -84,7 +93,8 @@ pub trait PageHost<F>: Host {
             → rules.flow flow.old item done heap.old self.old
             ≡ flow_ahead item (rules.flow flow.new item done) done result heap.new self.new }
         ensures fewer { MatchOption result (flow_steps flow.new ≤ flow_steps flow.old)
-            (λ _. flow_steps flow.new < flow_steps flow.old) };
+            (λ _. flow_steps flow.new < flow_steps flow.old) }
+        ensures room { flow_room flow.new ≡ flow_room flow.old };
 
     /// Makes the value of a reply, and tells its callback.
     fn deliver(

@@ -1,4 +1,4 @@
-ghost use Rattle.std.specs.Prelude.{◌≡◌, ◌+◌, IfOk, OnErr};
+ghost use Rattle.std.specs.Prelude.{◌≡◌, ◌+◌, ◌<◌, IfOk, OnErr};
 ghost use Rattle.rip_heap.specs.Growth.{Grows};
 ghost use Rattle.rip_runs.specs.Plan.{IsFewer, ahead};
 ghost use Rattle.rip_items.specs.Items.{call_step, fine, item_plan, left_of_item, reply_plan, steps_of_item, under_way_of};
@@ -51,6 +51,10 @@ impl<F, H: PageHost<F>> Items<H, Item> for SessionItems<F> {
 
     ghost most = { λ _. H.most_flow_steps + 2 };
 
+    ghost room = { λ items. H.flow_room items.flow };
+
+    ghost need = { H.most_nodes };
+
     fn begin(&mut self) {
         self.under_way = UnderWay::Fresh;
     }
@@ -96,6 +100,8 @@ impl<F> SessionItems<F> {
         ensures memory { OnErr result
             ((self.new.under_way ≡ UnderWay.Fresh) × (heap.new ≡ heap.old)
             × (host.new ≡ host.old)) }
+        ensures lack { OnErr result (H.flow_room self.old.flow < H.most_nodes host.old) }
+        ensures room { H.flow_room self.new.flow ≡ H.flow_room self.old.flow }
     {
         match item {
             Item::Event(report) => self.event_step(report, number, heap, host),
@@ -131,6 +137,8 @@ impl<F> SessionItems<F> {
         ensures memory { OnErr result
             ((self.new.under_way ≡ UnderWay.Fresh) × (heap.new ≡ heap.old)
             × (host.new ≡ host.old)) }
+        ensures lack { OnErr result (H.flow_room self.old.flow < H.most_nodes host.old) }
+        ensures room { H.flow_room self.new.flow ≡ H.flow_room self.old.flow }
     {
         match host.report(heap, report, &mut self.flow) {
             Ok(()) => {
@@ -156,6 +164,7 @@ impl<F> SessionItems<F> {
         ensures fewer { IsFewer result
             (steps_of_item H.most_flow_steps (H.flow_steps self.new.flow) self.new.under_way)
             (H.flow_steps self.old.flow + 1) }
+        ensures room { H.flow_room self.new.flow ≡ H.flow_room self.old.flow }
     {
         match host.next_call(heap, &mut self.flow) {
             None => {

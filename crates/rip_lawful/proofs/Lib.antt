@@ -5,4 +5,5 @@ pub mod InTurn
 pub mod Lawful
 pub mod Nested
 pub mod Resting
+pub mod Rooms
 pub mod Staging

@@ -1,10 +1,13 @@
-ghost use Rattle.std.specs.Prelude.{◌≡◌, ◌<◌, ◌≤◌, ◌^◌, ℕ, false, length, List, IfOk};
+ghost use Rattle.std.specs.Prelude.{◌≡◌, ◌<◌, ◌≤◌, ◌^◌, ℕ, false, length, List, Some, IfOk, IsTrue};
 ghost use Rattle.rip_heap.specs.Growth.{Grows};
 ghost use Rattle.rip_wire.specs.Batches.{Contents};
+ghost use Rattle.rip_wire.specs.declared.ending.Ending.{Ending as Ends};
 ghost use Rattle.rip_course.specs.Services.{Called, Service as Meant};
 ghost use Rattle.rip_course.specs.Stages.{MayAdmit, Resumed, Stage, begun, is_done, with_batch};
+ghost use Rattle.rip_runner.specs.Rooms.{HasRooms};
 ghost use Rattle.rip_replica.specs.Numbers.{HasNumberSo, KeepsServed, KeepsSteps, open_of};
 ghost use Rattle.rip_replica.specs.Parts.{Doing, meaning_of};
+ghost use Rattle.rip_replica.specs.Rooms.{IfLives, IsAtCall};
 ghost use Rattle.rip_lawful.specs.AtStage.{AreDoneBy, IsAtStage};
 ghost use Rattle.rip_lawful.specs.Depth.{IsWithinSo, NestsWithin};
 
@@ -16,7 +19,8 @@ use rip_runs::Evaluator;
 use rip_values::NoMemory;
 use std::alloc::Global;
 
-/// A session before the first unit of its opening, with so much fuel for an item.
+/// A session before the first unit of its opening, with so much fuel for an item. It has the rooms that its evaluator and its
+/// items have.
 pub fn open<E: Evaluator<H> + Drop, I: Works<H, T> + Drop, T: Drop, H: Host + Drop>(
     alloc: Global,
     evaluator: E,
@@ -37,6 +41,9 @@ pub fn open<E: Evaluator<H> + Drop, I: Works<H, T> + Drop, T: Drop, H: Host + Dr
         → (doing seed time).page ≡ host
         → IsAtStage (E.evaluation program) doing I.item_plan I.under_way I.may_serve r
         (begun seed time)) }
+    ensures rooms { IfOk result
+        (λ r. (program : E.Program) → E.has_room evaluator full → I.need host ≤ I.room items
+        → HasRooms (E.evaluation program) E.has_room (λ p. I.room p.items) I.need r.runner r.host) }
 {
     let mut batch = Vec::new(alloc);
     batch.push(opening)?;
@@ -55,7 +62,7 @@ pub fn open<E: Evaluator<H> + Drop, I: Works<H, T> + Drop, T: Drop, H: Host + Dr
     })
 }
 
-/// Admits the items of a batch to a session.
+/// Admits the items of a batch to a session, which keeps its rooms.
 pub fn admit<E: Evaluator<H>, I: Works<H, T>, T: Drop, H: Host>(
     replica: &mut Replica<E, I, T, H>,
     number: u64,
@@ -71,11 +78,17 @@ pub fn admit<E: Evaluator<H>, I: Works<H, T>, T: Drop, H: Host>(
         → MayAdmit (meaning_of doing) st b
         → IsAtStage (E.evaluation program) doing I.item_plan I.under_way I.may_serve replica.new
         (with_batch b st) }
+    ensures rooms { (program : E.Program)
+        → HasRooms (E.evaluation program) E.has_room (λ p. I.room p.items) I.need
+        replica.old.runner replica.old.host
+        → HasRooms (E.evaluation program) E.has_room (λ p. I.room p.items) I.need
+        replica.new.runner replica.new.host }
 {
     replica.admit(number, batch);
 }
 
-/// Goes on with a session whose batch is not done for the units of a slice, which may be none: then all stays.
+/// Goes on with a session whose batch is not done for the units of a slice, which may be none: then all stays. Where there
+/// are rooms for the items, memory is wanting only at a call.
 pub fn resume<E: Evaluator<H>, I: Works<H, T>, T, H: Host, V: Service>(
     replica: &mut Replica<E, I, T, H>,
     alloc: Global,
@@ -90,6 +103,18 @@ pub fn resume<E: Evaluator<H>, I: Works<H, T>, T, H: Host, V: Service>(
     ensures page { (number : H → ℕ) → KeepsSteps (E.evaluation program.now) I.under_way number
         → KeepsServed I.served number
         → HasNumberSo result (number replica.old.host) (number replica.new.host) }
+    ensures memory { KeepsSteps (E.evaluation program.now) I.under_way I.need
+        → KeepsServed I.served I.need → (IsTrue H.may_want_memory → ⊥)
+        → HasRooms (E.evaluation program.now) E.has_room (λ p. I.room p.items) I.need
+        replica.old.runner replica.old.host
+        → (item : ℕ) → result ≡ Progress.Finished (Some (Ends.Memory item))
+        → IsAtCall replica.new.runner.phase }
+    ensures rooms { KeepsSteps (E.evaluation program.now) I.under_way I.need
+        → KeepsServed I.served I.need → (IsTrue H.may_want_memory → ⊥)
+        → HasRooms (E.evaluation program.now) E.has_room (λ p. I.room p.items) I.need
+        replica.old.runner replica.old.host
+        → IfLives result (HasRooms (E.evaluation program.now) E.has_room
+        (λ p. I.room p.items) I.need replica.new.runner replica.new.host) }
     ensures depth { (doing : ℕ → ℕ → Doing T H) (st : Stage) (meant : Meant) (calls : List Called)
         (most : ℕ)
         → AreDoneBy doing I.plans I.fact I.served I.ending

@@ -4,6 +4,7 @@ pub mod PlayLemmas
 pub mod RunUnits
 pub mod ServedParts
 pub mod ResumeLemmas
+pub mod RoomLemmas
 pub mod SliceLemmas
 pub mod StageLemmas
 pub mod TurnLemmas

@@ -2,6 +2,7 @@ pub mod Kept
 pub mod Numbers
 pub mod Parts
 pub mod Plays
+pub mod Rooms
 pub mod Serving
 pub mod Sessions
 pub mod Slices

@@ -25,6 +25,10 @@ impl<H: Host, T, I: Items<H, T>> Planner<H> for AtItem<I, T> {
 
     ghost steps = { λ p. I.steps p.items };
 
+    ghost room = { λ p. I.room p.items };
+
+    ghost need = { I.need };
+
     ghost kept = { IsKept I.item_plan };
 
     ghost same = { λ p. keeps_all (I.item_plan) p };

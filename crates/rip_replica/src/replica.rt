@@ -1,6 +1,8 @@
-ghost use Rattle.std.specs.Prelude.{◌≡◌, ◌<◌, ◌≤◌, ℕ, ◌-◌, ◌*◌, ◌+◌, length};
+ghost use Rattle.std.specs.Prelude.{◌≡◌, ◌<◌, ◌≤◌, ℕ, ◌-◌, ◌*◌, ◌+◌, length, IsTrue};
 ghost use Rattle.rip_replica.specs.Numbers.{HasNumber, KeepsSteps, StandsIdle};
 ghost use Rattle.rip_heap.specs.Growth.{Grows};
+ghost use Rattle.rip_runner.specs.Rooms.{HasRooms};
+ghost use Rattle.rip_replica.specs.Rooms.{HasNoLack, StandsAt};
 ghost use Rattle.rip_replica.specs.Standing.{IsOnward, TurnsSo, place_behind, spot, turn_behind};
 
 use crate::item::AtItem;
@@ -67,7 +69,14 @@ impl<E, I, T, H> Replica<E, I, T, H> {
         ensures number { self.new.number ≡ self.old.number }
         ensures page { (number : H → ℕ) → KeepsSteps (E.evaluation program.now) I.under_way number
             → HasNumber result (number self.old.host) (number self.new.host) }
+        ensures memory { KeepsSteps (E.evaluation program.now) I.under_way I.need
+            → (IsTrue H.may_want_memory → ⊥)
+            → HasRooms (E.evaluation program.now) E.has_room (λ p. I.room p.items) I.need
+            self.old.runner self.old.host
+            → HasRooms (E.evaluation program.now) E.has_room (λ p. I.room p.items) I.need
+            self.new.runner self.new.host × HasNoLack result }
         ensures idle { StandsIdle result self.new.place }
+        ensures phase { StandsAt result self.new.runner.phase }
     {
         match self.place {
             Place::First if n == 0 => Turn::Busy,
@@ -95,7 +104,13 @@ impl<E, I, T, H> Replica<E, I, T, H> {
             (length self.new.runner.planner.batch.items) self.new.place self.new.runner.planner.begun result }
         ensures number { self.new.number ≡ self.old.number }
         ensures idle { StandsIdle result self.new.place }
+        ensures phase { StandsAt result self.new.runner.phase }
         ensures world { (self.new.heap ≡ self.old.heap) × (self.new.host ≡ self.old.host) }
+        ensures memory { (program : E.Program)
+            → HasRooms (E.evaluation program) E.has_room (λ p. I.room p.items) I.need
+            self.old.runner self.old.host
+            → HasRooms (E.evaluation program) E.has_room (λ p. I.room p.items) I.need
+            self.new.runner self.new.host × HasNoLack result }
     {
         if self.runner.planner.begun as usize >= self.runner.planner.batch.len() {
             self.place = Place::Idle;
@@ -130,7 +145,14 @@ impl<E, I, T, H> Replica<E, I, T, H> {
         ensures number { self.new.number ≡ self.old.number }
         ensures page { (number : H → ℕ) → KeepsSteps (E.evaluation program.now) I.under_way number
             → HasNumber result (number self.old.host) (number self.new.host) }
+        ensures memory { KeepsSteps (E.evaluation program.now) I.under_way I.need
+            → (IsTrue H.may_want_memory → ⊥)
+            → HasRooms (E.evaluation program.now) E.has_room (λ p. I.room p.items) I.need
+            self.old.runner self.old.host
+            → HasRooms (E.evaluation program.now) E.has_room (λ p. I.room p.items) I.need
+            self.new.runner self.new.host × HasNoLack result }
         ensures idle { StandsIdle result self.new.place }
+        ensures phase { StandsAt result self.new.runner.phase }
     {
         let rested = self
             .runner

@@ -1,13 +1,15 @@
-ghost use Rattle.std.specs.Prelude.{◌≡◌, ◌≤◌, ◌⊎◌, ◌-◌, ◌<◌, ◌^◌, ◌==◌, ℕ, true, length, slice_get, List, Some, IfOk, OnErr, OnOk};
+ghost use Rattle.std.specs.Prelude.{◌≡◌, ◌≤◌, ◌⊎◌, ◌-◌, ◌<◌, ◌^◌, ◌==◌, ℕ, IsTrue, true, length, slice_get, List, Some, IfOk, OnErr, OnOk};
 ghost use Rattle.rip_data.specs.Datum.{Tree};
 ghost use Rattle.rip_heap.specs.Growth.{Grows};
 ghost use Rattle.rip_wire.specs.declared.ending.Ending.{Ending as Ends};
 ghost use Rattle.rip_course.specs.Parts.{serves};
 ghost use Rattle.rip_course.specs.Services.{Called, Service as Meant};
+ghost use Rattle.rip_runner.specs.Rooms.{HasRooms};
 ghost use Rattle.rip_replica.specs.Serving.{HasArgs, IsCallOf, IsServed, IsUnserved, given_to};
 ghost use Rattle.rip_course.specs.Stages.{Resumed, Stage};
 ghost use Rattle.rip_replica.specs.Numbers.{HasNumberSo, KeepsServed, KeepsSteps, StandsIdleSo};
 ghost use Rattle.rip_replica.specs.Parts.{Doing, meaning_of};
+ghost use Rattle.rip_replica.specs.Rooms.{IfLives, IsAtCall, IsMismatch};
 ghost use Rattle.rip_replica.specs.Sessions.{IsAt, IsBusy};
 ghost use Rattle.rip_replica.specs.Slices.{Agrees, SlicedSo};
 ghost use Rattle.rip_replica.specs.Standing.{spot};
@@ -36,6 +38,10 @@ impl<E, I, T, H> Replica<E, I, T, H> {
         ensures runs { (self.new.runner.evaluator ≡ self.old.runner.evaluator)
             × (self.new.runner.full ≡ self.old.runner.full) }
         ensures world { (self.new.heap ≡ self.old.heap) × (self.new.host ≡ self.old.host) }
+        ensures rooms { (I.room self.new.runner.planner.items
+            ≡ I.room self.old.runner.planner.items)
+            × (self.new.runner.phase ≡ self.old.runner.phase)
+            × (self.new.runner.fuel ≡ self.old.runner.fuel) }
     {
         self.number = number;
         self.runner.planner.items.enter(number);
@@ -45,7 +51,7 @@ impl<E, I, T, H> Replica<E, I, T, H> {
     }
 
     /// Goes on with the batch for the units of a slice. Each call that comes is served within it, with a reply of the
-    /// service. Want of memory in an item ends the session there.
+    /// service. Want of memory in an item ends the session there; where there are rooms for the items, it is at a call.
     pub fn resume<V: Service>(
         &mut self,
         alloc: Global,
@@ -65,6 +71,18 @@ impl<E, I, T, H> Replica<E, I, T, H> {
         ensures page { (number : H → ℕ) → KeepsSteps (E.evaluation program.now) I.under_way number
             → KeepsServed I.served number → HasNumberSo result (number self.old.host)
             (number self.new.host) }
+        ensures memory { KeepsSteps (E.evaluation program.now) I.under_way I.need
+            → KeepsServed I.served I.need → (IsTrue H.may_want_memory → ⊥)
+            → HasRooms (E.evaluation program.now) E.has_room (λ p. I.room p.items) I.need
+            self.old.runner self.old.host
+            → (item : ℕ) → result ≡ Progress.Finished (Some (Ends.Memory item))
+            → IsAtCall self.new.runner.phase }
+        ensures rooms { KeepsSteps (E.evaluation program.now) I.under_way I.need
+            → KeepsServed I.served I.need → (IsTrue H.may_want_memory → ⊥)
+            → HasRooms (E.evaluation program.now) E.has_room (λ p. I.room p.items) I.need
+            self.old.runner self.old.host
+            → IfLives result (HasRooms (E.evaluation program.now) E.has_room
+            (λ p. I.room p.items) I.need self.new.runner self.new.host) }
         ensures idle { StandsIdleSo result self.new.place }
         ensures slice { SlicedSo (E.evaluation program.now) I.fact I.served I.ending I.may_serve
             self.old.number
@@ -104,6 +122,18 @@ impl<E, I, T, H> Replica<E, I, T, H> {
         ensures page { (number : H → ℕ) → KeepsSteps (E.evaluation program.now) I.under_way number
             → KeepsServed I.served number → HasNumberSo result (number self.old.host)
             (number self.new.host) }
+        ensures memory { KeepsSteps (E.evaluation program.now) I.under_way I.need
+            → KeepsServed I.served I.need → (IsTrue H.may_want_memory → ⊥)
+            → HasRooms (E.evaluation program.now) E.has_room (λ p. I.room p.items) I.need
+            self.old.runner self.old.host
+            → (item : ℕ) → result ≡ Progress.Finished (Some (Ends.Memory item))
+            → IsAtCall self.new.runner.phase }
+        ensures rooms { KeepsSteps (E.evaluation program.now) I.under_way I.need
+            → KeepsServed I.served I.need → (IsTrue H.may_want_memory → ⊥)
+            → HasRooms (E.evaluation program.now) E.has_room (λ p. I.room p.items) I.need
+            self.old.runner self.old.host
+            → IfLives result (HasRooms (E.evaluation program.now) E.has_room
+            (λ p. I.room p.items) I.need self.new.runner self.new.host) }
         ensures idle { StandsIdleSo result self.new.place }
         ensures slice { SlicedSo (E.evaluation program.now) I.fact I.served I.ending I.may_serve
             self.old.number
@@ -211,6 +241,8 @@ impl<E, I, T, H> Replica<E, I, T, H> {
             ≡ Progress.Finished (Some
             (I.ending self.old.runner.planner.batch.items close self.old.host)))
             ⊎ (result ≡ Progress.Finished (Some (Ends.Memory self.old.runner.planner.begun))) }
+        ensures memory { (item : ℕ) → result ≡ Progress.Finished (Some (Ends.Memory item))
+            → IsMismatch close }
         ensures kept { (self.new.runner ≡ self.old.runner) × (self.new.heap ≡ self.old.heap)
             × (self.new.host ≡ self.old.host) }
         ensures number { self.new.number ≡ self.old.number }

@@ -16,7 +16,7 @@ pub struct Call {
 
 /// What the items of a session's batches do over a page, where T is the type of an item.
 pub trait Works<H: Host, T>: Items<H, T> {
-    ghost use Rattle.std.specs.Prelude.{◌≡◌, ℕ, Bool, true, List, IfOk};
+    ghost use Rattle.std.specs.Prelude.{◌≡◌, ℕ, Bool, true, List, IfOk, OnErr};
     ghost use Rattle.rip_data.specs.Datum.{tree_of};
     ghost use Rattle.rip_heap.specs.World.{World};
     ghost use Rattle.rip_runs.specs.Plan.{Plan};
@@ -24,6 +24,7 @@ pub trait Works<H: Host, T>: Items<H, T> {
     ghost use Rattle.rip_runs.specs.declared.close.Close.{Close as Closed};
     ghost use Rattle.rip_course.specs.Parts.{Fact, Given};
     ghost use Rattle.rip_replica.specs.Plays.{IsItemPlan};
+    ghost use Rattle.rip_replica.specs.Rooms.{IsMismatch, IsNoLack};
     ghost use Rattle.rip_replica.specs.Serving.{HasArgs, IsCallOf};
 
     // What the items of a batch of a number do.
@@ -42,7 +43,8 @@ pub trait Works<H: Host, T>: Items<H, T> {
 
     /// Turns to a batch of this number.
     fn enter(&mut self, batch: u64)
-        ensures { Self.item_plan self.new ≡ plans batch };
+        ensures plans { Self.item_plan self.new ≡ plans batch }
+        ensures room { Self.room self.new ≡ Self.room self.old };
 
     /// A copy of the call that the item reports, if it reports one.
     fn call(alloc: Global, item: &T) -> Result<Option<Call>, NoMemory>
@@ -61,9 +63,11 @@ pub trait Works<H: Host, T>: Items<H, T> {
         ensures served { host.new ≡ served batch (record { time = time; reply = tree_of reply })
             host.old };
 
-    /// The ending where an item of this batch closed so.
+    /// The ending where an item of this batch closed so. Memory is wanting only where it is a mismatch, which tells the call.
     fn ending(alloc: Global, batch: &Vec<T>, close: Close, host: &H) -> Result<Ending, NoMemory>
-        ensures { IfOk result (λ e. e ≡ ending batch.now.items close host.now) };
+        ensures ending { IfOk result (λ e. e ≡ ending batch.now.items close host.now) }
+        ensures told { IfOk result IsNoLack }
+        ensures memory { OnErr result (IsMismatch close) };
 
     // A call alone waits, and no item takes a unit but for its fuel.
     ghost shapes: { (batch : ℕ) (item : T) (n : ℕ) (w : World) (s : H)

@@ -2,3 +2,4 @@ pub mod Going
 pub mod Laws
 pub mod Numbers
 pub mod Play
+pub mod Rooms

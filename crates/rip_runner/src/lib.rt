@@ -14,6 +14,7 @@
 //! | [`Runner`] | contracts see its fields; with the meaning of its planner it is `Going.Going` |
 //! | what is left of the plan | `Going.rest`, by the phase `Going.rest_in` |
 //! | [`Runner::resume`] | `Going.Rests`, with no change of the outside |
+//! | that it wants no memory where it has the rooms for it | `Rooms.HasNoLack` by `Rooms.HasRooms` |
 //! | that it changes no number of the host that runs and steps keep | `Numbers.HasNumber` by `Numbers.KeepsNumber` |
 //! | [`Runner::go_on`], where an [`Outside`] changes the host in the middle of the call | `Going.Drives` |
 //! | that a runner stands at a batch after so many units | `Laws.StandsAt` |

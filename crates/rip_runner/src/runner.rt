@@ -1,7 +1,8 @@
-ghost use Rattle.std.specs.Prelude.{◌≡◌, ◌<◌, ◌≤◌, ℕ, []};
+ghost use Rattle.std.specs.Prelude.{◌≡◌, ◌<◌, ◌≤◌, ℕ, [], IsTrue};
 ghost use Rattle.rip_heap.specs.Growth.{Grows};
 ghost use Rattle.rip_runner.specs.Going.{BeginsRun, IsOnward, IsWithin, IsWithinTurn, Keeps, Moves, Rests, going, turns, weight};
 ghost use Rattle.rip_runner.specs.Numbers.{HasNumber, HasNumberSo, KeepsNumber};
+ghost use Rattle.rip_runner.specs.Rooms.{HasNoLack, HasNoLackSo, HasRooms};
 ghost use Rattle.rip_runs.specs.Plan.{opened};
 
 use crate::planner::Planner;
@@ -65,7 +66,7 @@ impl<E, P> Runner<E, P> {
         }
     }
 
-    /// Goes on with the plan for at most `n` units.
+    /// Goes on with the plan for at most `n` units. Where it has its rooms and the host wants no memory, none is wanting.
     pub fn resume<H: Host>(
         &mut self,
         alloc: Global,
@@ -90,6 +91,11 @@ impl<E, P> Runner<E, P> {
             ≤ turns (P.steps self.old.planner) self.old.phase }
         ensures number { (number : H → ℕ) → KeepsNumber (E.evaluation program.now) P.plan number
             → HasNumber result (number host.old) (number host.new) }
+        ensures memory { KeepsNumber (E.evaluation program.now) P.plan P.need
+            → (IsTrue H.may_want_memory → ⊥)
+            → HasRooms (E.evaluation program.now) E.has_room P.room P.need self.old host.old
+            → HasRooms (E.evaluation program.now) E.has_room P.room P.need self.new host.new
+            × HasNoLack result }
     {
         let mut left = n;
         loop {
@@ -125,6 +131,11 @@ impl<E, P> Runner<E, P> {
             (turns (P.steps self.old.planner) self.old.phase) }
         ensures number { (number : H → ℕ) → KeepsNumber (E.evaluation program.now) P.plan number
             → HasNumberSo result (number host.old) (number host.new) }
+        ensures memory { KeepsNumber (E.evaluation program.now) P.plan P.need
+            → (IsTrue H.may_want_memory → ⊥)
+            → HasRooms (E.evaluation program.now) E.has_room P.room P.need self.old host.old
+            → HasRooms (E.evaluation program.now) E.has_room P.room P.need self.new host.new
+            × HasNoLackSo result }
     {
         match self.phase {
             Phase::Asking => self.ask(alloc, program, heap, host, n),
@@ -166,6 +177,11 @@ impl<E, P> Runner<E, P> {
             (turns (P.steps self.old.planner) Phase.Asking) }
         ensures number { (number : H → ℕ) → KeepsNumber (E.evaluation program.now) P.plan number
             → HasNumberSo result (number host.old) (number host.new) }
+        ensures memory { KeepsNumber (E.evaluation program.now) P.plan P.need
+            → (IsTrue H.may_want_memory → ⊥)
+            → HasRooms (E.evaluation program.now) E.has_room P.room P.need self.old host.old
+            → HasRooms (E.evaluation program.now) E.has_room P.room P.need self.new host.new
+            × HasNoLackSo result }
     {
         let step = match self.planner.next(alloc, heap, host) {
             Ok(step) => step,
@@ -195,6 +211,7 @@ impl<E, P> Runner<E, P> {
     where
         E: Evaluator<H>,
         P: Planner<H>,
+        requires { self.old.phase ≡ Phase.Asking }
         ensures grows { Grows heap.old heap.new }
         ensures keeps { Keeps (E.evaluation program.now) (going P.plan self.old)
             (going P.plan self.new) }
@@ -202,6 +219,10 @@ impl<E, P> Runner<E, P> {
         ensures begins { BeginsRun (E.evaluation program.now) item (opened opening.now)
             (going P.plan self.old) heap.old n (going P.plan self.new) heap.new result }
         ensures weighs { weight self.new.phase ≤ 2 }
+        ensures memory { (host : H)
+            → HasRooms (E.evaluation program.now) E.has_room P.room P.need self.old host
+            → HasRooms (E.evaluation program.now) E.has_room P.room P.need self.new host
+            × HasNoLackSo result }
     {
         match self
             .evaluator
@@ -250,6 +271,11 @@ impl<E, P> Runner<E, P> {
             (turns (P.steps self.old.planner) (Phase.Running item)) }
         ensures number { (number : H → ℕ) → KeepsNumber (E.evaluation program.now) P.plan number
             → HasNumberSo result (number host.old) (number host.new) }
+        ensures memory { KeepsNumber (E.evaluation program.now) P.plan P.need
+            → (IsTrue H.may_want_memory → ⊥)
+            → HasRooms (E.evaluation program.now) E.has_room P.room P.need self.old host.old
+            → HasRooms (E.evaluation program.now) E.has_room P.room P.need self.new host.new
+            × HasNoLackSo result }
     {
         let fuel = self.evaluator.fuel_left();
         match self.evaluator.advance(alloc, program, heap, host, n) {

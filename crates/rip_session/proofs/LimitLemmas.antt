@@ -1,6 +1,6 @@
 -- A session has the limits of the manifest as it is opened, and its heap keeps them.
-use Rattle.std.proofs.Common.{◌≡◌, ℕ, ℤ, ◌≤◌, Bool, true, false, List, [], ◌∷◌, length, Option, None, Some, refl, sym, ap, ◌∙◌, subst, arith}
-use Rattle.std.specs.Prelude.{◌+◌, nat_le, nat_lt, is_some, if◌then◌else◌}
+use Rattle.std.proofs.Common.{◌≡◌, ℕ, ℤ, ◌≤◌, Bool, true, false, List, [], ◌∷◌, length, Option, None, Some, refl, sym, ◌∙◌, subst, arith}
+use Rattle.std.specs.Prelude.{◌+◌, max, nat_le, nat_lt, is_some, if◌then◌else◌}
 use Rattle.rip_values.specs.FixedTexts.{fixed_span}
 use Rattle.rip_values.specs.Pool.{Texts, with_text}
 use Rattle.rip_values.specs.declared.limits.Limits.{Limits}
@@ -19,6 +19,7 @@ use Rattle.rip_host.specs.Replies.{most_replies}
 use Rattle.rip_runs.specs.Evaluation.{Evaluation}
 use Rattle.rip_runner.specs.Going.{depth_in}
 use Rattle.rip_machine.specs.Law.{Standing}
+use Rattle.rip_machine.specs.Plans.{HasRoom}
 use Rattle.rip_replica.specs.declared.replica.Place.TheVariants.{First}
 use Rattle.rip_replica.specs.declared.replica.Replica.{Replica}
 use Rattle.rip_replica.specs.Numbers.{open_at, open_of}
@@ -26,7 +27,7 @@ use Rattle.rip_work.specs.declared.items.PageItems.{PageItems}
 use Rattle.rip_work.specs.Tasks.{Task}
 use Rattle.rip_session.specs.Application.{IsPageWithin}
 use Rattle.rip_host.specs.declared.browser.Browser.{Browser}
-use Rattle.rip_machine.specs.Loading.{cost_of_literals, world_loaded}
+use Rattle.rip_machine.specs.Loading.{cost_of_literals, values_needed, world_loaded}
 use Rattle.rip_visit.specs.declared.opening.Start.TheVariants.{Passes, Loads}
 use Rattle.rip_session.specs.declared.opening.Opened.{Opened}
 use Rattle.rip_session.specs.Limits.{HasLimits, HasPageLimits, PassesNoLimit}
@@ -77,7 +78,7 @@ page-limits : (app : Loaded) (w : World) (s : Browser) → HasLimits app.manifes
 page-limits app w s h =
     either app.manifest.limits (nat_le (w.pool.used + cost_of_literals app.program) w.pool.limit)
     (record { heap = world_loaded app.program w; machine = loaded_machine app w; browser = s; start = Loads (length app.program.grove.roots) })
-    (record { heap = w; machine = idle_machine app.manifest.limits.depth; browser = s; start = Passes Units })
+    (record { heap = w; machine = idle_machine app.manifest.limits; browser = s; start = Passes Units })
     (record { cells = h.cells; units = h.units; text = h.text }) h
 
 no-page-limits : (app : Loaded) (limit : Limit) (w : World) (seed : ℕ) (time : ℤ) → HasLimits app.manifest.limits w
@@ -107,10 +108,21 @@ nodes-limit : (s : Opening) (xs : List PageNode) → (let o = nodes_in s xs in l
 nodes-limit s [] = refl
 nodes-limit s (x ∷ xs) = nodes-limit (node_step s x) xs ∙ (let c = node-counts s x in c.limit)
 
--- a session that is opened has these limits of its page and of its runs
+-- a session that is opened has these limits of its page and of its runs, and the room for these
 record OpensWithin (limits : Limits) (o : Opened) : Type 0 where
   page : HasPageLimits limits o.browser
   depth : (let m = o.machine in m.depth) ≡ limits.depth
+  room : HasRoom o.machine limits.fuel
+
+idle-room : (limits : Limits) → HasRoom (idle_machine limits) limits.fuel
+idle-room limits =
+    let one : 1 ≤ max 1 (values_needed limits.fuel) = omega arith in
+    record { runs = omega arith; run = one }
+
+loaded-room : (app : Loaded) (w : World) → HasRoom (loaded_machine app w) app.manifest.limits.fuel
+loaded-room app w =
+    let idle : HasRoom (idle_machine app.manifest.limits) app.manifest.limits.fuel = idle-room app.manifest.limits in
+    record { runs = idle.runs; run = idle.run }
 
 opens-either : (limits : Limits) (b : Bool) (x y : Opened) → OpensWithin limits x → OpensWithin limits y → OpensWithin limits (if b then x else y)
 opens-either limits true x y f g = f
@@ -123,11 +135,11 @@ page-opens : (app : Loaded) (w : World) (s : Browser) → HasPageLimits app.mani
 page-opens app w s h =
     opens-either app.manifest.limits (nat_le (w.pool.used + cost_of_literals app.program) w.pool.limit)
     (record { heap = world_loaded app.program w; machine = loaded_machine app w; browser = s; start = Loads (length app.program.grove.roots) })
-    (record { heap = w; machine = idle_machine app.manifest.limits.depth; browser = s; start = Passes Units })
-    (record { page = h; depth = refl }) (record { page = h; depth = refl })
+    (record { heap = w; machine = idle_machine app.manifest.limits; browser = s; start = Passes Units })
+    (record { page = h; depth = refl; room = loaded-room app w }) (record { page = h; depth = refl; room = idle-room app.manifest.limits })
 
 no-page-opens : (app : Loaded) (limit : Limit) (w : World) (seed : ℕ) (time : ℤ) → OpensWithin app.manifest.limits (without_page app limit w seed time)
-no-page-opens app limit w seed time = record { page = record { nodes = refl; queue = refl }; depth = refl }
+no-page-opens app limit w seed time = record { page = record { nodes = refl; queue = refl }; depth = refl; room = idle-room app.manifest.limits }
 
 scope-opens : (app : Loaded) (w : World) (seed : ℕ) (time : ℤ) → OpensWithin app.manifest.limits (with_scope app w seed time)
 scope-opens app w seed time =
@@ -150,6 +162,9 @@ opened-page app seed time = (let opens = scope-by-opens app seed time (top_scope
 
 pub opened-depth : (app : Loaded) (seed : ℕ) (time : ℤ) → (let o = opened_of app seed time in let m = o.machine in m.depth) ≡ app.manifest.limits.depth
 opened-depth app seed time = (let opens = scope-by-opens app seed time (top_scope app) in opens.depth)
+
+pub opened-room : (app : Loaded) (seed : ℕ) (time : ℤ) → HasRoom (let o = opened_of app seed time in o.machine) app.manifest.limits.fuel
+opened-room app seed time = (let opens = scope-by-opens app seed time (top_scope app) in opens.room)
 
 -- one that passes no limit of its own passes none of these
 pub page-within : (limits : Limits) (e : Evaluation Standing Browser) (r : Replica Standing PageItems Task Browser) → HasPageLimits limits r.host

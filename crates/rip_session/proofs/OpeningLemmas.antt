@@ -1,6 +1,6 @@
 -- What the opening of a session comes to, by what its parts answer.
-use Rattle.std.proofs.Common.{◌≡◌, ℕ, ℤ, Result, IfOk, ◌+◌, ◌<◌, ◌≤◌, Bool, true, false, Option, None, Some, Ok, Err, List, [], length, max, refl, sym, ap, ap₂, ◌∙◌, subst, arith}
-use Rattle.std.specs.Prelude.{codes, nat_le, nat_lt, if◌then◌else◌}
+use Rattle.std.proofs.Common.{◌≡◌, ℕ, ℤ, Result, IfOk, ◌+◌, ◌≤◌, Bool, true, false, Option, None, Some, Ok, Err, List, [], refl, sym, ap, ◌∙◌, subst}
+use Rattle.std.specs.Prelude.{codes, nat_lt, if◌then◌else◌}
 use Rattle.std.proofs.lemmas.Bool.{le-ltb, lt-ltb}
 use Rattle.std.proofs.lemmas.Option.{same_Some}
 use Rattle.rip_values.specs.declared.limits.Limits.{Limits}

@@ -20,10 +20,11 @@ use Rattle.rip_host.specs.declared.browser.Browser.{Browser}
 use Rattle.rip_host.specs.Replies.{most_replies}
 use Rattle.rip_machine.specs.Law.{Standing, loaded}
 use Rattle.rip_machine.specs.Run.{run_from}
-use Rattle.rip_machine.specs.Plans.{evaluation}
+use Rattle.rip_machine.specs.Plans.{HasRoom, evaluation}
 use Rattle.rip_replica.specs.declared.replica.Place.TheVariants.{First}
 use Rattle.rip_replica.specs.declared.replica.Replica.{Replica}
 use Rattle.rip_replica.specs.Numbers.{HasNumberSo, KeepsServed, KeepsSteps, open_of}
+use Rattle.rip_replica.specs.Rooms.{IfLives}
 use Rattle.rip_replica.specs.Standing.{spot}
 use Rattle.rip_work.specs.declared.items.PageItems.{PageItems}
 use Rattle.rip_app.specs.App.{Loaded}
@@ -33,14 +34,15 @@ use Rattle.rip_lawful.specs.AtStage.{AreDoneBy, IsAtStage}
 use Rattle.rip_lawful.specs.Depth.{IsWithinSo, NestsWithin, PausesWithin}
 use Rattle.rip_lawful.proofs.Done.{busy_lives, not_done_busy}
 use Rattle.rip_work.specs.Endings.{ending_of}
-use Rattle.rip_work.specs.Plans.{left_of_work, work_plan}
+use Rattle.rip_work.specs.Plans.{left_of_work, room_of, work_plan}
 use Rattle.rip_work.specs.Serving.{may_serve, moment_of, served}
 use Rattle.rip_work.specs.Tasks.{Task, fact_of}
 use Rattle.rip_session.specs.declared.opening.Opened.{Opened}
 use Rattle.rip_session.specs.Application.{IsPageWithin, StandsAt, doing_of, meaning_of_app, runs_of}
 use Rattle.rip_session.specs.Limits.{HasLimits, HasPageLimits, PassesNoLimit, PassesNoPageLimit}
 use Rattle.rip_session.specs.Opening.{opened_of}
-use Rattle.rip_session.proofs.LimitLemmas.{first-open, grown-limits, opened-depth, opened-limits, opened-page, page-within, passes-none}
+use Rattle.rip_session.specs.Rooms.{HasRoomsIn}
+use Rattle.rip_session.proofs.LimitLemmas.{first-open, grown-limits, opened-depth, opened-limits, opened-page, opened-room, page-within, passes-none}
 use Rattle.rip_session.proofs.Staying.{shown, steps_stay}
 
 pub done_by : (app : Loaded) → AreDoneBy (doing_of app) work_plan fact_of served ending_of
@@ -54,10 +56,11 @@ done_by app = record {
 pub stands-on : (app : Loaded) (st : Stage) (r s : Replica Standing PageItems Task Browser) → StandsAt app r st → Grows r.heap s.heap
     → s.heap.cells ≤ s.heap.limit → s.heap.pool.used ≤ s.heap.pool.limit
     → (next : Stage) → IsAtStage (runs_of app) (doing_of app) (λ (items : PageItems). work_plan items.batches.batch) left_of_work may_serve s next
-    → (is_ended (meaning_of_app app) next ≡ false → IsPageWithin app.manifest.limits (runs_of app) s) → StandsAt app s next
-stands-on app st r s at grows cells units next stage page =
+    → (is_ended (meaning_of_app app) next ≡ false → IsPageWithin app.manifest.limits (runs_of app) s)
+    → (is_ended (meaning_of_app app) next ≡ false → HasRoomsIn (runs_of app) s) → StandsAt app s next
+stands-on app st r s at grows cells units next stage page rooms =
     let limits : HasLimits app.manifest.limits s.heap = grown-limits app.manifest.limits r.heap s.heap grows at.limits in
-    record { stage = stage; limits = limits; within = passes-none app.manifest.limits s.heap limits cells units; page = page }
+    record { stage = stage; limits = limits; within = passes-none app.manifest.limits s.heap limits cells units; page = page; rooms = rooms }
 
 -- ---- the page, while its session lives
 
@@ -97,8 +100,14 @@ depth-stays Busy depth most lives h = h
 depth-stays (Finished None) depth most lives h = h
 depth-stays (Finished (Some how)) depth most lives h = absurd lives
 
+rooms-stay : (progress : Progress) (this : Type 0) → Lives progress → IfLives progress this → this
+unfolding Lives
+rooms-stay Busy this lives h = h
+rooms-stay (Finished None) this lives h = h
+rooms-stay (Finished (Some how)) this lives h = absurd lives
+
 -- both limits, as numbers of a page
-abbrev of_nodes : ℕ → ℕ → ℕ
+abbrev pub of_nodes : ℕ → ℕ → ℕ
 of_nodes nodes bytes = nodes
 
 abbrev of_bytes : ℕ → ℕ → ℕ
@@ -117,6 +126,7 @@ pub record KeepsPage (app : Loaded) (code : Code) (st : Stage) (progress : Progr
       → is_done (meaning_of_app app) st ≡ false → NestsWithin app.manifest.limits.depth (doing_of app st.seed st.time).run
       → open_of (evaluation answers code) r ≤ app.manifest.limits.depth → IsWithinSo progress (open_of (evaluation answers code) s) app.manifest.limits.depth
   pub passes : PassesNoneOfItsOwn s.host
+  pub rooms : HasRoomsIn (evaluation answers code) r → IfLives progress (HasRoomsIn (evaluation answers code) s)
 
 within-reached : (depth : ℕ) (a : Answer Browser) → PausesWithin depth (reached depth a)
 within-reached depth (Completes c u w s) = tt
@@ -131,15 +141,21 @@ nests app seed time start w s fuel u =
     let answer : Answer Browser = run_from answers (loaded app.program m) m.depth start w s fuel u in
     subst (λ (most : ℕ). PausesWithin most (reached m.depth answer)) (opened-depth app seed (moment_of time)) (within-reached m.depth answer)
 
-served-stays : (f : ℕ → ℕ → ℕ) → KeepsServed served (shown f)
+pub served-stays : (f : ℕ → ℕ → ℕ) → KeepsServed served (shown f)
 served-stays f batch g s = refl
+
+-- one whose batch is not done is not ended
+pub undone-lives : (app : Loaded) (st : Stage) (r : Replica Standing PageItems Task Browser) → StandsAt app r st → is_done (meaning_of_app app) st ≡ false
+    → is_ended (meaning_of_app app) st ≡ false
+undone-lives app st r at undone =
+    let busy = not_done_busy (runs_of app) (doing_of app) may_serve (spot (λ (items : PageItems). work_plan items.batches.batch) left_of_work r) st at.stage.stands undone in
+    busy_lives (runs_of app) (doing_of app) may_serve (spot (λ (items : PageItems). work_plan items.batches.batch) left_of_work r) st busy
 
 -- the page of one that goes on
 page-on : (app : Loaded) (code : Code) (st : Stage) (progress : Progress) (r s : Replica Standing PageItems Task Browser) → code ≡ app.program → StandsAt app r st → is_done (meaning_of_app app) st ≡ false
     → KeepsPage app code st progress r s → Lives progress → IsPageWithin app.manifest.limits (runs_of app) s
 page-on app code st progress r s e at undone keeps lives =
-    let busy = not_done_busy (runs_of app) (doing_of app) may_serve (spot (λ (items : PageItems). work_plan items.batches.batch) left_of_work r) st at.stage.stands undone in
-    let old : IsPageWithin app.manifest.limits (runs_of app) r = at.page (busy_lives (runs_of app) (doing_of app) may_serve (spot (λ (items : PageItems). work_plan items.batches.batch) left_of_work r) st busy) in
+    let old : IsPageWithin app.manifest.limits (runs_of app) r = at.page (undone-lives app st r at undone) in
     let A : Code → Type 0 = λ c. IsAtStage (evaluation answers c) (doing_of app) (λ (items : PageItems). work_plan items.batches.batch) left_of_work may_serve r st in
     let stage : A code = subst A (sym e) at.stage in
     let same-nodes : shown of_nodes s.host ≡ shown of_nodes r.host =
@@ -150,6 +166,15 @@ page-on app code st progress r s e at undone keeps lives =
     depth-stays progress (open_of (runs_of app) s) app.manifest.limits.depth lives (keeps.depth stage undone (nests app st.seed st.time) old.within.depth) in
     page-within app.manifest.limits (runs_of app) s (record { nodes = same-nodes ∙ old.has.nodes; queue = same-queue ∙ old.has.queue })
     keeps.passes.nodes keeps.passes.waiting keeps.passes.replies depth
+
+-- the rooms of one that goes on
+rooms-on : (app : Loaded) (code : Code) (st : Stage) (progress : Progress) (r s : Replica Standing PageItems Task Browser) → code ≡ app.program → StandsAt app r st → is_done (meaning_of_app app) st ≡ false
+    → KeepsPage app code st progress r s → Lives progress → HasRoomsIn (runs_of app) s
+rooms-on app code st progress r s e at undone keeps lives =
+    let R : Code → Type 0 = λ c. HasRoomsIn (evaluation answers c) r in
+    let S : Code → Type 0 = λ c. HasRoomsIn (evaluation answers c) s in
+    let old : HasRoomsIn (runs_of app) r = at.rooms (undone-lives app st r at undone) in
+    subst S e (rooms-stay progress (S code) lives (keeps.rooms (subst R (sym e) old)))
 
 -- what comes of a slice where more is known of how the session stands
 resumed-with : (m : Meaning) (st : Stage) (meant : Service) (calls : List Called) (slice : Slice) (old new : Made) (progress : Progress)
@@ -186,17 +211,20 @@ resume_stands app code st meant calls slice old new progress r s Replies e f kee
     → is_done m st ≡ false
     → Resumed m st meant calls slice old new progress
     (IsAtStage (evaluation answers c) (doing_of app) (λ (items : PageItems). work_plan items.batches.batch) left_of_work may_serve s) Replies) e f at.stage undone in
-    let page : is_ended m resumed.next ≡ false → IsPageWithin app.manifest.limits (runs_of app) s = λ lives.
-    page-on app code st progress r s e at undone keeps (lives-by progress (parts_at m st) resumed.parts resumed.how_far (ap has_ended (sym resumed.goes_on.come) ∙ lives)) in
+    let lives : is_ended m resumed.next ≡ false → Lives progress = λ alive.
+    lives-by progress (parts_at m st) resumed.parts resumed.how_far (ap has_ended (sym resumed.goes_on.come) ∙ alive) in
+    let page : is_ended m resumed.next ≡ false → IsPageWithin app.manifest.limits (runs_of app) s = λ alive. page-on app code st progress r s e at undone keeps (lives alive) in
+    let rooms : is_ended m resumed.next ≡ false → HasRoomsIn (runs_of app) s = λ alive. rooms-on app code st progress r s e at undone keeps (lives alive) in
     resumed-with m st meant calls slice old new progress
     (IsAtStage (runs_of app) (doing_of app) (λ (items : PageItems). work_plan items.batches.batch) left_of_work may_serve s) (StandsAt app s) Replies resumed
-    (stands-on app st r s at grows cells units resumed.next resumed.stands page)
+    (stands-on app st r s at grows cells units resumed.next resumed.stands page rooms)
 
 -- one that is admitted a batch, with its heap as it was
 pub admit_stands : (app : Loaded) (st next : Stage) (r s : Replica Standing PageItems Task Browser) → StandsAt app r st → s.heap ≡ r.heap
     → s.host ≡ r.host → s.place ≡ First → is_ended (meaning_of_app app) st ≡ false
-    → IsAtStage (runs_of app) (doing_of app) (λ (items : PageItems). work_plan items.batches.batch) left_of_work may_serve s next → StandsAt app s next
-admit_stands app st next r s at same page first lives stage =
+    → IsAtStage (runs_of app) (doing_of app) (λ (items : PageItems). work_plan items.batches.batch) left_of_work may_serve s next
+    → (HasRoomsIn (runs_of app) r → HasRoomsIn (runs_of app) s) → StandsAt app s next
+admit_stands app st next r s at same page first lives stage rooms =
     let old : IsPageWithin app.manifest.limits (runs_of app) r = at.page lives in
     let depth : open_of (runs_of app) s ≤ app.manifest.limits.depth = first-open (runs_of app) s app.manifest.limits.depth first in
     record {
@@ -208,13 +236,15 @@ admit_stands app st next r s at same page first lives stage =
         within = subst (λ b. PassesNoPageLimit app.manifest.limits (open_of (runs_of app) s) b) (sym page)
             (record { nodes = old.within.nodes; waiting = old.within.waiting; replies = old.within.replies; depth = depth });
       };
+      rooms = λ alive. rooms (at.rooms lives);
     }
 
 -- one that is opened, in this heap, which passes no limit of its own
 pub begin_stands : (app : Loaded) (seed : ℕ) (time : ℤ) (opened : Opened) (st : Stage) (r : Replica Standing PageItems Task Browser)
     → opened ≡ opened_of app seed time → r.heap ≡ opened.heap → r.host ≡ opened.browser → r.place ≡ First → PassesNoneOfItsOwn opened.browser → opened.heap.cells ≤ opened.heap.limit → opened.heap.pool.used ≤ opened.heap.pool.limit
-    → IsAtStage (runs_of app) (doing_of app) (λ (items : PageItems). work_plan items.batches.batch) left_of_work may_serve r st → StandsAt app r st
-begin_stands app seed time opened st r is same page first passes cells units stage =
+    → IsAtStage (runs_of app) (doing_of app) (λ (items : PageItems). work_plan items.batches.batch) left_of_work may_serve r st
+    → HasRoomsIn (runs_of app) r → StandsAt app r st
+begin_stands app seed time opened st r is same page first passes cells units stage rooms =
     let limits : HasLimits app.manifest.limits opened.heap = subst (λ (o : Opened). HasLimits app.manifest.limits o.heap) (sym is) (opened-limits app seed time) in
     record {
       stage = stage;
@@ -225,8 +255,20 @@ begin_stands app seed time opened st r is same page first passes cells units sta
           page-within app.manifest.limits (runs_of app) r
           (subst (λ (b : Browser). HasPageLimits app.manifest.limits b) (sym (page ∙ ap (λ (o : Opened). o.browser) is)) (opened-page app seed time))
           own.nodes own.waiting own.replies (first-open (runs_of app) r app.manifest.limits.depth first));
+      rooms = λ lives. rooms;
     }
 
 -- the browser of a session as it is opened goes with its heap
 pub opened_goes : (s t : Browser) (w x : World) → Fits s w → t ≡ s → x ≡ w → GoesWith t x
 opened_goes s t w x f e g = goes-fits t x (subst (λ b. Fits b x) (sym e) (subst (λ h. Fits s h) (sym g) f))
+
+-- its machine, its items for so many nodes, and its browser, as it is opened: what its rooms rest on
+pub opened_room : (app : Loaded) (seed : ℕ) (time : ℤ) (opened : Opened) (fuel : ℕ) → opened ≡ opened_of app seed time → fuel ≡ app.manifest.limits.fuel → HasRoom opened.machine fuel
+opened_room app seed time opened fuel is same =
+    subst (λ (k : ℕ). HasRoom opened.machine k) (sym same) (subst (λ (o : Opened). HasRoom o.machine app.manifest.limits.fuel) (sym is) (opened-room app seed time))
+
+pub opened_nodes : (app : Loaded) (seed : ℕ) (time : ℤ) (opened : Opened) (items : PageItems) (nodes : ℕ) → opened ≡ opened_of app seed time → nodes ≡ app.manifest.limits.nodes
+    → room_of items ≡ nodes → (let s = opened.browser in let t = s.dom in t.limit) ≤ room_of items
+opened_nodes app seed time opened items nodes is same room =
+    let has : HasPageLimits app.manifest.limits opened.browser = subst (λ (o : Opened). HasPageLimits app.manifest.limits o.browser) (sym is) (opened-page app seed time) in
+    omega (arith, has.nodes, same, room)

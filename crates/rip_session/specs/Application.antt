@@ -20,6 +20,7 @@ use Rattle.rip_work.specs.Serving.{may_serve, moment_of, served}
 use Rattle.rip_work.specs.Tasks.{Task, opens, fact_of, tasks_of}
 use Rattle.rip_session.specs.Limits.{HasLimits, HasPageLimits, PassesNoLimit, PassesNoPageLimit}
 use Rattle.rip_session.specs.Opening.{opened_of}
+use Rattle.rip_session.specs.Rooms.{HasRoomsIn}
 
 -- what runs of its program mean over a browser
 abbrev pub runs_of : Loaded → Evaluation Standing Browser
@@ -50,9 +51,10 @@ pub record IsPageWithin (limits : Limits) (e : Evaluation Standing Browser) (r :
   pub within : PassesNoPageLimit limits (open_of e r) r.host
 
 -- a session of it stands at a stage; its heap has the limits of the manifest, and passes none of them; nor do its page and its
--- runs, while it lives
+-- runs, while it lives, and then it has its rooms
 pub record StandsAt (app : Loaded) (r : Replica Standing PageItems Task Browser) (st : Stage) : Type 0 where
   pub stage : IsAtStage (runs_of app) (doing_of app) (λ items. work_plan items.batches.batch) left_of_work may_serve r st
   pub limits : HasLimits app.manifest.limits r.heap
   pub within : PassesNoLimit app.manifest.limits r.heap
   pub page : is_ended (meaning_of_app app) st ≡ false → IsPageWithin app.manifest.limits (runs_of app) r
+  pub rooms : is_ended (meaning_of_app app) st ≡ false → HasRoomsIn (runs_of app) r

@@ -1,5 +1,5 @@
 -- What a session keeps of its browser and its heap: that they go together, as a fact that holds in one way.
-use Rattle.std.specs.Prelude.{◌≡◌, ◌⊎◌, ℕ, ◌+◌, ◌<◌, ◌≤◌, ◌||◌, Bool, true, false, nat_lt, nat_le, codes, All, Option, None, Some, IfSome, List, length, slice_index_or, refl}
+use Rattle.std.specs.Prelude.{◌≡◌, ℕ, ◌+◌, ◌<◌, ◌≤◌, ◌||◌, Bool, true, false, nat_lt, nat_le, codes, All, Option, None, Some, IfSome, length, slice_index_or, refl}
 use Rattle.std.proofs.Common.{inl, inr, sym, true≢false}
 use Rattle.std.proofs.lemmas.Bool.{le-leb, leb-true, lt-ltb, ltb-true, or_left, or_right}
 use Rattle.rip_values.specs.Pool.{text_at}

@@ -3,3 +3,4 @@ pub mod Kept
 pub mod Lawful
 pub mod Limits
 pub mod Opening
+pub mod Rooms

@@ -1,6 +1,6 @@
 -- How a session of an application is opened: the charges of its top scope, of the nodes and the texts of its page and of the
 -- literals of its program, each whole or not at all, in this order; and the heap, the browser and the machine behind them.
-use Rattle.std.specs.Prelude.{◌≡◌, ℕ, ℤ, ◌+◌, nat_le, nat_lt, Option, None, Some, List, [], length, codes, if◌then◌else◌}
+use Rattle.std.specs.Prelude.{◌≡◌, ℕ, ℤ, ◌+◌, max, nat_le, nat_lt, Option, None, Some, List, [], length, codes, if◌then◌else◌}
 use Rattle.rip_values.specs.declared.limits.Limits.{Limits}
 use Rattle.rip_values.specs.declared.page.PageNode.{PageNode}
 use Rattle.rip_values.specs.declared.value.Limit.{Limit}
@@ -60,16 +60,22 @@ browser_of d nodes limits seed time = record {
   alloc = record { memory = record { seal = tt } };
 }
 
--- the machine before a program is loaded, for runs that nest so deep
-abbrev pub idle_machine : ℕ → Standing
-idle_machine depth = record { control = Give (Normal Undefined); frames = []; fuel = 0; spent = 0; depth = depth; literals = []; value_room = 0 }
+-- the machine before a program is loaded, for runs that nest as deep as the limits say; its memory is that for runs with the
+-- fuel of an item
+abbrev pub idle_machine : Limits → Standing
+idle_machine limits = record {
+  control = Give (Normal Undefined);
+  frames = [];
+  fuel = 0;
+  spent = 0;
+  depth = limits.depth;
+  literals = [];
+  value_room = max 1 (values_needed limits.fuel);
+}
 
 -- and that in which the program is loaded
 abbrev pub loaded_machine : Loaded → World → Standing
-loaded_machine app w = record (idle_machine app.manifest.limits.depth) {
-  literals = spans_loaded app.program w;
-  value_room = values_needed app.program app.manifest.limits.depth app.manifest.limits.fuel w;
-}
+loaded_machine app w = record (idle_machine app.manifest.limits) { literals = spans_loaded app.program w }
 
 -- a charge before the literals would pass this limit: the session has a page without nodes
 abbrev pub without_page : Loaded → Limit → World → ℕ → ℤ → Opened
@@ -77,7 +83,7 @@ without_page app limit w seed time =
     let d = document_of [] app.manifest.limits w.pool in
     record {
       heap = record w { pool = texts_of d };
-      machine = idle_machine app.manifest.limits.depth;
+      machine = idle_machine app.manifest.limits;
       browser = browser_of d [] app.manifest.limits seed time;
       start = Passes limit;
     }
@@ -92,7 +98,7 @@ with_page app w s =
       browser = s;
       start = Loads (length app.program.grove.roots);
     }
-    else record { heap = w; machine = idle_machine app.manifest.limits.depth; browser = s; start = Passes Units }
+    else record { heap = w; machine = idle_machine app.manifest.limits; browser = s; start = Passes Units }
 
 -- the top scope is made: the nodes of the page are charged, and then its texts
 abbrev pub with_scope : Loaded → World → ℕ → ℤ → Opened

@@ -1,7 +1,12 @@
-ghost use Rattle.std.specs.Prelude.{◌≡◌, ◌≤◌, length};
+ghost use Rattle.std.specs.Prelude.{◌≡◌, ◌≤◌, ℕ, false, length, List, Some};
 ghost use Rattle.std.proofs.Props.{props};
 ghost use Rattle.rip_calls.specs.Calls.{used};
 ghost use Rattle.rip_host.specs.Replies.{most_replies};
+ghost use Rattle.rip_wire.specs.declared.ending.Ending.{Ending as Ends};
+ghost use Rattle.rip_course.specs.Services.{Called, Service as Meant};
+ghost use Rattle.rip_course.specs.Stages.{Resumed, Stage, is_done, is_ended};
+ghost use Rattle.rip_replica.specs.Rooms.{IsAtCall};
+ghost use Rattle.rip_session.specs.Application.{StandsAt, meaning_of_app};
 ghost use Rattle.rip_session.specs.Kept.{GoesWith};
 
 use crate::opening::{Opened, open};
@@ -91,19 +96,35 @@ impl<'a> Sessions for Application<'a> {
         slice: &Slice,
         made: &mut Made,
     ) -> Progress {
-        let program = self.app.program();
-        let progress = rip_lawful::resume(
-            &mut session.replica,
-            alloc,
-            program,
-            service,
-            slice,
-            made,
-        );
-        is_within(&session.replica.heap);
-        is_page_within(&session.replica.host);
-        progress
+        resume_session(session, alloc, self.app, service, slice, made)
     }
+}
+
+/// Goes on with a session of an application whose batch is not done. It is ended for want of memory only where a call waits
+/// to be served, or where an item reports another call than the one that was made.
+pub fn resume_session<V: Service>(
+    session: &mut Session,
+    alloc: Global,
+    app: &App,
+    service: &mut V,
+    slice: &Slice,
+    made: &mut Made,
+) -> Progress
+    ensures memory { (st : Stage) → StandsAt app.now session.old.replica st
+        → is_ended (meaning_of_app app.now) st ≡ false
+        → (item : ℕ) → result ≡ Progress.Finished (Some (Ends.Memory item))
+        → IsAtCall session.new.replica.runner.phase }
+    ensures resumed { (st : Stage) (replies : Meant) (calls : List Called)
+        → StandsAt app.now session.old.replica st → is_done (meaning_of_app app.now) st ≡ false
+        → V.replies_as service.old replies calls
+        → Resumed (meaning_of_app app.now) st replies calls slice.now made.old made.new result
+        (StandsAt app.now session.new.replica) (V.replies_as service.new replies) }
+{
+    let program = app.program();
+    let progress = rip_lawful::resume(&mut session.replica, alloc, program, service, slice, made);
+    is_within(&session.replica.heap);
+    is_page_within(&session.replica.host);
+    progress
 }
 
 /// No work, and what holds of each heap: it passes no limit of its own.

@@ -1,7 +1,7 @@
 ghost use Rattle.std.specs.Prelude.{◌≡◌, ◌≤◌, ℕ, IfOk, Some};
 ghost use Rattle.rip_heap.specs.World.{World};
 ghost use Rattle.rip_host.specs.Visit.{Fits};
-ghost use Rattle.rip_session.specs.Opening.{IsBegun, opened_of, top_scope, with_page, with_scope, without_page};
+ghost use Rattle.rip_session.specs.Opening.{IsBegun, idle_machine, opened_of, top_scope, with_page, with_scope, without_page};
 
 use rip_app::App;
 use rip_heap::{Heap, HeapLimits};
@@ -51,6 +51,16 @@ fn begin_heap(alloc: Global, app: &App) -> Result<(Heap, Option<Limit>), NoMemor
         Err(Refused::Limit(limit)) => Ok((heap, Some(limit))),
         Err(Refused::Memory) => Err(NoMemory),
     }
+}
+
+/// The machine before the program is loaded, with the memory for the runs of an item.
+fn begin_machine(alloc: Global, app: &App) -> Result<Machine, NoMemory>
+    ensures { IfOk result (λ m. m ≡ idle_machine app.now.manifest.limits) }
+{
+    let limits = app.limits();
+    let mut machine = Machine::make(alloc, limits.depth)?;
+    machine.reserve(limits.fuel)?;
+    Ok(machine)
 }
 
 /// Makes the page in a heap with the top scope.
@@ -105,7 +115,7 @@ fn open_without_page(
     match Browser::make(alloc, &page, app.limits(), heap.pool_mut(), seed, time) {
         Ok(browser) => Ok(Opened {
             heap,
-            machine: Machine::make(alloc, app.limits().depth)?,
+            machine: begin_machine(alloc, app)?,
             browser,
             start: Start::Passes(limit),
         }),
@@ -125,8 +135,8 @@ fn load_program(
     ensures fits { IfOk result (λ o. Fits o.browser o.heap) }
 {
     let program = app.program();
-    let mut machine = Machine::make(alloc, app.limits().depth)?;
-    let start = match machine.load(alloc, program, &mut heap, app.limits().fuel) {
+    let mut machine = begin_machine(alloc, app)?;
+    let start = match machine.load(alloc, program, &mut heap) {
         Ok(()) => Start::Loads {
             scripts: program.scripts(),
         },

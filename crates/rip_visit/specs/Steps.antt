@@ -1,5 +1,5 @@
 -- What is answered on the way to the flow of a reported event.
-use Rattle.std.specs.Prelude.{◌≡◌, ℕ, false, Option, None, Some, Result, Ok, Err}
+use Rattle.std.specs.Prelude.{◌≡◌, ℕ, false, None, Some, Result, Ok, Err}
 use Rattle.rip_values.specs.declared.report.Report.{Report}
 use Rattle.rip_values.specs.declared.value.Limit.{Limit}
 use Rattle.rip_values.specs.declared.value.Limit.TheVariants.{Cells}
@@ -9,10 +9,10 @@ use Rattle.rip_values.specs.declared.fixed.FixedText.TheVariants.{Load}
 use Rattle.rip_items.specs.Items.{fine}
 use Rattle.rip_heap.specs.Conversions.{span_of}
 use Rattle.rip_heap.specs.World.{World}
-use Rattle.rip_events.specs.Flow.{Course, begun as course_begun}
+use Rattle.rip_events.specs.Flow.{begun as course_begun}
 use Rattle.rip_runs.specs.declared.close.Close.TheVariants.{Refused, Stopped}
 use Rattle.rip_runs.specs.declared.completion.Stop.TheVariants.{Limit as AtLimit}
-use Rattle.rip_runs.specs.Plan.{Plan, Over}
+use Rattle.rip_runs.specs.Plan.{Over}
 use Rattle.rip_host.specs.declared.browser.Browser.{Browser}
 use Rattle.rip_host.specs.EventMembers.{bubbles}
 use Rattle.rip_host.specs.Flow.{event_opened, flow}
@@ -22,7 +22,7 @@ use Rattle.rip_visit.specs.declared.flow.Flow.{Flow}
 use Rattle.rip_visit.specs.Events.{Going, browser_after, event_plan, left_of, type_of, world_after}
 
 -- the event of a legal report is opened where the report has had its effect: there is its object; or its cell would pass
--- the limit, and the effect alone is done; want of memory leaves all as it was
+-- the limit, and the effect alone is done; memory is never wanting
 abbrev pub OpensAfter : Report → World → Browser → Result ℕ ReportRefused → World → Browser → Type 0
 OpensAfter r w s (Ok event) x t =
     event_opened (world_after w s r) (browser_after w s r) (span_of (type_of r.kind)) r.node ≡ Some (event, x, t)
@@ -30,7 +30,7 @@ OpensAfter r w s (Err (report.Illegal kind)) x t = ⊥
 OpensAfter r w s (Err (report.Limit limit)) x t =
     (event_opened (world_after w s r) (browser_after w s r) (span_of (type_of r.kind)) r.node ≡ None)
     × (limit ≡ Cells) × (x ≡ world_after w s r) × (t ≡ browser_after w s r)
-OpensAfter r w s (Err report.Memory) x t = (x ≡ w) × (t ≡ s)
+OpensAfter r w s (Err report.Memory) x t = ⊥
 
 -- the flow of this event, before its first station
 abbrev pub begun : Browser → World → Report → ℕ → Flow → Flow

@@ -1,4 +1,4 @@
-ghost use Rattle.std.specs.Prelude.{◌≡◌, ◌≤◌, ◌<◌, IfOk, IfSome, OnOk, false, length, None};
+ghost use Rattle.std.specs.Prelude.{◌≡◌, ◌≤◌, ◌<◌, IfOk, IfSome, OnOk, Err, false, length, None};
 ghost use Rattle.rip_heap.specs.Conversions.{span_of};
 ghost use Rattle.rip_heap.specs.Growth.{Grows};
 ghost use Rattle.rip_heap.specs.World.{first_node};
@@ -98,8 +98,8 @@ pub(crate) fn settle(browser: &mut Browser, heap: &Heap, turned: Option<u32>, ev
     }
 }
 
-/// Does what an event does before its flow, and begins the flow. The event's cell is taken before the effect on the form,
-/// which takes no memory, so that want of memory leaves all as it was.
+/// Does what an event does before its flow, and begins the flow. Memory is wanting only where the flow has too little room
+/// for the document, which is seen before all else.
 pub(crate) fn report(
     browser: &mut Browser,
     heap: &mut Heap,
@@ -112,6 +112,8 @@ pub(crate) fn report(
     ensures reports { Reported report.now heap.old browser.old result heap.new browser.new
         flow.new }
     ensures steps { OnOk result (steps_of flow.new ≤ most_steps) }
+    ensures memory { result ≡ Err ReportRefused.Memory → flow.old.nodes < browser.old.dom.limit }
+    ensures room { flow.new.nodes ≡ flow.old.nodes }
 {
     if let Err(kind) = legal(&browser.dom, &browser.forms, heap.pool(), report) {
         return Err(ReportRefused::Illegal(kind));
@@ -151,7 +153,7 @@ fn open(browser: &mut Browser, heap: &mut Heap, report: &Report) -> Result<u32, 
             take_effect(browser, heap, report);
             Err(ReportRefused::Limit(limit))
         }
-        Err(Refused::Memory) => Err(ReportRefused::Memory),
+        Err(Refused::Memory) => unreachable!(),
     }
 }
 

@@ -1,4 +1,4 @@
-ghost use Rattle.std.specs.Prelude.{◌≡◌, ◌<◌, ◌≤◌, ℕ, MatchOption, OnOk};
+ghost use Rattle.std.specs.Prelude.{◌≡◌, ◌<◌, ◌≤◌, ℕ, MatchOption, OnOk, Err};
 ghost use Rattle.rip_heap.specs.Growth.{Grows};
 ghost use Rattle.rip_heap.specs.World.{first_node};
 ghost use Rattle.rip_host.specs.Visit.{Fits};
@@ -22,6 +22,7 @@ pub(crate) fn next_call(browser: &mut Browser, heap: &Heap, flow: &mut Flow) -> 
         ≡ flow_ahead item (left_of flow.new item next) next result heap.now browser.new }
     ensures fewer { MatchOption result (steps_of flow.new ≤ steps_of flow.old)
         (λ _. steps_of flow.new < steps_of flow.old) }
+    ensures room { flow.new.nodes ≡ flow.old.nodes }
 {
     if flow.over {
         return None;
@@ -42,7 +43,7 @@ pub(crate) fn next_call(browser: &mut Browser, heap: &Heap, flow: &mut Flow) -> 
 }
 
 impl Flow {
-    /// Begins the flow of `load` at this node.
+    /// Begins the flow of `load` at this node. Memory is wanting only where there is too little room for the document.
     pub(crate) fn begin_load(
         &mut self,
         alloc: Global,
@@ -57,6 +58,8 @@ impl Flow {
         ensures plan { (item : ℕ) → BeginsLoad item body heap.old browser.old result heap.new
             browser.new self.new }
         ensures steps { OnOk result (steps_of self.new ≤ most_steps) }
+        ensures memory { result ≡ Err Refused.Memory → self.old.nodes < browser.old.dom.limit }
+        ensures room { self.new.nodes ≡ self.old.nodes }
     {
         if browser.dom.limit() > self.nodes {
             return Err(Refused::Memory);

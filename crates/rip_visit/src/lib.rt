@@ -16,7 +16,8 @@
 //! | [`Start`], the one item of the opening, and [`StartItems`], which plans it | `Opening.opening_plan`: `Opening.scripts` and `Opening.loading` |
 //!
 //! A layer above may rest on this: where a limit or a fault ends a flow, nothing that follows the flow is done; want of memory
-//! at an event and at a reply leaves heap and browser as they were.
+//! at an event and at `load` comes only where the flow has room for fewer nodes than the document may have, and leaves heap
+//! and browser as they were; a reply never wants memory.
 #![tactic(auto)]
 
 mod event;

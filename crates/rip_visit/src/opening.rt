@@ -1,4 +1,4 @@
-ghost use Rattle.std.specs.Prelude.{◌≡◌, ◌+◌, IfOk, OnErr};
+ghost use Rattle.std.specs.Prelude.{◌≡◌, ◌+◌, ◌<◌, IfOk, OnErr};
 ghost use Rattle.rip_heap.specs.Growth.{Grows};
 ghost use Rattle.rip_host.specs.Visit.{Fits};
 ghost use Rattle.rip_runs.specs.Plan.{IsFewer, ahead};
@@ -82,6 +82,8 @@ impl StartItems {
         ensures memory { OnErr result
             ((self.new.stage ≡ self.old.stage) × (self.new.begun ≡ self.old.begun)
             × (heap.new ≡ heap.old) × (browser.new ≡ browser.old)) }
+        ensures lack { OnErr result (self.old.flow.nodes < browser.old.dom.limit) }
+        ensures room { self.new.flow.nodes ≡ self.old.flow.nodes }
     {
         if self.begun < scripts {
             self.begun += 1;
@@ -117,6 +119,8 @@ impl StartItems {
         ensures memory { OnErr result
             ((self.new.stage ≡ self.old.stage) × (heap.new ≡ heap.old)
             × (browser.new ≡ browser.old)) }
+        ensures lack { OnErr result (self.old.flow.nodes < browser.old.dom.limit) }
+        ensures room { self.new.flow.nodes ≡ self.old.flow.nodes }
     {
         let body = match browser.body {
             Some(body) => body,
@@ -151,6 +155,7 @@ impl StartItems {
         ensures fewer { IsFewer result
             (steps_of_opening self.new.stage self.new.begun self.new.flow)
             (steps_of self.old.flow + 1) }
+        ensures room { self.new.flow.nodes ≡ self.old.flow.nodes }
     {
         match next_call(browser, heap, &mut self.flow) {
             None => {
@@ -184,6 +189,10 @@ impl Items<Browser, Start> for StartItems {
     ghost steps = { λ items. steps_of_opening items.stage items.begun items.flow };
 
     ghost most = { λ _. most_of_opening };
+
+    ghost room = { λ items. items.flow.nodes };
+
+    ghost need = { λ browser. browser.dom.limit };
 
     fn begin(&mut self) {
         self.begun = 0;

@@ -20,6 +20,10 @@ impl PageHost<Flow> for Browser {
 
     ghost most_flow_steps = { most_steps };
 
+    ghost flow_room = { λ flow. flow.nodes };
+
+    ghost most_nodes = { λ s. s.dom.limit };
+
     ghost positions = { λ s. tells s };
 
     fn report(

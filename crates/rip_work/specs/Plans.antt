@@ -1,5 +1,5 @@
 -- What an item of a session does.
-use Rattle.std.specs.Prelude.{ℕ, ◌+◌}
+use Rattle.std.specs.Prelude.{ℕ, ◌+◌, min}
 use Rattle.rip_heap.specs.World.{World}
 use Rattle.rip_runs.specs.Plan.{Plan}
 use Rattle.rip_items.specs.Items.{item_plan, left_of_item, steps_of_item}
@@ -26,3 +26,7 @@ steps_of_work p = steps_of_opening p.opening.stage p.opening.begun p.opening.flo
 
 abbrev pub most_of_work : ℕ
 most_of_work = most_of_opening + (most_steps + 2)
+
+-- for how many nodes both flows have room, that of the opening and that of the batches
+abbrev pub room_of : PageItems → ℕ
+room_of p = min p.opening.flow.nodes p.batches.flow.nodes

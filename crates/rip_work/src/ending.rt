@@ -1,4 +1,5 @@
-ghost use Rattle.std.specs.Prelude.{◌≡◌, IfOk};
+ghost use Rattle.std.specs.Prelude.{◌≡◌, IfOk, OnErr};
+ghost use Rattle.rip_replica.specs.Rooms.{IsMismatch, IsNoLack};
 ghost use Rattle.rip_work.specs.Endings.{ending_of, mismatch, stopped};
 
 use crate::work::Work;
@@ -15,7 +16,9 @@ pub(crate) fn ending_of(
     close: Close,
     browser: &Browser,
 ) -> Result<Ending, NoMemory>
-    ensures { IfOk result (λ e. e ≡ ending_of batch.now.items close browser.now) }
+    ensures ending { IfOk result (λ e. e ≡ ending_of batch.now.items close browser.now) }
+    ensures told { IfOk result IsNoLack }
+    ensures memory { OnErr result (IsMismatch close) }
 {
     match close {
         Close::Fine => Ok(Ending::Closed),
@@ -27,7 +30,8 @@ pub(crate) fn ending_of(
 
 /// An item met a fault or a limit.
 fn stopped(item: u32, stop: Stop) -> Ending
-    ensures { result ≡ stopped item stop }
+    ensures stopped { result ≡ stopped item stop }
+    ensures told { IsNoLack result }
 {
     match stop {
         Stop::Fault(fault) => Ending::Fault { item, fault },
@@ -42,7 +46,8 @@ fn mismatch(
     item: u32,
     browser: &Browser,
 ) -> Result<Ending, NoMemory>
-    ensures { IfOk result (λ e. e ≡ mismatch batch.now.items item browser.now) }
+    ensures mismatch { IfOk result (λ e. e ≡ mismatch batch.now.items item browser.now) }
+    ensures told { IfOk result IsNoLack }
 {
     let (number, reported) = match batch.get(item.saturating_sub(1) as usize) {
         Some(work) => work.reported(alloc)?,

@@ -1,4 +1,5 @@
 ghost use Rattle.std.specs.Prelude.{◌≡◌, IfOk};
+ghost use Rattle.rip_work.specs.Plans.{room_of};
 
 use crate::copy::copy_call;
 use crate::ending::ending_of;
@@ -25,7 +26,8 @@ pub struct PageItems {
 impl PageItems {
     /// Before the opening, in a document of at most so many nodes.
     pub fn make(alloc: Global, nodes: u32) -> Result<PageItems, NoMemory>
-        ensures { IfOk result (λ items. items.batches.batch ≡ 0) }
+        ensures batch { IfOk result (λ items. items.batches.batch ≡ 0) }
+        ensures room { IfOk result (λ items. room_of items ≡ nodes) }
     {
         Ok(PageItems {
             opening: StartItems::new(Flow::make(alloc, nodes)?),
@@ -39,7 +41,7 @@ impl PageItems {
 }
 
 impl Items<Browser, Work> for PageItems {
-    ghost use Rattle.rip_work.specs.Plans.{left_of_work, most_of_work, steps_of_work, work_plan};
+    ghost use Rattle.rip_work.specs.Plans.{left_of_work, most_of_work, room_of, steps_of_work, work_plan};
 
     ghost item_plan = { λ items. work_plan items.batches.batch };
 
@@ -48,6 +50,10 @@ impl Items<Browser, Work> for PageItems {
     ghost steps = { steps_of_work };
 
     ghost most = { λ _. most_of_work };
+
+    ghost room = { room_of };
+
+    ghost need = { λ browser. browser.dom.limit };
 
     fn begin(&mut self) {
         Items::<Browser, Start>::begin(&mut self.opening);

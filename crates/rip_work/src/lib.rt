@@ -15,7 +15,8 @@
 //! | how an item that closed ends the session | `Endings.ending_of` |
 //!
 //! A layer above may rest on this: [`PageItems`] is `rip_replica::Works`, so a session of these items is cut after any unit
-//! and comes to what its items are played whole. The rooms of two flows are taken when it is made.
+//! and comes to what its items are played whole. The rooms of two flows are taken when it is made: where they are
+//! for as many nodes as the document may have, no step of an item wants memory.
 #![tactic(auto)]
 
 mod copy;

@@ -1,4 +1,5 @@
 use Rattle.std.proofs.Common.{◌∙◌, ap, sym}
+use Rattle.rip_lawful.proofs.Rooms.{rooms_admitted}
 use Rattle.rip_lawful.proofs.Staging.{admit_stands, sound_by}
 use Rattle.rip_lawful.proofs.going.admit.Goals as goal
 
@@ -16,3 +17,9 @@ returns-clause-next g c = λ program doing st b by number items at ok.
       world = c.admit.ensures.world.0;
       page = c.admit.ensures.world.1;
     })
+
+pub returns-clause-rooms : goal.returns-clause-rooms
+returns-clause-rooms g c = λ program rooms.
+    rooms_admitted (g.E.Evaluator.evaluation program) g.E.Evaluator.has_room (λ p. g.I.Items.room p.items) g.I.Items.need c.args.replica.now.runner c.admit.new.self.runner
+    c.args.replica.now.host c.admit.new.self.host c.admit.ensures.runs.0 c.admit.ensures.runs.1 c.admit.ensures.rooms.0 c.admit.ensures.rooms.1 c.admit.ensures.rooms.2
+    c.admit.ensures.world.1 rooms

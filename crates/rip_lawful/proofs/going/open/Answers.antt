@@ -1,5 +1,6 @@
-use Rattle.std.proofs.Common.{◌∙◌, ap, sym, refl, subst}
+use Rattle.std.proofs.Common.{◌∙◌, ◌≤◌, ℕ, ap, arith, sym, refl, subst}
 use Rattle.rip_runner.specs.declared.runner.Runner.{Runner}
+use Rattle.rip_runner.specs.Rooms.{HasRooms}
 use Rattle.rip_course.specs.Stages.{begun}
 use Rattle.rip_replica.specs.declared.replica.Place.TheVariants.{First}
 use Rattle.rip_lawful.specs.AtStage.{IsAtStage}
@@ -16,10 +17,17 @@ returns-clause-begun g c = λ program doing seed time by run full opening world 
     (sound_by doing w.plans w.fact w.served w.ending w.may_serve by g.met.I.Works.shapes) refl (record {
       run = sym run;
       full = sym full;
-      plan = c.enter.ensures ∙ ap (λ p. p 0) (sym (by.planned seed time));
+      plan = c.enter.ensures.plans ∙ ap (λ p. p 0) (sym (by.planned seed time));
       all = only_one c.push.new.self.items c.new-batch.result.items c.args.opening (doing seed time).opening c.in_ok-push.ensures.items c.new-batch.ensures.items opening;
       begun = refl;
       place = refl;
       world = sym world;
       page = sym page;
     }))
+
+pub returns-clause-rooms : goal.returns-clause-rooms
+returns-clause-rooms g c = λ program runs steps.
+    let e = g.E.Evaluator.evaluation program in
+    let R : Runner _ _ → Type 0 = λ q. HasRooms e g.E.Evaluator.has_room (λ p. g.I.Items.room p.items) g.I.Items.need q c.args.host in
+    let L : ℕ → Type 0 = λ k. g.I.Items.need c.args.host ≤ k in
+    subst R (sym c.new.ensures) (record { runs = runs; fuel = omega arith; steps = subst L (sym c.enter.ensures.room) steps })

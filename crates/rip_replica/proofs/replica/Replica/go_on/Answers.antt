@@ -9,6 +9,7 @@ use Rattle.rip_replica.specs.Serving.{IsServed, given_to}
 use Rattle.rip_replica.specs.Standing.{Spot, Waits, spot}
 use Rattle.rip_replica.proofs.SliceLemmas.{Went, came_busy, came_done, came_lacks, came_unserved, went_call, went_first, went_on}
 use Rattle.rip_replica.proofs.ResumeLemmas.{at_last, ended, memory_at, within_number}
+use Rattle.rip_replica.proofs.RoomLemmas.{at_call, at_end, lacks_lives, rooms_served, ends_lives}
 use Rattle.rip_replica.proofs.replica.Replica.go_on.Goals as goal
 
 pub loop-units-init : goal.loop-units-init
@@ -20,6 +21,7 @@ loop-units-init g c = record {
       went_first (g.E.Evaluator.evaluation c.args.program.now) d g.I.Works.may_serve c.args.self.now.number next from base (from + c.args.slice.now.units) c.args.slice.now.units ahead service calls c.args.slice.now c.args.made.now
       (spot g.I.Items.item_plan g.I.Items.under_way c.args.self.now) (g.V.Service.replies_as c.args.service.now service) refl stands replies;
   page = λ number keeps serves. refl;
+  rooms = λ keeps serves none rooms. rooms;
 }
 
 pub loop-units-preserved-in-On : goal.loop-units-preserved-in-On
@@ -38,6 +40,7 @@ loop-units-preserved-in-On g c =
           (c.in-On.ensures.turns d g.I.Works.may_serve c.args.self.now.number next from went.new_base went.spent went.later went.stands)
           c.in-On.ensures.onward.1);
       page = λ number keeps serves. c.in-On.ensures.page number keeps ∙ c.loop-units.invariant.page number keeps serves;
+      rooms = λ keeps serves none rooms. (c.in-On.ensures.memory keeps none (c.loop-units.invariant.rooms keeps serves none rooms)).0;
     }
 
 pub returns-in-Busy-clause-slice : goal.returns-in-Busy-clause-slice
@@ -126,6 +129,10 @@ loop-units-preserved g c =
           (within_number c.loop-units.self.place c.loop-units.self.runner.planner.begun turned.runner.planner.begun c.in-Calls.ensures.onward.0 c.in-Calls.ensures.onward.2)
           (subst B number (c.in-Ok.ensures.served service before waits.item waits.number waits.name waits.args waits.is fact went.served.replies))));
       page = λ number keeps serves. c.in-Ok.ensures.page number serves ∙ c.in-Calls.ensures.page number keeps ∙ c.loop-units.invariant.page number keeps serves;
+      rooms = λ keeps serves none rooms.
+          rooms_served e g.E.Evaluator.has_room (λ p. g.I.Items.room p.items) g.I.Items.need turned.runner last.runner turned.host last.host
+          c.in-Ok.ensures.kept.0 (c.in-Ok.ensures.page g.I.Items.need serves)
+          (c.in-Calls.ensures.memory keeps none (c.loop-units.invariant.rooms keeps serves none rooms)).0;
     }
 
 pub returns-in-Err-clause-slice : goal.returns-in-Err-clause-slice
@@ -151,3 +158,32 @@ returns-in-Busy-clause-page g c = λ number keeps serves. c.in-Busy.ensures.page
 
 pub returns-in-Done-clause-page : goal.returns-in-Done-clause-page
 returns-in-Done-clause-page g c = λ number keeps serves. c.in-Done.ensures.page number keeps ∙ c.loop-units.invariant.page number keeps serves
+
+pub returns-in-Ends-clause-memory : goal.returns-in-Ends-clause-memory
+returns-in-Ends-clause-memory g c = λ keeps serves none rooms item is.
+    at_end c.turn.new.self.runner c.end.new.self.runner c.in-Ends.close c.end.ensures.kept.0 c.in-Ends.ensures.phase (c.end.ensures.memory item is)
+
+pub returns-in-Lacks-clause-memory : goal.returns-in-Lacks-clause-memory
+returns-in-Lacks-clause-memory g c = λ keeps serves none rooms item is.
+    absurd ((c.in-Lacks.ensures.memory keeps none (c.loop-units.invariant.rooms keeps serves none rooms)).1)
+
+pub returns-in-Err-clause-memory : goal.returns-in-Err-clause-memory
+returns-in-Err-clause-memory g c = λ keeps serves none rooms item is.
+    at_call c.turn.new.self.runner c.lack-in-Err.new.self.runner (c.lack-in-Err.ensures.kept.0 ∙ c.in-Err.ensures.kept.0) c.in-Calls.ensures.phase
+
+pub returns-in-Busy-clause-rooms : goal.returns-in-Busy-clause-rooms
+returns-in-Busy-clause-rooms g c = λ keeps serves none rooms.
+    (c.in-Busy.ensures.memory keeps none (c.loop-units.invariant.rooms keeps serves none rooms)).0
+
+pub returns-in-Done-clause-rooms : goal.returns-in-Done-clause-rooms
+returns-in-Done-clause-rooms g c = λ keeps serves none rooms.
+    (c.in-Done.ensures.memory keeps none (c.loop-units.invariant.rooms keeps serves none rooms)).0
+
+pub returns-in-Ends-clause-rooms : goal.returns-in-Ends-clause-rooms
+returns-in-Ends-clause-rooms g c = λ keeps serves none rooms. ends_lives _ c.end.result _ _ c.end.ensures.ends
+
+pub returns-in-Lacks-clause-rooms : goal.returns-in-Lacks-clause-rooms
+returns-in-Lacks-clause-rooms g c = λ keeps serves none rooms. lacks_lives _ c.lack.result _ c.lack.ensures.lacks
+
+pub returns-in-Err-clause-rooms : goal.returns-in-Err-clause-rooms
+returns-in-Err-clause-rooms g c = λ keeps serves none rooms. lacks_lives _ c.lack-in-Err.result _ c.lack-in-Err.ensures.lacks

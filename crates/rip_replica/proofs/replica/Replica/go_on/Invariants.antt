@@ -1,5 +1,6 @@
-use Rattle.std.proofs.Common.{◌≡◌, ℕ, ◌+◌, List, length}
+use Rattle.std.proofs.Common.{◌≡◌, ℕ, ◌+◌, List, length, IsTrue}
 use Rattle.rip_heap.specs.Growth.{Grows}
+use Rattle.rip_runner.specs.Rooms.{HasRooms}
 use Rattle.rip_course.specs.Services.{Called, Service}
 use Rattle.rip_replica.specs.Numbers.{KeepsServed, KeepsSteps}
 use Rattle.rip_replica.specs.Parts.{Doing}
@@ -21,6 +22,10 @@ invariant-loop-units g l = record {
       (spot g.I.Items.item_plan g.I.Items.under_way l.self) l.left l.made (g.V.Service.replies_as l.service service);
   page : (number : _ → ℕ) → KeepsSteps (g.E.Evaluator.evaluation l.program) g.I.Items.under_way number → KeepsServed g.I.Works.served number
       → number l.self.host ≡ number l.fn.self.host;
+  rooms : KeepsSteps (g.E.Evaluator.evaluation l.program) g.I.Items.under_way g.I.Items.need → KeepsServed g.I.Works.served g.I.Items.need
+      → (IsTrue g.H.Host.may_want_memory → ⊥)
+      → HasRooms (g.E.Evaluator.evaluation l.program) g.E.Evaluator.has_room (λ p. g.I.Items.room p.items) g.I.Items.need l.fn.self.runner l.fn.self.host
+      → HasRooms (g.E.Evaluator.evaluation l.program) g.E.Evaluator.has_room (λ p. g.I.Items.room p.items) g.I.Items.need l.self.runner l.self.host;
 }
 
 abbrev pub decreases-loop-units : goal.decreases-loop-units

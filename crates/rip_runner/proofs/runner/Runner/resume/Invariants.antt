@@ -1,7 +1,8 @@
-use Rattle.std.proofs.Common.{◌≡◌, ℕ, ◌≤◌, []}
+use Rattle.std.proofs.Common.{◌≡◌, ℕ, ◌≤◌, [], IsTrue}
 use Rattle.rip_heap.specs.Growth.{Grows}
 use Rattle.rip_runner.specs.Going.{Keeps, LeadsWith, going, turns}
 use Rattle.rip_runner.specs.Numbers.{KeepsNumber}
+use Rattle.rip_runner.specs.Rooms.{HasRooms}
 use Rattle.rip_runner.proofs.runner.Runner.resume.Given as goal
 
 abbrev pub invariant-loop-units : goal.invariant-loop-units
@@ -14,6 +15,9 @@ invariant-loop-units g l = record {
   within : l.left ≤ l.fn.n;
   later : turns (g.P.Planner.steps l.self.planner) l.self.phase ≤ turns (g.P.Planner.steps l.fn.self.planner) l.fn.self.phase;
   number : (number : _ → ℕ) → KeepsNumber (g.E.Evaluator.evaluation l.program) g.P.Planner.plan number → number l.host ≡ number l.fn.host;
+  memory : KeepsNumber (g.E.Evaluator.evaluation l.program) g.P.Planner.plan g.P.Planner.need → (IsTrue g.H.Host.may_want_memory → ⊥)
+      → HasRooms (g.E.Evaluator.evaluation l.program) g.E.Evaluator.has_room g.P.Planner.room g.P.Planner.need l.fn.self l.fn.host
+      → HasRooms (g.E.Evaluator.evaluation l.program) g.E.Evaluator.has_room g.P.Planner.room g.P.Planner.need l.self l.host;
 }
 
 abbrev pub decreases-loop-units : goal.decreases-loop-units

@@ -1,11 +1,11 @@
-use Rattle.std.proofs.Common.{◌≡◌, refl, sym, ap, ◌∙◌}
+use Rattle.std.proofs.Common.{◌≡◌, sym, ap, ◌∙◌}
 use Rattle.rip_course.specs.Stages.{begun}
 use Rattle.rip_work.specs.Serving.{moment_of}
 use Rattle.rip_work.specs.Tasks.{opens}
 use Rattle.rip_session.specs.declared.opening.Opened.{Opened}
 use Rattle.rip_session.specs.Application.{doing_of, runs_of}
 use Rattle.rip_session.specs.Opening.{opened_of}
-use Rattle.rip_session.proofs.SessionLemmas.{begin_stands, done_by, opened_goes}
+use Rattle.rip_session.proofs.SessionLemmas.{begin_stands, done_by, opened_goes, opened_nodes, opened_room}
 use Rattle.rip_session.proofs.application.ApplicationSessions.begin.Goals as goal
 
 pub invariant_of-result : goal.invariant_of-result
@@ -28,3 +28,7 @@ returns c =
     (ap opens (sym (ap (λ (o : Opened). o.start) is)) ∙ sym c.opens-opening.ensures)
     (sym (ap (λ (o : Opened). o.heap) is))
     (sym (ap (λ (o : Opened). o.browser) is)))
+    (c.in_ok-open.ensures.rooms c.args.self.now.app.now.program
+    (opened_room c.args.self.now.app.now c.args.seed (moment_of c.args.time) c.in_ok-heap.field-0 c.limits-limits.result.now.fuel is (ap (λ l. l.fuel) c.limits-limits.ensures.value))
+    (opened_nodes c.args.self.now.app.now c.args.seed (moment_of c.args.time) c.in_ok-heap.field-0 c.in_ok-items.items c.limits-limits.result.now.nodes is
+    (ap (λ l. l.nodes) c.limits-limits.ensures.value) c.in_ok-items.ensures.room))
