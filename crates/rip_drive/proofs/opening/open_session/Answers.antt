@@ -28,7 +28,7 @@ returns c =
         facts = refl;
         serving = refl;
       };
-      plans = ap work_plan ((λ i. (made i).planner.items.batches.batch) ∙ c.in_ok-items.ensures);
+      plans = ap work_plan ((λ i. (made i).planner.items.batches.batch) ∙ c.in_ok-items.ensures.batch);
       number = refl;
       batch = (λ i. (made i).planner.batch.items) ∙ c.in_ok-push.ensures.items ∙ ap (λ (ts : List Task). ts ++ c.opens.result ∷ []) c.new-batch.ensures.items ∙ ap (λ (t : Task). t ∷ []) start;
       opening = refl;
