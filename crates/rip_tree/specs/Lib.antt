@@ -1,4 +1,5 @@
 pub mod Branches
+pub mod Firsts
 pub mod Joining
 pub mod Making
 pub mod Program

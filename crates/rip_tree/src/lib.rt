@@ -13,11 +13,13 @@
 //! | [`Tree::child`] | `Branches.child_of`, in the list of children |
 //! | [`Tree::units`] | `Branches.units_at` |
 //! | [`Program::new`] | `Program.joined`: the branches and units of each tree, moved behind those before it |
+//! | [`Program::first_named`] | `Firsts.first_named`: the first node that has the same name |
 //! | [`Program::root`] | `Program.root_of`, in the list of the roots of the scripts |
 //! | [`Program::top_name`], [`Program::vars`] | `Program.Code` has the names; `Program.vars_of`, in the list that it was given |
 //! | [`Program::names`], [`Program::resolved`], [`Program::is_own_name`] | `Program.scoping_of`, in the list that it was given |
 #![tactic(auto)]
 
+mod firsts;
 mod form;
 mod joined;
 mod maker;

@@ -1,7 +1,9 @@
-ghost use Rattle.std.specs.Prelude.{◌≡◌, ◌<◌, length, Some, IfOk, IfSome, option_map, slice_get};
+ghost use Rattle.std.specs.Prelude.{◌≡◌, ◌<◌, ◌≤◌, length, Some, IfOk, IfSome, option_map, slice_get};
 ghost use Rattle.rip_tree.specs.Branches.{child_of, node_of, units_at};
+ghost use Rattle.rip_tree.specs.Firsts.{FirstsHaveTheNames, first_named, name_at};
 ghost use Rattle.rip_tree.specs.Program.{ChildrenAreCounted, joined, root_of, scoping_of, vars_of};
 
+use crate::firsts::firsts_of;
 use crate::joined::Joined;
 use crate::node::{Node, Piece};
 use crate::tree::Tree;
@@ -38,6 +40,7 @@ pub struct Program {
     top: Vec<Units>,
     vars: Vec<List<u32>>,
     scoping: Vec<Scoping>,
+    firsts: Vec<u32>,
 }
 
 impl Model for Program {
@@ -48,7 +51,7 @@ impl Model for Program {
 
     ghost view = { λ p. record { grove = grove_of p.trees; top = p.top.items; vars = p.vars.items; scoping = p.scoping.items } };
 
-    ghost invariant = { λ p. IsProgram p.trees p.top.items };
+    ghost invariant = { λ p. IsProgram p.trees p.top.items p.firsts.items };
 }
 
 impl Program {
@@ -76,11 +79,13 @@ impl Program {
             return Err(NoMemory);
         }
         let trees = Joined::of(alloc, trees)?;
+        let firsts = firsts_of(alloc, &trees)?;
         Ok(Program {
             trees,
             top,
             vars,
             scoping,
+            firsts,
         })
     }
 
@@ -126,6 +131,26 @@ impl Program {
         ensures { result.now ≡ units_at self.now.grove.units piece }
     {
         self.trees.units(piece)
+    }
+
+    /// The first node with the name of this one, which it has as a member or as an entry of an object literal. Of a node
+    /// without such a name, and past the last, it is the number itself.
+    pub fn first_named(&self, id: u32) -> u32
+        ensures first { result ≡ first_named self.now.grove id }
+        ensures before { result ≤ id }
+        ensures same { name_at self.now.grove result ≡ name_at self.now.grove id }
+    {
+        if id as usize >= self.firsts.len() {
+            return id;
+        }
+        self.firsts[id as usize]
+    }
+
+    /// Law: the first node with the name of a node comes no later, it has that name, and it is the first with it.
+    pub fn firsts_have_the_names(&self)
+        ensures { FirstsHaveTheNames self.now.grove }
+    {
+        let _ = &self.firsts;
     }
 
     /// How many scripts the program has.

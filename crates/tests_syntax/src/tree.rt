@@ -135,3 +135,38 @@ fn a_program_is_read(rt: HostRuntime) -> Result<(), Fail> {
     assert!(rt; has_its_last_name(&program));
     Ok(())
 }
+
+/// A script that reads the members `a`, `b` and `a` again, one of the other.
+fn tree_of_members(alloc: Global) -> Result<Tree, Fail> {
+    let second = Piece { start: 1, count: 1 };
+    let third = Piece { start: 2, count: 1 };
+    let mut maker = TreeMaker::new(alloc, 6, &[97, 98, 97])?;
+    let read = maker.push(node(0, Form::Name(NAME)), &[])?;
+    let a = maker.push(node(0, Form::Member(NAME)), &[Some(read)])?;
+    let b = maker.push(node(0, Form::Member(second)), &[Some(a)])?;
+    let again = maker.push(node(0, Form::Member(third)), &[Some(b)])?;
+    let statement = maker.push(node(0, Form::Expression), &[None, Some(again)])?;
+    maker.push(node(0, Form::Script), &[Some(statement)])?;
+    Ok(maker.finish())
+}
+
+/// Of each of its nodes, and of none behind them, the first that has its name.
+static FIRSTS_OF_MEMBERS: [u32; 7] = [0, 1, 2, 3, 2, 5, 6];
+
+#[test]
+fn names_have_their_first_node(rt: HostRuntime) -> Result<(), Fail> {
+    let alloc = rt.alloc();
+    let trees = vec![in alloc; tree_of_members(alloc)?]?;
+    let program = Program::new(
+        alloc,
+        &trees,
+        Vec::new(alloc),
+        Vec::new(alloc),
+        Vec::new(alloc),
+    )?;
+    for (id, first) in FIRSTS_OF_MEMBERS.iter().enumerate() {
+        assert_eq!(rt; program.first_named(id as u32), *first, "of {id}");
+    }
+    program.firsts_have_the_names();
+    Ok(())
+}
