@@ -7,6 +7,7 @@ pub mod IndexLemmas
 pub mod LookUpLemmas
 pub mod NameIndexLemmas
 pub mod PutLemmas
+pub mod RunLemmas
 pub mod ScopeRowLemmas
 pub mod SearchLemmas
 pub mod StoredLemmas

@@ -29,10 +29,21 @@ pub fn first_named(pool: &Pool, rows: &Rows<Property>, list: usize, name: Span) 
     ensures { result ≡ place_of pool.now name (list_at rows.now list) }
 {
     let count = rows.len(list);
-    for place in 0..count {
-        if same_text(pool, name_at(rows, list, place), name) {
-            return Some(place);
+    let mut place = 0;
+    while place < count {
+        let run = rows.run(list, place);
+        if let Some(at) = first_of(pool, run, name) {
+            return Some(place + at as u32);
         }
+        place += run.len() as u32;
     }
     None
+}
+
+// The place of the first of these properties that has the name. Equal spans are not read.
+fn first_of(pool: &Pool, properties: &[Property], name: Span) -> Option<usize>
+    ensures { result ≡ place_of pool.now name properties.now }
+{
+    let text = pool.get(name);
+    properties.iter().position(|property| property.name == name || pool.get(property.name) == text)
 }

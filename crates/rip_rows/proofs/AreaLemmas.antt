@@ -2,8 +2,8 @@
 use Rattle.std.proofs.Common.{◌≡◌, ◌≢◌, ℕ, zero, suc, ◌+◌, ◌-◌, ◌<◌, ◌≤◌, Bool, ◌==◌, true, false, cond, eqb, ◌⊎◌, inl, inr, List, [], ◌∷◌, ◌++◌, length, refl, sym, ap, ◌∙◌, subst, arith, get_or, set, take, drop}
 use Rattle.std.specs.Prelude.{slice_range}
 use Rattle.std.proofs.lemmas.Bool.{cases_lt, eq-eqb, eqb-true, ne_eqb, le-ltb, lt-ltb}
-use Rattle.std.proofs.Math.Seq.{take-set-lt}
-use Rattle.std.proofs.lemmas.List.{append-nil, append_assoc, drop-append-le, drop-set-add, drop-set-lt, drop_at, get_or-append_right, get_or-drop, get_or-take, get_or_append_left, length-append, length-drop, length-take-le, set-append_left, set-append_right, take-append-le, take-set-le, take_all}
+use Rattle.std.proofs.Math.Seq.{drop-append-add, take-set-lt}
+use Rattle.std.proofs.lemmas.List.{append-nil, append_assoc, drop-append-le, drop-drop, drop-set-add, drop-set-lt, drop-take, drop_at, get_or-append_right, get_or-drop, get_or-take, get_or_append_left, length-append, length-drop, length-take-le, set-append_left, set-append_right, take-append-le, take-set-le, take-take, take_all}
 use Rattle.rip_rows.specs.declared.segment.Segment.{Segment}
 use Rattle.rip_rows.specs.Segments.{LieWithin, area, part_if, place_of, places_of, segment_at, size_if, size_of}
 
@@ -171,6 +171,43 @@ area-get {A} owner place from values (s ∷ segments) d lie h =
         get_or-append_right part (area owner values segments) mine place d size ge
         ∙ rest ge
         ∙ ap (λ p. get_or values p d) (sym (past-place owner place s segments ge))
+
+-- the places of one segment lie behind one another
+pub area-run : {A : Type 0} (owner k i n from : ℕ) (values : List A) (segments : List Segment) → LieWithin from (length values) segments → k < length segments
+    → (segment_at segments k).owner ≡ owner → i + n ≤ size_of (segment_at segments k).first
+    → take n (drop (places_of owner (take k segments) + i) (area owner values segments)) ≡ take n (drop ((segment_at segments k).start + i) values)
+area-run owner k i n from values [] lie h e le = absurd (omega (arith, h))
+area-run owner zero i n from values (s ∷ segments) lie h e le =
+    let size = size_of s.first in
+    let part = slice_range values s.start (s.start + size) in
+    let rest = area owner values segments in
+    let whole : length part ≡ size_of s.first = part-length values s.start (size_of s.first) (lie-ends (s.start + size_of s.first) (length values) segments lie.1) in
+    let split : s.start + size_of s.first - s.start ≡ i + (size_of s.first - i) = omega (arith, le) in
+    let none : places_of owner (take zero (s ∷ segments)) + i ≡ i = omega arith in
+    ap (λ m. take n (drop m (area owner values (s ∷ segments)))) none
+    ∙ ap (λ b. take n (drop i (part_if b values s ++ rest))) (eq-eqb s.owner owner e)
+    ∙ ap (take n) (drop-append-le i part rest (omega (arith, whole, le)))
+    ∙ take-append-le n (drop i part) rest (omega (arith, whole, le, length-drop i part))
+    ∙ ap (λ m. take n (drop i (take m (drop s.start values)))) split
+    ∙ ap (take n) (drop-take i (size - i) (drop s.start values))
+    ∙ take-take n (size - i) (drop i (drop s.start values)) (omega (arith, le))
+    ∙ ap (take n) (drop-drop i s.start values)
+area-run owner (suc k) i n from values (s ∷ segments) lie h e le =
+    let part = part_if (eqb s.owner owner) values s in
+    let rest = area owner values segments in
+    let before = places_of owner (take k segments) in
+    let size : length part ≡ size_if (eqb s.owner owner) s = length-part (eqb s.owner owner) values s (lie-ends (s.start + size_of s.first) (length values) segments lie.1) in
+    let past : size_if (eqb s.owner owner) s + places_of owner (take k segments) + i ≡ length part + (places_of owner (take k segments) + i) = omega (arith, size) in
+    ap (λ m. take n (drop m (part ++ rest))) past
+    ∙ ap (take n) (drop-append-add part rest (before + i))
+    ∙ area-run owner k i n (s.start + size_of s.first) values segments lie.1 (omega (arith, h)) e le
+
+-- and within the row
+pub segment-lies : (k from to : ℕ) (segments : List Segment) → LieWithin from to segments → k < length segments
+    → (segment_at segments k).start + size_of (segment_at segments k).first ≤ to
+segment-lies k from to [] lie h = absurd (omega (arith, h))
+segment-lies zero from to (s ∷ segments) lie h = lie-ends (s.start + size_of s.first) to segments lie.1
+segment-lies (suc k) from to (s ∷ segments) lie h = segment-lies k (s.start + size_of s.first) to segments lie.1 (omega (arith, h))
 
 -- a write before the segments changes none of their places
 area-behind : {A : Type 0} (owner from to k : ℕ) (values : List A) (segments : List Segment) (v : A) → LieWithin from to segments → k < from

@@ -1,15 +1,15 @@
 -- What each call gives, of the lists that heads, segments and values show.
-use Rattle.std.proofs.Common.{◌≡◌, ℕ, zero, suc, ◌+◌, ◌<◌, ◌≤◌, ◌⊎◌, inl, inr, List, [], ◌∷◌, ◌++◌, Some, length, refl, sym, ap, ◌∙◌, subst, arith, get_or, set, take, replicate, slice_get, eqb}
+use Rattle.std.proofs.Common.{◌≡◌, ℕ, zero, suc, ◌+◌, ◌<◌, ◌≤◌, ◌⊎◌, inl, inr, List, [], ◌∷◌, ◌++◌, Some, length, refl, sym, ap, ◌∙◌, subst, arith, get_or, set, take, replicate, slice_get, eqb, drop, ◌-◌}
 use Rattle.std.specs.List.{sum_by}
 use Rattle.std.proofs.Math.Seq.{take-set-lt}
 use Rattle.std.proofs.lemmas.Bool.{ne_eqb}
-use Rattle.std.proofs.lemmas.List.{get_or-map, get_or-take, get_or_append_left, get_or_at, get_or_read, length-append, length-replicate, length-set, length-take-le, set-get_or, take-take, take_more_set}
+use Rattle.std.proofs.lemmas.List.{drop-take, get_or-map, get_or-take, get_or_append_left, get_or_at, get_or_read, length-append, length-replicate, length-set, length-take-le, set-get_or, take-take, take_more_set}
 use Rattle.std.proofs.lemmas.List.Sums.{get_or-le-sum_by, sum_by-set, sum_by_push}
 use Rattle.std.proofs.lemmas.Option.{get_or_from_slice_get, slice_get-get_or, slice_get_within}
 use Rattle.rip_rows.specs.declared.segment.Segment.{Segment}
 use Rattle.rip_rows.specs.declared.segment.ListHead.{ListHead}
-use Rattle.rip_rows.specs.Segments.{AreKept, AreSound, IsHead, LieWithin, area, grown, head_at, list_of, lists_of, next_segment, place_of, places_of, saved, segment_at, size_if, size_of}
-use Rattle.rip_rows.proofs.AreaLemmas.{area-get, area-length, place-lies, size-most}
+use Rattle.rip_rows.specs.Segments.{AreKept, AreSound, IsHead, IsWithin, LieWithin, area, grown, head_at, list_of, lists_of, next_segment, place_of, places_of, saved, segment_at, size_if, size_of}
+use Rattle.rip_rows.proofs.AreaLemmas.{area-get, area-length, area-run, place-lies, size-most}
 use Rattle.rip_rows.proofs.RowLemmas.{head_counts, known_set, lists_grown, lists_written, map-set_other, sound_grown}
 
 -- ONE LIST
@@ -136,6 +136,30 @@ get_call heads segments values list place at head x h found below is read =
     ap (λ y. Some y) read
     ∙ ap (λ p. Some (get_or values p x)) same
     ∙ sym (get_found heads segments values list place x h here.0 count)
+
+-- the elements of a list from a place on, up to the end of a segment, are what the row holds there
+pub run_call : {A : Type 0} (heads : List ListHead) (segments : List Segment) (values : List A) (list place number n : ℕ) (head : ListHead) → AreSound heads segments (length values)
+    → slice_get heads list ≡ Some head → IsWithin segments number place → (segment_at segments number).owner ≡ (segment_at segments head.top).owner
+    → (segment_at segments number).first ≤ place → place < head.count → place + n ≤ head.count → place + n ≤ (segment_at segments number).first + size_of (segment_at segments number).first
+    → take n (drop ((segment_at segments number).start + (place - (segment_at segments number).first)) values) ≡ take n (drop place (get_or (lists_of heads segments values) list []))
+run_call heads segments values list place number n head h found inside owned begun below fits ends =
+    let here = head-found heads list head found in
+    let owner = (head_at heads list).owner in
+    let row = area (head_at heads list).owner values segments in
+    let some : 0 < (head_at heads list).places = omega (arith, below, (h.each list here.0).fits, ap (λ (x : ListHead). x.count) here.1) in
+    let own : (segment_at segments number).owner ≡ (head_at heads list).owner =
+    owned ∙ ap (λ (x : ListHead). (segment_at segments x.top).owner) (sym here.1) ∙ ((h.each list here.0).topped some).owned in
+    let first : (segment_at segments number).first ≡ places_of (head_at heads list).owner (take number segments) =
+    h.linked.firsts number inside.there ∙ ap (λ o. places_of o (take number segments)) own in
+    let at = place - (segment_at segments number).first in
+    let start : places_of (head_at heads list).owner (take number segments) + (place - (segment_at segments number).first) ≡ place = omega (arith, first, begun) in
+    let count : (head_at heads list).count ≡ place + ((head_at heads list).count - place) = omega (arith, below, ap (λ (x : ListHead). x.count) here.1) in
+    sym (area-run owner number at n 0 values segments h.lie inside.there own (omega (arith, ends, begun)))
+    ∙ ap (λ m. take n (drop m row)) start
+    ∙ sym (take-take n ((head_at heads list).count - place) (drop place row) (omega (arith, fits, ap (λ (x : ListHead). x.count) here.1)))
+    ∙ ap (take n) (sym (drop-take place ((head_at heads list).count - place) row))
+    ∙ ap (λ m. take n (drop place (take m row))) (sym count)
+    ∙ ap (λ xs. take n (drop place xs)) (sym (list-here heads segments values list here.0))
 
 pub set_call : {A : Type 0} (heads : List ListHead) (segments : List Segment) (values : List A) (list place at : ℕ) (head : ListHead) (v : A) → AreSound heads segments (length values)
     → slice_get heads list ≡ Some head → place < head.count → at ≡ place_of (segment_at segments head.top).owner segments place
@@ -281,7 +305,7 @@ places-most owner from to (s ∷ segments) lie =
 
 -- a list that fills its places has paid for as many more
 pub grown-fits : (heads : List ListHead) (segments : List Segment) (size list most : ℕ) → AreSound heads segments size → list < length heads
-    → (head_at heads list).places ≤ (head_at heads list).count → size + sum_by saved heads < most → (head_at heads list).places + size_of (head_at heads list).places < most
+    → (head_at heads list).places ≤ (head_at heads list).count → size + sum_by saved heads + 2 < most → (head_at heads list).places + size_of (head_at heads list).places < most
 grown-fits heads segments size list most h within full below =
     omega (
       arith,

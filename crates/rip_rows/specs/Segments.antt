@@ -1,12 +1,12 @@
 -- How the elements of all lists lie in one row: the segments of each list, and what each place holds. No public clause cites this.
-use Rattle.std.specs.Prelude.{◌≡◌, ℕ, ◌+◌, ◌-◌, ◌*◌, ◌^◌, ◌<◌, ◌≤◌, max, Bool, true, false, if◌then◌else◌, ◌==◌, nat_lt, List, [], ◌∷◌, ◌++◌, length, map, take, slice_index_or, slice_range}
+use Rattle.std.specs.Prelude.{◌≡◌, ℕ, ◌+◌, ◌-◌, ◌*◌, ◌^◌, ◌<◌, ◌≤◌, max, Bool, true, false, if◌then◌else◌, ◌==◌, nat_lt, List, [], ◌∷◌, ◌++◌, length, map, take, slice_index_or, slice_range, slice_set}
 use Rattle.std.specs.List.{sum_by}
 use Rattle.rip_rows.specs.declared.segment.Segment.{Segment}
 use Rattle.rip_rows.specs.declared.segment.ListHead.{ListHead}
 
--- how many places stand side by side behind so many of a list: as many again, and one where there are none
+-- how many places stand side by side behind so many of a list: as many again, and four where there are none
 abbrev pub size_of : ℕ → ℕ
-size_of first = max first 1
+size_of first = max first 4
 
 -- how many places a segment has for the list of that owner: all of them or none
 abbrev pub size_if : Bool → Segment → ℕ
@@ -100,9 +100,9 @@ pub record AreKnown (heads : List ListHead) (segments : List Segment) (next : �
   pub owners : (i : ℕ) → i < length heads → (head_at heads i).owner < next
   pub owned : (k : ℕ) → k < length segments → (segment_at segments k).owner < next
 
--- how many places the elements of a list have paid for that it has not got
+-- how many places a list and its elements have paid for that it has not got
 abbrev pub saved : ListHead → ℕ
-saved head = 2 * head.count + 1 - head.places
+saved head = 2 * head.count + 2 - head.places
 
 -- each list and each element paid for what they take of the rows: one head or one segment, and two values
 pub record ArePaid (heads : List ListHead) (segments : List Segment) (size spent : ℕ) : Type 0 where
@@ -117,12 +117,16 @@ pub record AreKept (heads : List ListHead) (segments : List Segment) (size spent
   pub within : spent ≤ room
   pub most : room < 2 ^ 31
 
--- a list can get its next segment: the row of segments has room for one more, and that of values for all that is paid for
+-- the heads once the list of that number has one element more
+abbrev pub with_one_more : List ListHead → ℕ → List ListHead
+with_one_more heads list = slice_set heads list (record (head_at heads list) { count = (head_at heads list).count + 1 })
+
+-- a list can get its next segment: the row of segments has room for one more, and that of values for all that is paid for and for what one element more pays
 pub record HaveRoom (heads : List ListHead) (segments : List Segment) (size segments_room values_room : ℕ) : Type 0 where
   pub one : length segments < segments_room
   pub numbered : length segments < 2 ^ 32
-  pub paid : size + sum_by saved heads ≤ values_room
-  pub placed : size + sum_by saved heads < 2 ^ 32
+  pub paid : size + sum_by saved heads + 2 ≤ values_room
+  pub placed : size + sum_by saved heads + 2 < 2 ^ 32
 
 -- the room that is reserved for each row
 pub record AreReserved (room heads segments values : ℕ) : Type 0 where

@@ -1,11 +1,12 @@
 ghost use Rattle.std.specs.Prelude.{◌≡◌, ℕ, ◌+◌, ◌^◌, ◌<◌, ◌≤◌, ◌++◌, ◌∷◌, [], length, replicate, slice_set, slice_index_or, vec_capacity};
 ghost use Rattle.std.specs.List.{sum_by};
-ghost use Rattle.rip_rows.specs.Segments.{AreKnown, AreSound, HaveRoom, grown, head_at, lists_of, next_segment, saved, size_of};
+ghost use Rattle.rip_rows.specs.Segments.{AreKnown, AreSound, HaveRoom, grown, head_at, lists_of, next_segment, saved, size_of, with_one_more};
 
 use crate::segment::{ListHead, Segment, head_at, place_of, size_of};
 
 /// Sees to it that the list has a place behind its elements: one that fills its places gets a
-/// segment as long as all that it has. The lists stay as they are.
+/// segment as long as all that it has, which is paid for once it has one element more. The lists
+/// stay as they are.
 pub(crate) fn make_room<T: Copy>(
     heads: &mut Vec<ListHead>,
     segments: &mut Vec<Segment>,
@@ -25,8 +26,8 @@ pub(crate) fn make_room<T: Copy>(
     ensures place { (head_at heads.new.items list).count < (head_at heads.new.items list).places }
     ensures heads { length heads.new.items ≡ length heads.old.items }
     ensures segments { length segments.new.items ≤ length segments.old.items + 1 }
-    ensures paid { length values.new.items + sum_by saved heads.new.items
-        ≤ length values.old.items + sum_by saved heads.old.items }
+    ensures paid { length values.new.items + sum_by saved (with_one_more heads.new.items list)
+        ≤ length values.old.items + sum_by saved heads.old.items + 2 }
     ensures heads_room { vec_capacity heads.new ≡ vec_capacity heads.old }
     ensures segments_room { vec_capacity segments.new ≡ vec_capacity segments.old }
     ensures values_room { vec_capacity values.new ≡ vec_capacity values.old }
@@ -55,9 +56,8 @@ pub(crate) fn put<T: Copy>(
     ensures lists { lists_of heads.new.items segments.now.items values.new.items
         ≡ slice_set (lists_of heads.old.items segments.now.items values.old.items) list
         (slice_index_or (lists_of heads.old.items segments.now.items values.old.items) list [] ++ v ∷ []) }
-    ensures heads { length heads.new.items ≡ length heads.old.items }
+    ensures heads { heads.new.items ≡ with_one_more heads.old.items list }
     ensures values { length values.new.items ≡ length values.old.items }
-    ensures paid { sum_by saved heads.new.items ≤ sum_by saved heads.old.items + 2 }
     ensures heads_room { vec_capacity heads.new ≡ vec_capacity heads.old }
     ensures values_room { vec_capacity values.new ≡ vec_capacity values.old }
 {

@@ -1,10 +1,11 @@
 //! Many lists in one row of values, which is reserved when it is made: for elements of arrays,
 //! properties of objects, and the like.
 //!
-//! The row holds segments of one list or another, one behind the other. A list fills segments of 1,
-//! 1, 2, 4, 8 .. places, so that one whose longest length was n has at most 2n places, no element is
-//! moved when it grows, and what stands in its last half is one step away. The places that a list
-//! has left by a cut are filled again when it grows. Those of a list that is dropped stay unused.
+//! The row holds segments of one list or another, one behind the other. A list fills segments of 4,
+//! 4, 8, 16 .. places, so that one whose longest length was n has at most 2n + 2 places, no element
+//! is moved when it grows, and what stands in its last half is one step away. The places that a
+//! list has left by a cut are filled again when it grows. Those of a list that is dropped stay
+//! unused.
 //!
 //! | what | its definition in `specs/` |
 //! |---|---|

@@ -1,8 +1,8 @@
-ghost use Rattle.std.specs.Prelude.{◌≡◌, ◌↔◌, ◌+◌, ◌-◌, ◌<◌, ◌≤◌, ◌∷◌, [], IfOk, IsErr, OnErr, OnOk, length, remove, slice_get, slice_set, take};
+ghost use Rattle.std.specs.Prelude.{◌≡◌, ◌↔◌, ◌+◌, ◌-◌, ◌<◌, ◌≤◌, ◌∷◌, [], IfOk, IsErr, OnErr, OnOk, drop, length, remove, slice_get, slice_set, take};
 ghost use Rattle.rip_rows.specs.Rows.{list_at, piece_of, with_empty_list, with_list, with_more};
 
 use crate::growth::{make_room, put};
-use crate::segment::{ListHead, Segment, place_of};
+use crate::segment::{ListHead, Segment, number_of, place_of, segment_at, size_of};
 use rip_values::{NoMemory, Value};
 use std::alloc::Global;
 use std::marker::Model;
@@ -108,6 +108,26 @@ impl<T: Copy> Rows<T> {
             return None;
         }
         Some(self.values[place_of(&self.segments, head.top, place)])
+    }
+
+    /// The elements of the list of that number that lie side by side from this place on: some of
+    /// those that it has there.
+    pub fn run(&self, list: usize, place: u32) -> &[T]
+        ensures front { result.now
+            ≡ take (length result.now) (drop place (list_at self.now list)) }
+        ensures some { place < length (list_at self.now list) → 0 < length result.now }
+    {
+        let Some(head) = self.heads.get(list) else {
+            return &[];
+        };
+        if place >= head.count {
+            return &[];
+        }
+        let number = number_of(&self.segments, head.top, place);
+        let found = segment_at(&self.segments, number);
+        let end = size_of(found.first).min(head.count - found.first);
+        let start = found.start as usize;
+        &self.values[start + (place - found.first) as usize..start + end as usize]
     }
 
     /// Gives the element at this place the value. Past the end, and where there is no such list,

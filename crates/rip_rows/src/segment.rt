@@ -1,4 +1,4 @@
-ghost use Rattle.std.specs.Prelude.{◌≡◌, ◌<◌, length};
+ghost use Rattle.std.specs.Prelude.{◌≡◌, ◌<◌, ◌≤◌, length};
 ghost use Rattle.rip_rows.specs.Segments.{AreLinked, IsWithin, head_at, place_of, segment_at, size_of};
 
 /// Places that lie side by side: of which list they are, where they begin, how many places of the
@@ -22,12 +22,12 @@ pub(crate) struct ListHead {
     pub top: u32,
 }
 
-/// How many places stand side by side behind so many of a list: as many again, and one where there
-/// are none.
+/// How many places stand side by side behind so many of a list: as many again, and four where
+/// there are none.
 pub(crate) fn size_of(first: u32) -> u32
     ensures { result ≡ size_of first }
 {
-    first.max(1)
+    first.max(4)
 }
 
 /// The segment of that number.
@@ -46,6 +46,23 @@ pub(crate) fn head_at(heads: &Vec<ListHead>, list: usize) -> ListHead
     heads[list]
 }
 
+/// The number of the segment that has this place of a list, found from a segment of the list that
+/// ends behind it.
+pub(crate) fn number_of(segments: &Vec<Segment>, from: u32, place: u32) -> u32
+    requires linked { AreLinked segments.now.items }
+    requires within { IsWithin segments.now.items from place }
+    ensures within { IsWithin segments.now.items result place }
+    ensures owner { (segment_at segments.now.items result).owner
+        ≡ (segment_at segments.now.items from).owner }
+    ensures begun { (segment_at segments.now.items result).first ≤ place }
+{
+    let mut number = from;
+    while segment_at(segments, number).first > place {
+        number = segment_at(segments, number).before;
+    }
+    number
+}
+
 /// Where in the row this place of a list lies, found from a segment of the list that ends behind
 /// it.
 pub(crate) fn place_of(segments: &Vec<Segment>, from: u32, place: u32) -> usize
@@ -54,10 +71,6 @@ pub(crate) fn place_of(segments: &Vec<Segment>, from: u32, place: u32) -> usize
     ensures { result
         ≡ place_of (segment_at segments.now.items from).owner segments.now.items place }
 {
-    let mut number = from;
-    while segment_at(segments, number).first > place {
-        number = segment_at(segments, number).before;
-    }
-    let found = segment_at(segments, number);
+    let found = segment_at(segments, number_of(segments, from, place));
     found.start as usize + (place - found.first) as usize
 }

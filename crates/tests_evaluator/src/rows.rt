@@ -267,6 +267,15 @@ fn more_room_than_a_number_counts_is_refused(rt: HostRuntime) -> Result<(), Fail
     Ok(())
 }
 
+/// What lies side by side from a place of a list of the rows below on.
+static RUNS: [(usize, u32, &[u32]); 5] = [
+    (0, 0, &[10, 12, 33, 14]),
+    (0, 2, &[33, 14]),
+    (0, 4, &[]),
+    (1, 1, &[12, 33]),
+    (2, 0, &[]),
+];
+
 #[test]
 fn rows_of_numbers_hold_numbers(rt: HostRuntime) -> Result<(), Fail> {
     let mut rows = Rows::make(rt.alloc(), 12, 0)?;
@@ -287,6 +296,9 @@ fn rows_of_numbers_hold_numbers(rt: HostRuntime) -> Result<(), Fail> {
         for (place, number) in numbers.iter().enumerate() {
             assert_eq!(rt; rows.get(list, place as u32), Some(*number));
         }
+    }
+    for (list, place, run) in RUNS.iter() {
+        assert_eq!(rt; rows.run(*list, *place), *run, "from {place} of {list}");
     }
     assert_eq!(rt; (rows.spent(), rows.room()), (10, 12));
     Ok(())

@@ -1,13 +1,25 @@
-use Rattle.std.proofs.Common.{◌∙◌, ap, arith, sym}
+use Rattle.std.proofs.Common.{◌≡◌, ◌∙◌, None, Some, arith, sym}
+use Rattle.rip_heap.specs.Names.{place_of}
 use Rattle.rip_rows.specs.Rows.{list_at}
-use Rattle.rip_heap.proofs.NameIndexLemmas.{first_place, no_place}
-use Rattle.rip_heap.specs.Names.{same_text}
+use Rattle.rip_heap.proofs.NameIndexLemmas.{no_place}
+use Rattle.rip_heap.proofs.RunLemmas.{found_in_run, none_in_run, run_fits}
 use Rattle.rip_heap.proofs.names.first_named.Goals as goal
 
-pub returns-then-same_text : goal.returns-then-same_text
-returns-then-same_text c =
-    first_place c.args.pool.now c.args.name (list_at c.args.rows.now c.args.list) c.loop-place.place (omega (arith, c.loop-place-test.true, c.len-count.ensures)) c.loop-place.invariant
-    (ap (λ name. same_text c.args.pool.now name c.args.name) (sym c.name_at.ensures) ∙ sym c.same_text.ensures ∙ c.if-same_text.true)
+pub returns-in-Some : goal.returns-in-Some
+returns-in-Some c =
+    let found : Some c.in-Some.at ≡ place_of c.args.pool.now c.args.name c.run-run.result.now = sym c.in-Some.is ∙ c.first_of.ensures in
+    (found_in_run c.args.pool.now c.args.name (list_at c.args.rows.now c.args.list) c.run-run.result.now c.loop-place.place c.in-Some.at c.run-run.ensures.front
+    c.loop-place.invariant.within c.loop-place.invariant.none found).1
+
+pub loop-place-preserved : goal.loop-place-preserved
+loop-place-preserved c =
+    let nowhere : None ≡ place_of c.args.pool.now c.args.name c.run-run.result.now = sym c.in_default.is ∙ c.first_of.ensures in
+    record {
+      within = run_fits (list_at c.args.rows.now c.args.list) c.run-run.result.now c.loop-place.place c.run-run.ensures.front c.loop-place.invariant.within;
+      none = none_in_run c.args.pool.now c.args.name (list_at c.args.rows.now c.args.list) c.run-run.result.now c.loop-place.place c.run-run.ensures.front
+          c.loop-place.invariant.none nowhere;
+    }
 
 pub returns : goal.returns
-returns c = no_place c.args.pool.now c.args.name (list_at c.args.rows.now c.args.list) c.loop-place.place (omega (arith, c.loop-place-test.false, c.len-count.ensures)) c.loop-place.invariant
+returns c =
+    no_place c.args.pool.now c.args.name (list_at c.args.rows.now c.args.list) c.loop-place.place (omega (arith, c.loop-place-test.false, c.len-count.ensures)) c.loop-place.invariant.none

@@ -1,6 +1,6 @@
 use Rattle.std.proofs.Common.{◌≡◌}
 use Rattle.rip_rows.specs.Segments.{IsWithin, segment_at}
-use Rattle.rip_rows.proofs.segment.place_of.Given as goal
+use Rattle.rip_rows.proofs.segment.number_of.Given as goal
 
 abbrev pub invariant-loop-number : goal.invariant-loop-number
 invariant-loop-number l = record {
