@@ -11,5 +11,4 @@ pub mod PlanLaws
 pub mod Roomed
 pub mod Scopes
 pub mod TakenBack
-pub mod TextsStand
 pub mod WholeRuns

@@ -9,7 +9,7 @@ use Rattle.rip_heap.specs.Marks.{mark_of}
 use Rattle.rip_heap.specs.World.{World}
 use Rattle.rip_tree.specs.declared.form.Form.{Form}
 use Rattle.rip_machine.specs.Back.{CutsTo}
-use Rattle.rip_machine.specs.Loading.{form_cost, form_text, text_or_none, with_form}
+use Rattle.rip_machine.specs.Loading.{form_cost, own_text, with_form}
 
 -- what adds nothing can be cut
 pub cuts_itself : (w : World) (m : Mark) → m ≡ mark_of w → length fixed_units ≤ m.end → CutsTo w w
@@ -40,8 +40,8 @@ cuts_text w x text cost cheap b =
     )
 
 -- what a node costs is no more than the length of its text
-form_cheap : (units : List ℕ) (f : Form) → form_cost units f ≤ length (text_or_none (form_text units f))
+form_cheap : (units : List ℕ) (f : Form) → form_cost units f ≤ length (own_text units f)
 form_cheap units f = grind arith
 
 pub form_cuts : (units : List ℕ) (f : Form) (w x y : World) → y ≡ with_form units f x → CutsTo w x → CutsTo w y
-form_cuts units f w x y added b = subst (CutsTo w) (sym added) (cuts_text w x (text_or_none (form_text units f)) (form_cost units f) (form_cheap units f) b)
+form_cuts units f w x y added b = subst (CutsTo w) (sym added) (cuts_text w x (own_text units f) (form_cost units f) (form_cheap units f) b)

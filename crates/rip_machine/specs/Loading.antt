@@ -1,21 +1,23 @@
--- How a program is loaded: the text that a node is or names is put into the heap, for each node in the order of the nodes.
-use Rattle.std.specs.Prelude.{◌≡◌, ℕ, ◌+◌, ◌<◌, ◌≤◌, List, [], ◌∷◌, length, Option, None, Some, Result, Ok, Err}
+-- How a program is loaded: the text that a node is or names is put into the heap, in the order of the nodes, each name once.
+use Rattle.std.specs.Prelude.{◌≡◌, ℕ, ◌+◌, ◌==◌, ◌<◌, ◌≤◌, if◌then◌else◌, List, [], length, map, Option, None, Some, Result, Ok, Err}
 use Rattle.std.specs.Fmt.{signed_decimal}
-use Rattle.std.specs.List.{flat_map, sum_by}
+use Rattle.std.specs.List.{flat_map, range_with_len, sum_by}
 use Rattle.rip_values.specs.declared.value.Limit.TheVariants.{Units}
 use Rattle.rip_values.specs.declared.value.Refused.{Refused}
 use Rattle.rip_values.specs.declared.value.Refused.TheVariants.{Limit as At, Memory as NoRoom}
 use Rattle.rip_values.specs.declared.value.Span.{Span}
-use Rattle.rip_values.specs.Pool.{text_at, with_text}
+use Rattle.rip_values.specs.FixedTexts.{fixed_span}
+use Rattle.rip_values.specs.Pool.{IsSpan, Texts, text_at, with_text}
 use Rattle.rip_heap.specs.World.{World}
 use Rattle.rip_tree.specs.declared.form.Form.{Form}
 use Rattle.rip_tree.specs.declared.form.Form.TheVariants as form
 use Rattle.rip_tree.specs.declared.form.Key.{Key}
 use Rattle.rip_tree.specs.declared.form.Key.TheVariants as key
-use Rattle.rip_tree.specs.Branches.{Branch, units_at}
+use Rattle.rip_tree.specs.Branches.{Branch, node_of, units_at}
+use Rattle.rip_tree.specs.Firsts.{first_named}
 use Rattle.rip_tree.specs.Program.{Code}
 use Rattle.rip_machine.specs.Law.{Standing}
-use Rattle.rip_machine.specs.Reading.{Loaded, form_of, literal}
+use Rattle.rip_machine.specs.Reading.{Loaded, form_in, form_of, literal}
 
 -- TEXTS, in a program with these units
 
@@ -37,16 +39,38 @@ abbrev pub form_cost : List ℕ → Form → ℕ
 form_cost units (form.Text literal) = length (units_at units literal.value)
 form_cost units f = 0
 
--- no text has no units
-abbrev pub text_or_none : Option (List ℕ) → List ℕ
-text_or_none None = []
-text_or_none (Some text) = text
-
-abbrev pub node_text : List ℕ → Branch → List ℕ
-node_text units b = text_or_none (form_text units b.node.form)
-
+-- what a branch costs
 abbrev pub node_cost : List ℕ → Branch → ℕ
 node_cost units b = form_cost units b.node.form
+
+-- WHAT IS PUT IN
+
+-- what is put in of a name with such a fixed span: a fixed text stands in every pool, and nothing is put in; of any other
+-- name its units are
+abbrev pub unless_fixed : Option Span → List ℕ → List ℕ
+unless_fixed None name = name
+unless_fixed (Some span) name = []
+
+-- what is put in of a name
+abbrev pub name_put : List ℕ → List ℕ
+name_put name = unless_fixed (fixed_span name) name
+
+-- the text that a node of this form puts in, where no node before it has its name: a text literal, or a name or key that is
+-- no fixed text
+abbrev pub own_text : List ℕ → Form → List ℕ
+own_text units (form.Text literal) = units_at units literal.value
+own_text units (form.Member name) = name_put (units_at units name)
+own_text units (form.Entry key) = name_put (key_text units key)
+own_text units f = []
+
+-- the text that the node with this number puts in: each name is put in once, by the first node that has it; a text literal
+-- and a number as a key have no such name, and are put in each
+abbrev pub put_text : Code → ℕ → List ℕ
+put_text code id = if first_named code.grove id == id then own_text code.grove.units (form_in (node_of code.grove.branches id)) else []
+
+-- the texts that the nodes before this one put in, one behind another
+abbrev pub texts_before : Code → ℕ → List ℕ
+texts_before code id = flat_map (put_text code) (range_with_len 0 id)
 
 -- LOADED WORLDS
 
@@ -54,31 +78,57 @@ node_cost units b = form_cost units b.node.form
 abbrev pub cost_of_literals : Code → ℕ
 cost_of_literals code = sum_by (node_cost code.grove.units) code.grove.branches
 
--- the world with the texts of these nodes behind all others
-abbrev pub with_texts : List ℕ → List Branch → World → World
-with_texts units bs w = record w { pool = with_text w.pool (flat_map (node_text units) bs) (sum_by (node_cost units) bs) }
-
--- the world with the text of one node behind all others
-abbrev pub with_form : List ℕ → Form → World → World
-with_form units f w = record w { pool = with_text w.pool (text_or_none (form_text units f)) (form_cost units f) }
-
--- the span of a text that is put at this place; of none the empty span
-abbrev pub span_from : ℕ → Option (List ℕ) → Span
-span_from start None = record { start = 0; count = 0 }
-span_from start (Some text) = record { start = start; count = length text }
-
--- the spans of the texts of these nodes, which are put one behind another from this place on
-abbrev pub spans_from : List ℕ → ℕ → List Branch → List Span
-spans_from units start [] = []
-spans_from units start (b ∷ bs) = span_from start (form_text units b.node.form) ∷ spans_from units (start + length (node_text units b)) bs
-
--- the world in which the program is loaded, and of each node its span
+-- the world in which the program is loaded: what its nodes put in stands behind all other texts
 abbrev pub world_loaded : Code → World → World
-world_loaded code w = with_texts code.grove.units code.grove.branches w
+world_loaded code w = record w { pool = with_text w.pool (texts_before code (length code.grove.branches)) (cost_of_literals code) }
+
+-- where a name with such a fixed span stands, if it is put in at this place: a fixed text stands where it does in every pool
+abbrev pub fixed_or_at : ℕ → Option Span → List ℕ → Span
+fixed_or_at start None name = record { start = start; count = length name }
+fixed_or_at start (Some span) name = span
+
+-- where a name stands, if it is put in at this place
+abbrev pub name_span : ℕ → List ℕ → Span
+name_span start name = fixed_or_at start (fixed_span name) name
+
+-- the span of a node's text, where that is put in at this place; of a node without a text the empty span
+abbrev pub own_span : ℕ → List ℕ → Form → Span
+own_span start units (form.Text literal) = record { start = start; count = length (units_at units literal.value) }
+own_span start units (form.Member name) = name_span start (units_at units name)
+own_span start units (form.Entry key) = name_span start (key_text units key)
+own_span start units f = record { start = 0; count = 0 }
+
+-- where the text of the node with this number stands, if it puts one in: behind all that was there and all that nodes before
+-- it put in
+abbrev pub place_of : Code → World → ℕ → ℕ
+place_of code w id = length w.pool.units + length (texts_before code id)
+
+-- the span of the node with this number: its name stands where the first node that has it puts it in
+abbrev pub span_of : Code → World → ℕ → Span
+span_of code w id = own_span (place_of code w (first_named code.grove id)) code.grove.units (form_in (node_of code.grove.branches id))
 
 -- of each node the span of its text in the world in which the program is loaded
 abbrev pub spans_loaded : Code → World → List Span
-spans_loaded code w = spans_from code.grove.units (length w.pool.units) code.grove.branches
+spans_loaded code w = map (span_of code w) (range_with_len 0 (length code.grove.branches))
+
+-- WHILE IT IS LOADED
+
+-- the world with the name behind all others, unless it is a fixed text
+abbrev pub with_name : List ℕ → World → World
+with_name name w = record w { pool = with_text w.pool (name_put name) 0 }
+
+-- the world with the text of a node of this form behind all others, where no node before it has its name
+abbrev pub with_form : List ℕ → Form → World → World
+with_form units f w = record w { pool = with_text w.pool (own_text units f) (form_cost units f) }
+
+-- the text stands at this span, within the pool
+abbrev pub StandsAt : Texts → List ℕ → Span → Type 0
+StandsAt pool text span = (text_at pool span ≡ text) × IsSpan pool span
+
+-- if there is a text, it stands there
+abbrev pub StandsIfAny : Texts → Option (List ℕ) → Span → Type 0
+StandsIfAny pool None span = Unit {0}
+StandsIfAny pool (Some text) span = StandsAt pool text span
 
 -- ROOM FOR VALUES
 

@@ -2,8 +2,7 @@ ghost use Rattle.std.specs.Prelude.{◌≡◌, ◌↔◌, ◌+◌, ◌≤◌, �
 ghost use Rattle.rip_heap.specs.Growth.{Grows};
 ghost use Rattle.rip_heap.specs.World.{World};
 ghost use Rattle.rip_machine.specs.Back.{CutsTo};
-ghost use Rattle.rip_machine.specs.Loading.{cost_of_literals, form_cost, form_text, key_text, span_from, spans_loaded, values_needed, with_form, world_loaded};
-ghost use Rattle.rip_heap.specs.Texts.{name_added};
+ghost use Rattle.rip_machine.specs.Loading.{cost_of_literals, StandsAt, StandsIfAny, TextsStand, form_cost, form_text, key_text, name_span, own_span, spans_loaded, values_needed, with_form, with_name, world_loaded};
 
 use rip_heap::Heap;
 use rip_tree::{Form, Key, Program};
@@ -51,21 +50,40 @@ pub(crate) fn fits(program: &Program, heap: &Heap) -> bool
 
 // TEXTS
 
+/// Adds a name, unless it is a fixed text, which stands in every pool.
+fn add_name(alloc: Global, heap: &mut Heap, name: &[u16]) -> Result<Span, NoMemory>
+    ensures span { IfOk result (λ span. span ≡ name_span (length heap.old.pool.units) name.now) }
+    ensures added { OnOk result (heap.new ≡ with_name name.now heap.old) }
+    ensures stands { IfOk result (StandsAt heap.new.pool name.now) }
+    ensures kept { OnErr result (heap.new ≡ heap.old) }
+    ensures cells { heap.new.cells ≡ heap.old.cells }
+    ensures grows { Grows heap.old heap.new }
+{
+    if let Some(span) = heap.pool().fixed(name) {
+        return Ok(span);
+    }
+    heap.add_name(alloc, name)
+}
+
 /// Adds the key of an entry as a name.
 fn add_key(alloc: Global, program: &Program, heap: &mut Heap, key: &Key) -> Result<Span, NoMemory>
-    ensures added { IfOk result (λ span. (span, heap.new)
-        ≡ name_added heap.old (key_text program.now.grove.units key.now)) }
+    ensures span { IfOk result (λ span. span ≡ name_span (length heap.old.pool.units)
+        (key_text program.now.grove.units key.now)) }
+    ensures added { OnOk result
+        (heap.new ≡ with_name (key_text program.now.grove.units key.now) heap.old) }
+    ensures stands { IfOk result
+        (StandsAt heap.new.pool (key_text program.now.grove.units key.now)) }
     ensures kept { OnErr result (heap.new ≡ heap.old) }
     ensures cells { heap.new.cells ≡ heap.old.cells }
     ensures grows { Grows heap.old heap.new }
 {
     match key {
-        Key::Name(name) => heap.add_name(alloc, program.units(*name)),
-        Key::Text(literal) => heap.add_name(alloc, program.units(literal.value)),
+        Key::Name(name) => add_name(alloc, heap, program.units(*name)),
+        Key::Text(literal) => add_name(alloc, heap, program.units(literal.value)),
         Key::Number(number) => {
             let mut room = [0; 17];
             let count = text_of_whole(*number, &mut room);
-            heap.add_name(alloc, &room[..count])
+            add_name(alloc, heap, &room[..count])
         },
     }
 }
@@ -77,9 +95,11 @@ fn add_form(
     heap: &mut Heap,
     form: &Form,
 ) -> Result<Span, NoMemory>
-    ensures span { IfOk result (λ span. span ≡ span_from (length heap.old.pool.units)
-        (form_text program.now.grove.units form.now)) }
+    ensures span { IfOk result (λ span. span ≡ own_span (length heap.old.pool.units)
+        program.now.grove.units form.now) }
     ensures added { OnOk result (heap.new ≡ with_form program.now.grove.units form.now heap.old) }
+    ensures stands { IfOk result
+        (StandsIfAny heap.new.pool (form_text program.now.grove.units form.now)) }
     ensures kept { OnErr result (heap.new ≡ heap.old) }
     ensures cells { heap.new.cells ≡ heap.old.cells }
     ensures grows { Grows heap.old heap.new }
@@ -89,14 +109,14 @@ fn add_form(
             Ok(span) => Ok(span),
             Err(_) => Err(NoMemory),
         },
-        Form::Member(name) => heap.add_name(alloc, program.units(*name)),
+        Form::Member(name) => add_name(alloc, heap, program.units(*name)),
         Form::Entry(key) => add_key(alloc, program, heap, key),
         _ => Ok(Span { start: 0, count: 0 }),
     }
 }
 
-/// Adds the texts of a program, and gives the span of each node. For want of memory some are added, and can be cut back.
-#[tactic(auto, using(crate::proofs::Loads::texts_none, crate::proofs::Loads::texts_more, crate::proofs::Loads::spans_none, crate::proofs::Loads::spans_more))]
+/// Adds the texts of a program, each name once, and gives the span of each node. For want of memory some are added, and can be
+/// cut back.
 pub(crate) fn load_texts(
     alloc: Global,
     program: &Program,
@@ -104,13 +124,21 @@ pub(crate) fn load_texts(
 ) -> Result<Vec<Span>, NoMemory>
     ensures spans { IfOk result (λ spans. spans.items ≡ spans_loaded program.now heap.old) }
     ensures loaded { OnOk result (heap.new ≡ world_loaded program.now heap.old) }
+    ensures stand { IfOk result
+        (λ spans. TextsStand (record { code = program.now; literals = spans.items }) heap.new) }
     ensures back { (w : World) → CutsTo w heap.old → CutsTo w heap.new }
     ensures cells { heap.new.cells ≡ heap.old.cells }
     ensures grows { Grows heap.old heap.new }
 {
+    program.firsts_have_the_names();
     let mut spans = Vec::with_capacity(alloc, program.count() as usize)?;
     for id in 0..program.count() {
-        let span = add_form(alloc, program, heap, &program.node(id).form)?;
+        let first = program.first_named(id);
+        let span = if first < id {
+            spans[first as usize]
+        } else {
+            add_form(alloc, program, heap, &program.node(id).form)?
+        };
         spans.push(span)?;
     }
     Ok(spans)

@@ -42,6 +42,8 @@ impl Model for Machine {
 fn load_whole(alloc: Global, program: &Program, heap: &mut Heap) -> Result<Vec<Span>, NoMemory>
     ensures spans { IfOk result (λ spans. spans.items ≡ spans_loaded program.now heap.old) }
     ensures loaded { OnOk result (heap.new ≡ world_loaded program.now heap.old) }
+    ensures stand { IfOk result
+        (λ spans. TextsStand (record { code = program.now; literals = spans.items }) heap.new) }
     ensures kept { OnErr result (heap.new ≡ heap.old) }
     ensures cells { heap.new.cells ≡ heap.old.cells }
     ensures grows { Grows heap.old heap.new }
@@ -89,9 +91,10 @@ impl Machine {
         self.run.reserve(values)
     }
 
-    /// Adds the program's texts to the heap: once, before the first start. Each text literal costs its length, and names cost
-    /// nothing. Literals that would pass the limit of units are refused, and then nothing is done. Where memory is wanting all
-    /// is as before.
+    /// Adds the program's texts to the heap: once, before the first start. Each text literal is put in, and costs its length.
+    /// A name is put in once, and costs nothing; one that is a fixed text stands in every pool, and is not put in again.
+    /// Literals that would pass the limit of units are refused, and then nothing is done. Where memory is wanting all is as
+    /// before.
     pub fn load(&mut self, alloc: Global, program: &Program, heap: &mut Heap) -> Result<(), Refused>
         ensures loads { Loads program.now heap.old self.old result heap.new self.new }
         ensures stand { OnOk result (TextsStand (loaded program.now self.new) heap.new) }
