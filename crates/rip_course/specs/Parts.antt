@@ -4,7 +4,7 @@ use Rattle.std.specs.List.{AllByRecursion, list_any}
 use Rattle.rip_data.specs.Datum.{Tree}
 use Rattle.rip_wire.specs.Batches.{Contents}
 use Rattle.rip_wire.specs.declared.ending.Ending.{Ending}
-use Rattle.rip_wire.specs.declared.ending.Ending.TheVariants.{Memory}
+use Rattle.rip_wire.specs.declared.ending.Ending.TheVariants.{Mismatch, BadReport, Limit, Fault, Memory, Closed}
 
 -- what an item comes to: an event or a reply was handled; a call was served, by its number, name and args; or the batch
 -- is done, and may end the session
@@ -119,13 +119,30 @@ abbrev pub spent : ℕ → List Part → ℕ → ℕ
 spent number [] units = units
 spent number (p ∷ ps) units = spent number ps (if p.batch == number then p.cost else units)
 
--- memory may be wanting there: the session comes to that item, and the units are of the item
+-- another call was reported than the one that the script made
+abbrev pub ends_at_mismatch : Option Ending → Bool
+ends_at_mismatch None = false
+ends_at_mismatch (Some (Mismatch item number reported made)) = true
+ends_at_mismatch (Some (BadReport item kind)) = false
+ends_at_mismatch (Some (Limit item limit)) = false
+ends_at_mismatch (Some (Fault item fault)) = false
+ends_at_mismatch (Some (Memory item)) = false
+ends_at_mismatch (Some Closed) = false
+
+-- the item reports a call, which is served or is another than the one that the script made
+abbrev pub tells_call : Fact → Bool
+tells_call passes = false
+tells_call (serves number name args) = true
+tells_call (finishes how) = ends_at_mismatch how
+
+-- memory may be wanting there: the session comes to that item, which reports a call, and the units are of the item
 pub record IsLack (l : Lacking) (ps : List Part) : Type 0 where
   pub part : Part
   pub others : List Part
   pub comes : behind l ps ≡ part ∷ others
   pub batch : part.batch ≡ l.batch
   pub item : part.item ≡ l.item
+  pub call : tells_call part.fact ≡ true
   pub lives : has_ended (before l ps) ≡ false
   pub above : spent l.batch (before l ps) 1 < l.cost
   pub within : l.cost ≤ part.cost

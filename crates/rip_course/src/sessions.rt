@@ -63,7 +63,8 @@ pub trait Sessions {
         ensures memory { OnErr result (session.new ≡ session.old) }
         ensures back { IfErr result (λ b. b ≡ batch) };
 
-    /// Goes on with a session whose batch is not done. Want of memory in an item ends the session at it.
+    /// Goes on with a session whose batch is not done. Want of memory in an item ends the session at it, and comes only at an
+    /// item that reports a call.
     fn resume<V: Service>(
         &self,
         alloc: Global,

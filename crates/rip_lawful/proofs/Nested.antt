@@ -60,12 +60,12 @@ idle_within place depth most is =
     subst (λ (p : Place). open_at p depth ≤ most) (sym is) none
 
 -- behind a slice
-pub slice_within : {M A S : Type 0} (e : Evaluation M S) (d : Doing A S) (may : S → Bool) (batch : ℕ) (next : Behind S) (at : Spot M A S) (from base limit : ℕ) (ahead : Ahead)
-    (ps : List Part) (gs : List Given) (progress : Progress) (most : ℕ) → NestsWithin most d.run → Comes e d may batch next at from base limit ahead ps gs progress → StandsIdleSo progress at.place
+pub slice_within : {M A S : Type 0} (Roomed : Type 0) (e : Evaluation M S) (d : Doing A S) (may : S → Bool) (batch : ℕ) (next : Behind S) (at : Spot M A S) (from base limit : ℕ) (ahead : Ahead)
+    (ps : List Part) (gs : List Given) (progress : Progress) (most : ℕ) → NestsWithin most d.run → Comes Roomed e d may batch next at from base limit ahead ps gs progress → StandsIdleSo progress at.place
     → IsWithinSo progress (open_at at.place (depth_in e at.going.evaluator at.going.phase)) most
-slice_within e d may batch next at from base limit ahead ps gs Busy most nests comes idle =
+slice_within Roomed e d may batch next at from base limit ahead ps gs Busy most nests comes idle =
     let busy : BusySo e d may batch next at from base limit ahead ps gs = comes in
     cut_within e d batch next at at.place busy.new_base limit busy.later most nests busy.cut
-slice_within e d may batch next at from base limit ahead ps gs (Finished None) most nests comes idle =
+slice_within Roomed e d may batch next at from base limit ahead ps gs (Finished None) most nests comes idle =
     idle_within at.place (depth_in e at.going.evaluator at.going.phase) most idle
-slice_within e d may batch next at from base limit ahead ps gs (Finished (Some how)) most nests comes idle = tt
+slice_within Roomed e d may batch next at from base limit ahead ps gs (Finished (Some how)) most nests comes idle = tt

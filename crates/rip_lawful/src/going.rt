@@ -7,7 +7,7 @@ ghost use Rattle.rip_course.specs.Stages.{MayAdmit, Resumed, Stage, begun, is_do
 ghost use Rattle.rip_runner.specs.Rooms.{HasRooms};
 ghost use Rattle.rip_replica.specs.Numbers.{HasNumberSo, KeepsServed, KeepsSteps, open_of};
 ghost use Rattle.rip_replica.specs.Parts.{Doing, meaning_of};
-ghost use Rattle.rip_replica.specs.Rooms.{IfLives, IsAtCall};
+ghost use Rattle.rip_replica.specs.Rooms.{IfLives, IsCallAt, IsRoomed};
 ghost use Rattle.rip_lawful.specs.AtStage.{AreDoneBy, IsAtStage};
 ghost use Rattle.rip_lawful.specs.Depth.{IsWithinSo, NestsWithin};
 
@@ -87,8 +87,8 @@ pub fn admit<E: Evaluator<H>, I: Works<H, T>, T: Drop, H: Host>(
     replica.admit(number, batch);
 }
 
-/// Goes on with a session whose batch is not done for the units of a slice, which may be none: then all stays. Where there
-/// are rooms for the items, memory is wanting only at a call.
+/// Goes on with a session whose batch is not done for the units of a slice, which may be none: then all stays. One that has
+/// its rooms is ended for want of memory only at an item that reports a call.
 pub fn resume<E: Evaluator<H>, I: Works<H, T>, T, H: Host, V: Service>(
     replica: &mut Replica<E, I, T, H>,
     alloc: Global,
@@ -103,16 +103,18 @@ pub fn resume<E: Evaluator<H>, I: Works<H, T>, T, H: Host, V: Service>(
     ensures page { (number : H → ℕ) → KeepsSteps (E.evaluation program.now) I.under_way number
         → KeepsServed I.served number
         → HasNumberSo result (number replica.old.host) (number replica.new.host) }
-    ensures memory { KeepsSteps (E.evaluation program.now) I.under_way I.need
-        → KeepsServed I.served I.need → (IsTrue H.may_want_memory → ⊥)
-        → HasRooms (E.evaluation program.now) E.has_room (λ p. I.room p.items) I.need
-        replica.old.runner replica.old.host
+    ensures memory { (doing : ℕ → ℕ → Doing T H) (st : Stage) (meant : Meant)
+        (calls : List Called)
+        → AreDoneBy doing I.plans I.fact I.served I.ending
+        → IsAtStage (E.evaluation program.now) doing I.item_plan I.under_way I.may_serve replica.old
+        st
+        → is_done (meaning_of doing) st ≡ false → V.replies_as service.old meant calls
+        → IsRoomed (E.evaluation program.now) E.has_room I.room I.need I.under_way I.served
+        (IsTrue H.may_want_memory) replica.old.runner replica.old.host
         → (item : ℕ) → result ≡ Progress.Finished (Some (Ends.Memory item))
-        → IsAtCall replica.new.runner.phase }
-    ensures rooms { KeepsSteps (E.evaluation program.now) I.under_way I.need
-        → KeepsServed I.served I.need → (IsTrue H.may_want_memory → ⊥)
-        → HasRooms (E.evaluation program.now) E.has_room (λ p. I.room p.items) I.need
-        replica.old.runner replica.old.host
+        → IsCallAt I.fact replica.new.runner.planner.batch.items item }
+    ensures rooms { IsRoomed (E.evaluation program.now) E.has_room I.room I.need I.under_way I.served
+        (IsTrue H.may_want_memory) replica.old.runner replica.old.host
         → IfLives result (HasRooms (E.evaluation program.now) E.has_room
         (λ p. I.room p.items) I.need replica.new.runner replica.new.host) }
     ensures depth { (doing : ℕ → ℕ → Doing T H) (st : Stage) (meant : Meant) (calls : List Called)
@@ -129,6 +131,8 @@ pub fn resume<E: Evaluator<H>, I: Works<H, T>, T, H: Host, V: Service>(
         → IsAtStage (E.evaluation program.now) doing I.item_plan I.under_way I.may_serve replica.old
         st
         → is_done (meaning_of doing) st ≡ false → V.replies_as service.old meant calls
+        → IsRoomed (E.evaluation program.now) E.has_room I.room I.need I.under_way I.served
+        (IsTrue H.may_want_memory) replica.old.runner replica.old.host
         → Resumed (meaning_of doing) st meant calls slice.now made.old made.new result
         (IsAtStage (E.evaluation program.now) doing I.item_plan I.under_way I.may_serve replica.new)
         (V.replies_as service.new meant) }

@@ -9,9 +9,10 @@ use Rattle.rip_runs.specs.Plan.{Plan, Over, Takes, Awaits, Runs}
 use Rattle.rip_runs.specs.Started.{Started}
 use Rattle.rip_runner.specs.Laws.{IsClosed, IsPlayedLater}
 use Rattle.rip_runner.specs.Play.{Played, Closes, Holds, play}
-use Rattle.rip_course.specs.Parts.{Fact, passes, serves, finishes}
+use Rattle.rip_course.specs.Parts.{Fact, passes, serves, finishes, serves_call}
 use Rattle.rip_replica.specs.Plays.{CountsUnits, IsItemPlan}
-use Rattle.rip_replica.proofs.PlayLemmas.{AtMost, Below, HeldWants, closes, closes_later, play_at_most, play_cut}
+use Rattle.rip_replica.specs.Rooms.{IsMismatch}
+use Rattle.rip_replica.proofs.PlayLemmas.{AtMost, Below, EndsWell, HeldWants, closes, closes_later, plain_ends_well, play_at_most, play_cut, well_no_mismatch}
 
 -- what a played plan has, where it closes
 close_of : {S : Type 0} → Played S → Close
@@ -100,6 +101,15 @@ fine_passes run full may (serves number name args) (Takes x r plan) fuel u v f g
 fine_passes run full may (serves number name args) (Awaits x r go) fuel u v f gs w s h is = absurd (never_both Fine gs f v 0 w x s r (sym is))
 fine_passes run full may (serves number name args) (Runs item start x r go) fuel u v f gs w s h is = absurd h
 fine_passes run full may (finishes how) plan fuel u v f gs w s h is = absurd h
+
+-- one that ends with a mismatch reports a call
+pub mismatch_serves : {S : Type 0} (run : Started → World → S → ℕ → ℕ → Reached S) (full : ℕ) (may : S → Bool) (fact : Fact) (plan : Plan S) (gs hs : List (S → S)) (fuel f u v : ℕ) (w : World) (s : S) (close : Close)
+    → IsItemPlan may fact plan → play run full plan gs fuel u ≡ Closes close hs f v w s → IsMismatch close → serves_call fact ≡ true
+mismatch_serves run full may passes plan gs hs fuel f u v w s close shape is mismatch =
+    let N : Played _ → Type 0 = λ p. EndsWell p in
+    absurd (well_no_mismatch close (subst N is (plain_ends_well run full plan gs fuel u shape)) mismatch)
+mismatch_serves run full may (serves number name args) plan gs hs fuel f u v w s close shape is mismatch = refl
+mismatch_serves run full may (finishes how) plan gs hs fuel f u v w s close shape is mismatch = absurd shape
 
 -- THE END OF AN ITEM, after so many units and some more, of which u are left
 

@@ -2,12 +2,15 @@
 use Rattle.std.proofs.Common.{◌≡◌, ℕ, zero, suc, ◌+◌, ◌-◌, ◌<◌, ◌≤◌, min, List, [], ◌∷◌, sym, subst, arith, le_trans}
 use Rattle.rip_heap.specs.World.{World}
 use Rattle.rip_runs.specs.Evaluation.{IsLater, Reached, Passes, Breaks, Pauses}
-use Rattle.rip_runs.specs.Plan.{IsPlain, Plan, Over, Takes, Awaits, Runs}
+use Rattle.rip_runs.specs.declared.close.Close.{Close}
+use Rattle.rip_runs.specs.declared.close.Close.TheVariants.{Fine, Refused, Mismatch, Stopped}
+use Rattle.rip_runs.specs.Plan.{IsNoMismatch, IsPlain, Plan, Over, Takes, Awaits, Runs}
 use Rattle.rip_runs.specs.Started.{Started}
 use Rattle.rip_runner.specs.Laws.{IsClosed, IsPlayedLater}
 use Rattle.rip_runner.specs.Play.{Played, Closes, Holds, after_run, play}
 use Rattle.rip_runner.proofs.PlayLaws.{plain_closes, play_later}
 use Rattle.rip_replica.specs.Plays.{CountsUnits, LeavesAtMost, LeavesLess, WantsMore}
+use Rattle.rip_replica.specs.Rooms.{IsMismatch}
 
 -- a plan leaves no more than this; fewer than this, where it closes
 unfoldable pub AtMost : {S : Type 0} → ℕ → Played S → Type 0
@@ -102,3 +105,28 @@ closes_later run full counts plan gs fuel u k = play_later run full counts.once 
 pub closes : {S : Type 0} (run : Started → World → S → ℕ → ℕ → Reached S) (full : ℕ) → CountsUnits run
     → (plan : Plan S) (gs : List (S → S)) (fuel u : ℕ) → IsPlain plan → fuel ≤ u → IsClosed (play run full plan gs fuel u)
 closes run full counts plan gs fuel u plain le = plain_closes run full counts.ends plan gs fuel u plain le
+
+-- a plan of an item that reports no call ends with no mismatch
+abbrev pub EndsWell : {S : Type 0} → Played S → Type 0
+EndsWell (Closes close gs fuel u w s) = IsNoMismatch close
+EndsWell (Holds open_depth w s) = Unit {0}
+
+after_ends_well : {S : Type 0} (item : ℕ) (a : Reached S) (gs : List (S → S)) (fuel u : ℕ) (go : ℕ → ℕ → World → S → Played S)
+    → ((e v : ℕ) (x : World) (r : S) → EndsWell (go e v x r)) → EndsWell (after_run item a gs fuel u go)
+after_ends_well item (Passes v w s) gs fuel u go h = h (fuel - min u fuel + v) (u - min u fuel + v) w s
+after_ends_well item (Breaks stop v w s) gs fuel u go h = tt
+after_ends_well item (Pauses d w s) gs fuel u go h = tt
+
+pub plain_ends_well : {S : Type 0} (run : Started → World → S → ℕ → ℕ → Reached S) (full : ℕ) (plan : Plan S) (gs : List (S → S)) (fuel u : ℕ)
+    → IsPlain plan → EndsWell (play run full plan gs fuel u)
+plain_ends_well run full (Over close w s) gs fuel u h = h
+plain_ends_well run full (Takes w s plan) gs fuel u h = absurd h
+plain_ends_well run full (Awaits w s go) gs fuel u h = absurd h
+plain_ends_well run full (Runs item start w s go) gs fuel u h =
+    after_ends_well item (run start w s fuel u) gs fuel u _ (λ e v x r. plain_ends_well run full (go x r) gs e v (h x r))
+
+pub well_no_mismatch : (close : Close) → IsNoMismatch close → IsMismatch close → ⊥
+well_no_mismatch Fine well mismatch = mismatch
+well_no_mismatch (Refused item kind) well mismatch = mismatch
+well_no_mismatch (Mismatch item) well mismatch = well
+well_no_mismatch (Stopped item stop) well mismatch = mismatch

@@ -1,5 +1,5 @@
 -- The ends of a slice as the session tells them.
-use Rattle.std.proofs.Common.{◌≡◌, ◌⊎◌, ◌≤◌, arith, ℕ, ◌+◌, Bool, List, Some, inl, inr, ap, sym, subst, ◌∙◌}
+use Rattle.std.proofs.Common.{◌≡◌, ◌⊎◌, ◌≤◌, arith, ℕ, ◌+◌, Bool, true, List, Some, inl, inr, ap, sym, subst, ◌∙◌}
 use Rattle.rip_heap.specs.World.{World}
 use Rattle.rip_wire.specs.declared.ending.Ending.{Ending}
 use Rattle.rip_wire.specs.declared.ending.Ending.TheVariants.{Memory}
@@ -8,6 +8,7 @@ use Rattle.rip_runs.specs.Evaluation.{Evaluation}
 use Rattle.rip_runs.specs.Plan.{Plan}
 use Rattle.rip_runner.specs.Going as runner
 use Rattle.rip_runner.specs.declared.runner.Runner.{Runner}
+use Rattle.rip_course.specs.Parts.{ends_at_mismatch}
 use Rattle.rip_course.specs.Services.{Called, Service}
 use Rattle.rip_course.specs.declared.sessions.Made.{Made}
 use Rattle.rip_course.specs.declared.sessions.Progress.{Progress}
@@ -23,31 +24,32 @@ use Rattle.rip_replica.specs.Standing.{Ahead, Behind, Spot, Turns, next_number, 
 use Rattle.rip_replica.proofs.SliceLemmas.{Went, came_ends, came_short}
 
 -- where the session has ended, nothing is said of where it stands
-elsewhere : {M A S : Type 0} (e : Evaluation M S) (d : Doing A S) (may : S → Bool) (b : ℕ) (next : Behind S) (from base limit : ℕ) (first : Ahead) (service : Service) (calls : List Called) (slice : Slice) (old made : Made)
+elsewhere : {M A S Roomed : Type 0} (e : Evaluation M S) (d : Doing A S) (may : S → Bool) (b : ℕ) (next : Behind S) (from base limit : ℕ) (first : Ahead) (service : Service) (calls : List Called) (slice : Slice) (old made : Made)
     (to last : Spot M A S) (Replies : List Called → Type 0) (how : Ending)
-    → Sliced e d may b next to from base limit first service calls slice old made (Finished (Some how)) Replies → Sliced e d may b next last from base limit first service calls slice old made (Finished (Some how)) Replies
+    → Sliced Roomed e d may b next to from base limit first service calls slice old made (Finished (Some how)) Replies → Sliced Roomed e d may b next last from base limit first service calls slice old made (Finished (Some how)) Replies
 elsewhere e d may b next from base limit first service calls slice old made to last Replies how h = record { ps = h.ps; gs = h.gs; comes = h.comes; served = h.served }
 
-pub memory_at : {M A S : Type 0} (e : Evaluation M S) (d : Doing A S) (may : S → Bool) (b : ℕ) (next : Behind S) (from base limit : ℕ) (first : Ahead) (service : Service) (calls : List Called) (slice : Slice) (old made : Made)
+pub memory_at : {M A S Roomed : Type 0} (e : Evaluation M S) (d : Doing A S) (may : S → Bool) (b : ℕ) (next : Behind S) (from base limit : ℕ) (first : Ahead) (service : Service) (calls : List Called) (slice : Slice) (old made : Made)
     (to last : Spot M A S) (Replies : List Called → Type 0) (progress : Progress) (how : Ending) → progress ≡ Finished (Some how)
-    → Sliced e d may b next to from base limit first service calls slice old made (Finished (Some how)) Replies → Sliced e d may b next last from base limit first service calls slice old made progress Replies
-memory_at e d may b next from base limit first service calls slice old made to last Replies progress how is h =
-    let P : Progress → Type 0 = λ p. Sliced e d may b next last from base limit first service calls slice old made p Replies in
+    → Sliced Roomed e d may b next to from base limit first service calls slice old made (Finished (Some how)) Replies → Sliced Roomed e d may b next last from base limit first service calls slice old made progress Replies
+memory_at {Roomed = Roomed} e d may b next from base limit first service calls slice old made to last Replies progress how is h =
+    let P : Progress → Type 0 = λ p. Sliced Roomed e d may b next last from base limit first service calls slice old made p Replies in
     subst P (sym is) (elsewhere e d may b next from base limit first service calls slice old made to last Replies how h)
 
-pub ended : {M A S : Type 0} (e : Evaluation M S) (d : Doing A S) (may : S → Bool) (b : ℕ) (next : Behind S) (from base limit : ℕ) (first : Ahead) (service : Service) (calls : List Called) (slice : Slice) (old made : Made)
+pub ended : {M A S Roomed : Type 0} (e : Evaluation M S) (d : Doing A S) (may : S → Bool) (b : ℕ) (next : Behind S) (from base limit : ℕ) (first : Ahead) (service : Service) (calls : List Called) (slice : Slice) (old made : Made)
     (at to last : Spot M A S) (left : ℕ) (Replies : List Called → Type 0) (close : Close) (went : Went e d may b next from base limit first service calls slice old at left made Replies)
     (ending : List A → Close → S → Ending) → d.ending ≡ ending → at.place ≡ Within → to.begun ≡ at.begun
     → Turns e d may b next to from went.new_base went.spent left went.later (turn.Ends close) → (progress : Progress)
+    → (progress ≡ Finished (Some (Memory to.begun)) → ends_at_mismatch (Some (d.ending to.all close to.page)) ≡ true)
     → (progress ≡ Finished (Some (ending to.all close to.page))) ⊎ (progress ≡ Finished (Some (Memory to.begun)))
-    → Sliced e d may b next last from base limit first service calls slice old made progress Replies
-ended e d may b next from base limit first service calls slice old made at to last left Replies close went ending same within begun ends progress (inl is) =
+    → Sliced Roomed e d may b next last from base limit first service calls slice old made progress Replies
+ended e d may b next from base limit first service calls slice old made at to last left Replies close went ending same within begun ends progress tells (inl is) =
     memory_at e d may b next from base limit first service calls slice old made to last Replies progress (d.ending to.all close to.page)
     (is ∙ ap (λ f. Finished (Some (f to.all close to.page))) (sym same))
     (came_ends e d may b next from base limit first service calls slice old made at to left Replies close went ends)
-ended e d may b next from base limit first service calls slice old made at to last left Replies close went ending same within begun ends progress (inr is) =
+ended e d may b next from base limit first service calls slice old made at to last left Replies close went ending same within begun ends progress tells (inr is) =
     memory_at e d may b next from base limit first service calls slice old made to last Replies progress (Memory to.begun) is
-    (came_short e d may b next from base limit first service calls slice old made at to left Replies close went within begun ends)
+    (came_short e d may b next from base limit first service calls slice old made at to left Replies close went within begun ends (tells is))
 
 -- a session of this runner, place, world and page
 abbrev pub spot_by : {M I A S : Type 0} → (I → A → ℕ → World → S → Plan S) → (I → A → ℕ → World → S → Plan S) → Runner M (AtItem I A) → Place → World → S → Spot M A S

@@ -1,12 +1,12 @@
 -- A slice, turn by turn.
-use Rattle.std.proofs.Common.{◌≡◌, ℕ, ◌+◌, ◌<◌, ◌≤◌, ◌==◌, Bool, List, [], ◌∷◌, ◌++◌, drop, map, None, Some, inl, inr, if◌then◌else◌, refl, ap, sym, subst, ◌∙◌, arith, append-nil, append_assoc}
+use Rattle.std.proofs.Common.{◌≡◌, ℕ, ◌+◌, ◌<◌, ◌≤◌, ◌==◌, Bool, true, List, [], ◌∷◌, ◌++◌, drop, map, None, Some, inl, inr, if◌then◌else◌, refl, ap, sym, subst, ◌∙◌, arith, append-nil, append_assoc}
 use Rattle.rip_wire.specs.Answers.{served_of}
 use Rattle.rip_wire.specs.Batches.{Contents}
 use Rattle.rip_wire.specs.declared.ending.Ending.TheVariants.{Memory}
 use Rattle.rip_log.specs.Entries.{recorded_of}
 use Rattle.rip_runs.specs.declared.close.Close.{Close}
 use Rattle.rip_runs.specs.Evaluation.{Evaluation}
-use Rattle.rip_course.specs.Parts.{finishes, serves, Part, Given, served_count}
+use Rattle.rip_course.specs.Parts.{finishes, serves, Part, Given, ends_at_mismatch, served_count}
 use Rattle.rip_course.specs.Parts as parts
 use Rattle.rip_course.specs.Services.{Called, Service, called_in}
 use Rattle.rip_course.specs.declared.sessions.Made.{Made}
@@ -16,6 +16,7 @@ use Rattle.rip_replica.specs.declared.replica.Place.{Place}
 use Rattle.rip_replica.specs.declared.replica.Place.TheVariants.{Between, Within}
 use Rattle.rip_replica.specs.declared.replica.Turn.TheVariants as turn
 use Rattle.rip_replica.specs.Parts.{Doing, items_parts, part_of}
+use Rattle.rip_replica.specs.Rooms.{HeadsCall}
 use Rattle.rip_replica.specs.Serving.{IsServed, IsUnserved, given_to}
 use Rattle.rip_replica.specs.Slices.{AreServed, HasGone, LacksSo, Sliced}
 use Rattle.rip_replica.specs.Standing.{Ahead, AreGone, Behind, CostsMore, Further, IsCut, Spot, Stands, StartsItem, Turns, Waits, next_number}
@@ -141,10 +142,10 @@ went_call e d may b next from base limit first service calls slice old made new 
 
 -- THE END OF A SLICE
 
-pub came_busy : {M A S : Type 0} (e : Evaluation M S) (d : Doing A S) (may : S → Bool) (b : ℕ) (next : Behind S) (from base limit : ℕ) (first : Ahead) (service : Service) (calls : List Called) (slice : Slice) (old made : Made)
+pub came_busy : {M A S Roomed : Type 0} (e : Evaluation M S) (d : Doing A S) (may : S → Bool) (b : ℕ) (next : Behind S) (from base limit : ℕ) (first : Ahead) (service : Service) (calls : List Called) (slice : Slice) (old made : Made)
     (at to : Spot M A S) (left : ℕ) (Replies : List Called → Type 0) (went : Went e d may b next from base limit first service calls slice old at left made Replies)
     → Turns e d may b next to from went.new_base went.spent left went.later turn.Busy → to.place ≡ at.place → to.begun ≡ at.begun
-    → Sliced e d may b next to from base limit first service calls slice old made Busy Replies
+    → Sliced Roomed e d may b next to from base limit first service calls slice old made Busy Replies
 came_busy e d may b next from base limit first service calls slice old made at to left Replies went busy place begun =
     let U : ℕ → Type 0 = λ u. IsCut e d b next to to.place went.new_base u went.later in
     let P : Place → Type 0 = λ p. HasGone b (next_number p to.begun) from base limit first went.later went.new_base went.ps went.gs in
@@ -163,10 +164,10 @@ came_busy e d may b next from base limit first service calls slice old made at t
       served = went.served;
     }
 
-pub came_done : {M A S : Type 0} (e : Evaluation M S) (d : Doing A S) (may : S → Bool) (b : ℕ) (next : Behind S) (from base limit : ℕ) (first : Ahead) (service : Service) (calls : List Called) (slice : Slice) (old made : Made)
+pub came_done : {M A S Roomed : Type 0} (e : Evaluation M S) (d : Doing A S) (may : S → Bool) (b : ℕ) (next : Behind S) (from base limit : ℕ) (first : Ahead) (service : Service) (calls : List Called) (slice : Slice) (old made : Made)
     (at to : Spot M A S) (left : ℕ) (Replies : List Called → Type 0) (went : Went e d may b next from base limit first service calls slice old at left made Replies)
     → Turns e d may b next to from went.new_base went.spent left went.later turn.Done
-    → Sliced e d may b next to from base limit first service calls slice old made (Finished None) Replies
+    → Sliced Roomed e d may b next to from base limit first service calls slice old made (Finished None) Replies
 came_done e d may b next from base limit first service calls slice old made at to left Replies went done =
     let C : List Part → Type 0 = λ ps. CostsMore from ps in
     let above : from < went.new_base = subst C (done.3 [] []) (went.stands.more [] []) in
@@ -194,10 +195,10 @@ under_way b from base limit first later new-base ps gs place begun number is sam
     let N : ℕ → Type 0 = λ n. HasGone b n from base limit first later new-base ps gs in
     subst N (sym same) (subst P is has)
 
-pub came_ends : {M A S : Type 0} (e : Evaluation M S) (d : Doing A S) (may : S → Bool) (b : ℕ) (next : Behind S) (from base limit : ℕ) (first : Ahead) (service : Service) (calls : List Called) (slice : Slice) (old made : Made)
+pub came_ends : {M A S Roomed : Type 0} (e : Evaluation M S) (d : Doing A S) (may : S → Bool) (b : ℕ) (next : Behind S) (from base limit : ℕ) (first : Ahead) (service : Service) (calls : List Called) (slice : Slice) (old made : Made)
     (at to : Spot M A S) (left : ℕ) (Replies : List Called → Type 0) (close : Close) (went : Went e d may b next from base limit first service calls slice old at left made Replies)
     → Turns e d may b next to from went.new_base went.spent left went.later (turn.Ends close)
-    → Sliced e d may b next to from base limit first service calls slice old made (Finished (Some (d.ending to.all close to.page))) Replies
+    → Sliced Roomed e d may b next to from base limit first service calls slice old made (Finished (Some (d.ending to.all close to.page))) Replies
 came_ends e d may b next from base limit first service calls slice old made at to left Replies close went ends =
     let C : List Part → Type 0 = λ ps. CostsMore from ps in
     let above : from < ends.0 = subst C (ends.3 [] []) (went.stands.more [] []) in
@@ -217,11 +218,12 @@ came_ends e d may b next from base limit first service calls slice old made at t
     }
 
 -- memory is wanting
-short : {M A S : Type 0} (e : Evaluation M S) (d : Doing A S) (may : S → Bool) (b : ℕ) (next : Behind S) (from base limit : ℕ) (first : Ahead) (service : Service) (calls : List Called) (slice : Slice) (old made : Made)
+short : {M A S Roomed : Type 0} (e : Evaluation M S) (d : Doing A S) (may : S → Bool) (b : ℕ) (next : Behind S) (from base limit : ℕ) (first : Ahead) (service : Service) (calls : List Called) (slice : Slice) (old made : Made)
     (at to : Spot M A S) (left : ℕ) (Replies : List Called → Type 0) (went : Went e d may b next from base limit first service calls slice old at left made Replies)
     → at.place ≡ Within → to.begun ≡ at.begun → went.new_base < limit → ((bs : List Contents) (hs : List Given) → StartsItem b to.begun went.new_base (went.later bs hs))
-    → LacksSo b from base limit first went.ps went.gs (Memory to.begun)
-short e d may b next from base limit first service calls slice old made at to left Replies went within same taken starts = record {
+    → (Roomed → (bs : List Contents) (hs : List Given) → HeadsCall (went.later bs hs))
+    → LacksSo Roomed b from base limit first went.ps went.gs (Memory to.begun)
+short e d may b next from base limit first service calls slice old made at to left Replies went within same taken starts call = record {
   number = to.begun;
   is = refl;
   later = went.later;
@@ -229,43 +231,45 @@ short e d may b next from base limit first service calls slice old made at to le
   taken = taken;
   gone = under_way b from base limit first went.later went.new_base went.ps went.gs at.place at.begun to.begun within same went.gone;
   starts = starts;
+  call = call;
   more = went.stands.more;
 }
 
-pub came_lacks : {M A S : Type 0} (e : Evaluation M S) (d : Doing A S) (may : S → Bool) (b : ℕ) (next : Behind S) (from base limit : ℕ) (first : Ahead) (service : Service) (calls : List Called) (slice : Slice) (old made : Made)
+pub came_lacks : {M A S Roomed : Type 0} (e : Evaluation M S) (d : Doing A S) (may : S → Bool) (b : ℕ) (next : Behind S) (from base limit : ℕ) (first : Ahead) (service : Service) (calls : List Called) (slice : Slice) (old made : Made)
     (at to : Spot M A S) (left : ℕ) (Replies : List Called → Type 0) (went : Went e d may b next from base limit first service calls slice old at left made Replies)
-    → at.place ≡ Within → to.begun ≡ at.begun → Turns e d may b next to from went.new_base went.spent left went.later turn.Lacks
-    → Sliced e d may b next to from base limit first service calls slice old made (Finished (Some (Memory to.begun))) Replies
-came_lacks e d may b next from base limit first service calls slice old made at to left Replies went within same lacks = record {
+    → at.place ≡ Within → to.begun ≡ at.begun → Turns e d may b next to from went.new_base went.spent left went.later turn.Lacks → (Roomed → ⊥)
+    → Sliced Roomed e d may b next to from base limit first service calls slice old made (Finished (Some (Memory to.begun))) Replies
+came_lacks e d may b next from base limit first service calls slice old made at to left Replies went within same lacks never = record {
   ps = went.ps;
   gs = went.gs;
-  comes = inr (short e d may b next from base limit first service calls slice old made at to left Replies went within same (omega (arith, lacks.0, went.count)) lacks.1);
+  comes = inr (short e d may b next from base limit first service calls slice old made at to left Replies went within same (omega (arith, lacks.0, went.count)) lacks.1 (λ h. absurd (never h)));
   served = went.served;
 }
 
-pub came_short : {M A S : Type 0} (e : Evaluation M S) (d : Doing A S) (may : S → Bool) (b : ℕ) (next : Behind S) (from base limit : ℕ) (first : Ahead) (service : Service) (calls : List Called) (slice : Slice) (old made : Made)
+pub came_short : {M A S Roomed : Type 0} (e : Evaluation M S) (d : Doing A S) (may : S → Bool) (b : ℕ) (next : Behind S) (from base limit : ℕ) (first : Ahead) (service : Service) (calls : List Called) (slice : Slice) (old made : Made)
     (at to : Spot M A S) (left : ℕ) (Replies : List Called → Type 0) (close : Close) (went : Went e d may b next from base limit first service calls slice old at left made Replies)
     → at.place ≡ Within → to.begun ≡ at.begun → Turns e d may b next to from went.new_base went.spent left went.later (turn.Ends close)
-    → Sliced e d may b next to from base limit first service calls slice old made (Finished (Some (Memory to.begun))) Replies
-came_short e d may b next from base limit first service calls slice old made at to left Replies close went within same ends =
+    → ends_at_mismatch (Some (d.ending to.all close to.page)) ≡ true
+    → Sliced Roomed e d may b next to from base limit first service calls slice old made (Finished (Some (Memory to.begun))) Replies
+came_short e d may b next from base limit first service calls slice old made at to left Replies close went within same ends tells =
     let start : (bs : List Contents) (hs : List Given) → StartsItem b to.begun went.new_base (went.later bs hs) = λ bs hs.
     (let T : List Part → Type 0 = λ ps. StartsItem b to.begun went.new_base ps in subst T (sym (ends.3 bs hs)) (refl, refl, ends.2)) in
     record {
       ps = went.ps;
       gs = went.gs;
-      comes = inr (short e d may b next from base limit first service calls slice old made at to left Replies went within same (omega (arith, ends.1, ends.2, went.count)) start);
+      comes = inr (short e d may b next from base limit first service calls slice old made at to left Replies went within same (omega (arith, ends.1, ends.2, went.count)) start (λ h bs hs. subst HeadsCall (sym (ends.3 bs hs)) tells));
       served = went.served;
     }
 
-pub came_unserved : {M A S : Type 0} (e : Evaluation M S) (d : Doing A S) (may : S → Bool) (b : ℕ) (next : Behind S) (from base limit : ℕ) (first : Ahead) (service : Service) (calls : List Called) (slice : Slice) (old made new : Made)
+pub came_unserved : {M A S Roomed : Type 0} (e : Evaluation M S) (d : Doing A S) (may : S → Bool) (b : ℕ) (next : Behind S) (from base limit : ℕ) (first : Ahead) (service : Service) (calls : List Called) (slice : Slice) (old made new : Made)
     (at to : Spot M A S) (left u : ℕ) (Before Replies : List Called → Type 0) (went : Went e d may b next from base limit first service calls slice old at left made Before)
     → at.place ≡ Within → to.begun ≡ at.begun → Turns e d may b next to from went.new_base went.spent left went.later (turn.Calls u)
     → IsUnserved (calls ++ called_in went.ps) made new Replies
-    → Sliced e d may b next to from base limit first service calls slice old new (Finished (Some (Memory to.begun))) Replies
+    → Sliced Roomed e d may b next to from base limit first service calls slice old new (Finished (Some (Memory to.begun))) Replies
 came_unserved e d may b next from base limit first service calls slice old made new at to left u Before Replies went within same waits unserved = record {
   ps = went.ps;
   gs = went.gs;
-  comes = inr (short e d may b next from base limit first service calls slice old made at to left Before went within same (omega (arith, waits.count, went.count)) waits.starts);
+  comes = inr (short e d may b next from base limit first service calls slice old made at to left Before went within same (omega (arith, waits.count, went.count)) waits.starts (λ h. waits.tells));
   served = record {
     replied = went.served.replied;
     replies = unserved.replies;

@@ -20,6 +20,7 @@ use Rattle.rip_replica.specs.declared.replica.Place.{Place}
 use Rattle.rip_replica.specs.declared.replica.Place.TheVariants.{First, Between, Within, Idle}
 use Rattle.rip_replica.specs.Parts.{Doing, after_item, first_given, is_fine, items_parts, meaning_of, part_of, session_parts, whole_item}
 use Rattle.rip_replica.specs.Plays.{CountsUnits, IsItemPlan}
+use Rattle.rip_replica.specs.Rooms.{HeadsCall}
 use Rattle.rip_replica.specs.Sessions.{AreBehind, IsAt, IsBusy, behind_batch}
 use Rattle.rip_replica.specs.Slices.{AreServed, BusySo, DoneSo, EndsSo, LacksSo, Sliced}
 use Rattle.rip_replica.specs.Standing.{Ahead, AreGone, Behind, CostsMore, Left, Spot, StartsItem, next_number}
@@ -189,9 +190,9 @@ whole_on : {A S : Type 0} (d : Doing A S) (st : Stage) (earlier ps : List Part) 
 whole_on d st earlier ps ahead later gs whole goes bs hs =
     ap (λ xs. session_parts d (st.batches ++ bs) xs) (append_assoc st.given gs hs) ∙ whole bs (gs ++ hs) ∙ ap (λ xs. earlier ++ xs) (goes bs hs) ∙ sym (append_assoc earlier ps (later bs hs))
 
-pub resumed_busy : {M A S : Type 0} (e : Evaluation M S) (doing : ℕ → ℕ → Doing A S) (may : S → Bool) (at to : Spot M A S) (st : Stage) (service : Service) (calls : List Called) (slice : Slice) (old new : Made) (Replies : List Called → Type 0)
+pub resumed_busy : {M A S Roomed : Type 0} (e : Evaluation M S) (doing : ℕ → ℕ → Doing A S) (may : S → Bool) (at to : Spot M A S) (st : Stage) (service : Service) (calls : List Called) (slice : Slice) (old new : Made) (Replies : List Called → Type 0)
     (busy : IsBusy e (doing st.seed st.time) may at st)
-    → Sliced e (doing st.seed st.time) may (length st.batches) (behind_batch (doing st.seed st.time) (length st.batches)) to st.units busy.base (st.units + slice.units) busy.ahead service calls slice old new Busy Replies
+    → Sliced Roomed e (doing st.seed st.time) may (length st.batches) (behind_batch (doing st.seed st.time) (length st.batches)) to st.units busy.base (st.units + slice.units) busy.ahead service calls slice old new Busy Replies
     → next_number at.place at.begun ≤ next_number to.place to.begun
     → Resumed (meaning_of doing) st service calls slice old new Busy (IsAt e doing may to) Replies
 resumed_busy e doing may at to st service calls slice old new Replies busy sliced up =
@@ -276,9 +277,9 @@ list_last xs ys z zs =
 behind_last : (b n u : ℕ) (ps : List Part) (item cost : ℕ) (how : Option Ending) → AreBehind b n u ps → item < n → cost ≤ u → AreBehind b n u (ps ++ part_of b item cost (finishes how) ∷ [])
 behind_last b n u ps item cost how h less le = behind_append b n u ps (part_of b item cost (finishes how) ∷ []) h (inr (refl, less, le), tt)
 
-pub resumed_done : {M A S : Type 0} (e : Evaluation M S) (doing : ℕ → ℕ → Doing A S) (may : S → Bool) (at to : Spot M A S) (st : Stage) (service : Service) (calls : List Called) (slice : Slice) (old new : Made) (Replies : List Called → Type 0)
+pub resumed_done : {M A S Roomed : Type 0} (e : Evaluation M S) (doing : ℕ → ℕ → Doing A S) (may : S → Bool) (at to : Spot M A S) (st : Stage) (service : Service) (calls : List Called) (slice : Slice) (old new : Made) (Replies : List Called → Type 0)
     (busy : IsBusy e (doing st.seed st.time) may at st)
-    → Sliced e (doing st.seed st.time) may (length st.batches) (behind_batch (doing st.seed st.time) (length st.batches)) to st.units busy.base (st.units + slice.units) busy.ahead service calls slice old new (Finished None) Replies
+    → Sliced Roomed e (doing st.seed st.time) may (length st.batches) (behind_batch (doing st.seed st.time) (length st.batches)) to st.units busy.base (st.units + slice.units) busy.ahead service calls slice old new (Finished None) Replies
     → Resumed (meaning_of doing) st service calls slice old new (Finished None) (IsAt e doing may to) Replies
 unfolding HeadsBatch
 resumed_done e doing may at to st service calls slice old new Replies busy sliced =
@@ -419,13 +420,13 @@ split : (b n base from : ℕ) (xs : List Part) → StartsItem b n base xs → Co
 split b n base from [] starts above = absurd starts
 split b n base from (p ∷ rest) starts above = (p, rest, refl, starts.0, starts.1, starts.2, above)
 
-pub resumed_lacks : {M A S : Type 0} (e : Evaluation M S) (doing : ℕ → ℕ → Doing A S) (may : S → Bool) (at to : Spot M A S) (st : Stage) (service : Service) (calls : List Called) (slice : Slice) (old new : Made) (Replies : List Called → Type 0)
+pub resumed_lacks : {M A S Roomed : Type 0} (e : Evaluation M S) (doing : ℕ → ℕ → Doing A S) (may : S → Bool) (at to : Spot M A S) (st : Stage) (service : Service) (calls : List Called) (slice : Slice) (old new : Made) (Replies : List Called → Type 0)
     (how : Ending) (busy : IsBusy e (doing st.seed st.time) may at st) (qs : List Part) (gs : List Given)
-    (comes : LacksSo (length st.batches) st.units busy.base (st.units + slice.units) busy.ahead qs gs how) → AreServed service calls slice old new Replies qs gs
-    → 1 ≤ slice.units → next_number at.place at.begun ≤ comes.number
+    (comes : LacksSo Roomed (length st.batches) st.units busy.base (st.units + slice.units) busy.ahead qs gs how) → AreServed service calls slice old new Replies qs gs
+    → 1 ≤ slice.units → next_number at.place at.begun ≤ comes.number → Roomed
     → Resumed (meaning_of doing) st service calls slice old new (Finished (Some how)) (IsAt e doing may to) Replies
 unfolding HeadsBatch
-resumed_lacks e doing may at to st service calls slice old new Replies how busy qs gs comes was some up =
+resumed_lacks e doing may at to st service calls slice old new Replies how busy qs gs comes was some up roomed =
     let d : Doing _ _ = doing st.seed st.time in
     let b : ℕ = length st.batches in
     let limit : ℕ = st.units + slice.units in
@@ -481,6 +482,7 @@ resumed_lacks e doing may at to st service calls slice old new Replies how busy 
             comes = ap (λ xs. parts.behind l xs) whole ∙ behind_all l comes.number limit front head.0 head.1 (omega arith) behind head.3 head.4;
             batch = head.3;
             item = head.4;
+            call = subst HeadsCall head.2 (comes.call roomed [] []);
             lives = ap (λ xs. has_ended xs) before ∙ lives;
             above = lack-above;
             within = omega (arith, head.5, head.6);
@@ -555,26 +557,26 @@ up_of start n b from s xs (q ∷ qs) rest is head gone h =
 
 -- A SLICE
 
-ended_so : {M A S : Type 0} (e : Evaluation M S) (doing : ℕ → ℕ → Doing A S) (may : S → Bool) (at to : Spot M A S) (st : Stage) (service : Service) (calls : List Called) (slice : Slice) (old new : Made) (Replies : List Called → Type 0)
+ended_so : {M A S Roomed : Type 0} (e : Evaluation M S) (doing : ℕ → ℕ → Doing A S) (may : S → Bool) (at to : Spot M A S) (st : Stage) (service : Service) (calls : List Called) (slice : Slice) (old new : Made) (Replies : List Called → Type 0)
     (how : Ending) (busy : IsBusy e (doing st.seed st.time) may at st) (qs : List Part) (gs : List Given)
-    → EndsSo (length st.batches) st.units busy.base (st.units + slice.units) busy.ahead qs gs how ⊎ LacksSo (length st.batches) st.units busy.base (st.units + slice.units) busy.ahead qs gs how
-    → AreServed service calls slice old new Replies qs gs → 1 ≤ slice.units
+    → EndsSo (length st.batches) st.units busy.base (st.units + slice.units) busy.ahead qs gs how ⊎ LacksSo Roomed (length st.batches) st.units busy.base (st.units + slice.units) busy.ahead qs gs how
+    → AreServed service calls slice old new Replies qs gs → 1 ≤ slice.units → Roomed
     → Resumed (meaning_of doing) st service calls slice old new (Finished (Some how)) (IsAt e doing may to) Replies
-ended_so e doing may at to st service calls slice old new Replies how busy qs gs (inl ends) was some = resumed_ends e doing may at to st service calls slice old new Replies how busy qs gs ends was
-ended_so e doing may at to st service calls slice old new Replies how busy qs gs (inr lacks) was some =
+ended_so e doing may at to st service calls slice old new Replies how busy qs gs (inl ends) was some roomed = resumed_ends e doing may at to st service calls slice old new Replies how busy qs gs ends was
+ended_so e doing may at to st service calls slice old new Replies how busy qs gs (inr lacks) was some roomed =
     let d : Doing _ _ = doing st.seed st.time in
     let b : ℕ = length st.batches in
     resumed_lacks e doing may at to st service calls slice old new Replies how busy qs gs lacks was some
     (up_of (next_number at.place at.begun) lacks.number b st.units (st.units + slice.units) (busy.ahead [] (gs ++ [])) qs (lacks.later [] []) (lacks.gone.goes [] [])
     (left_has e d may b (behind_batch d b) at at.place busy.base st.units busy.ahead busy.stands.keeps.counts busy.stands.keeps.shapes busy.stands.left [] (gs ++ []))
-    lacks.gone.gone (starts_head b lacks.number lacks.new_base (lacks.later [] []) (lacks.starts [] [])))
+    lacks.gone.gone (starts_head b lacks.number lacks.new_base (lacks.later [] []) (lacks.starts [] []))) roomed
 
-pub resumed : {M A S : Type 0} (e : Evaluation M S) (doing : ℕ → ℕ → Doing A S) (may : S → Bool) (at to : Spot M A S) (st : Stage) (service : Service) (calls : List Called) (slice : Slice) (old new : Made) (progress : Progress) (Replies : List Called → Type 0)
+pub resumed : {M A S Roomed : Type 0} (e : Evaluation M S) (doing : ℕ → ℕ → Doing A S) (may : S → Bool) (at to : Spot M A S) (st : Stage) (service : Service) (calls : List Called) (slice : Slice) (old new : Made) (progress : Progress) (Replies : List Called → Type 0)
     (busy : IsBusy e (doing st.seed st.time) may at st)
-    → Sliced e (doing st.seed st.time) may (length st.batches) (behind_batch (doing st.seed st.time) (length st.batches)) to st.units busy.base (st.units + slice.units) busy.ahead service calls slice old new progress Replies
-    → 1 ≤ slice.units
+    → Sliced Roomed e (doing st.seed st.time) may (length st.batches) (behind_batch (doing st.seed st.time) (length st.batches)) to st.units busy.base (st.units + slice.units) busy.ahead service calls slice old new progress Replies
+    → 1 ≤ slice.units → Roomed
     → Resumed (meaning_of doing) st service calls slice old new progress (IsAt e doing may to) Replies
-resumed e doing may at to st service calls slice old new Busy Replies busy sliced some =
+resumed e doing may at to st service calls slice old new Busy Replies busy sliced some roomed =
     let d : Doing _ _ = doing st.seed st.time in
     let b : ℕ = length st.batches in
     let comes : BusySo _ _ _ _ _ _ _ _ _ _ _ _ = sliced.comes in
@@ -583,6 +585,6 @@ resumed e doing may at to st service calls slice old new Busy Replies busy slice
     (left_has e d may b (behind_batch d b) at at.place busy.base st.units busy.ahead busy.stands.keeps.counts busy.stands.keeps.shapes busy.stands.left [] (sliced.gs ++ []))
     comes.gone.gone
     (left_has e d may b (behind_batch d b) to to.place comes.new_base (st.units + slice.units) comes.later comes.stands.keeps.counts comes.stands.keeps.shapes comes.stands.left [] []))
-resumed e doing may at to st service calls slice old new (Finished None) Replies busy sliced some = resumed_done e doing may at to st service calls slice old new Replies busy sliced
-resumed e doing may at to st service calls slice old new (Finished (Some how)) Replies busy sliced some =
-    ended_so e doing may at to st service calls slice old new Replies how busy sliced.ps sliced.gs sliced.comes sliced.served some
+resumed e doing may at to st service calls slice old new (Finished None) Replies busy sliced some roomed = resumed_done e doing may at to st service calls slice old new Replies busy sliced
+resumed e doing may at to st service calls slice old new (Finished (Some how)) Replies busy sliced some roomed =
+    ended_so e doing may at to st service calls slice old new Replies how busy sliced.ps sliced.gs sliced.comes sliced.served some roomed

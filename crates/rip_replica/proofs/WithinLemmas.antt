@@ -12,15 +12,16 @@ use Rattle.rip_runner.specs.Going as runner
 use Rattle.rip_runner.specs.declared.runner.Rested.TheVariants as rested
 use Rattle.rip_runner.specs.Laws.{StandsAt}
 use Rattle.rip_runner.specs.Play.{Played, Closes, play}
-use Rattle.rip_course.specs.Parts.{Fact, passes, serves, finishes, Part, Given}
+use Rattle.rip_course.specs.Parts.{Fact, passes, serves, finishes, Part, Given, tells_call}
 use Rattle.rip_replica.specs.declared.replica.Place.{Place}
 use Rattle.rip_replica.specs.declared.replica.Place.TheVariants.{Between, Within, Idle}
 use Rattle.rip_replica.specs.declared.replica.Turn.TheVariants.{On, Busy, Calls, Ends, Lacks}
 use Rattle.rip_replica.specs.Parts.{Doing, first_given, given_behind, is_fine, items_parts, part_of, whole_item}
 use Rattle.rip_replica.specs.Plays.{CountsUnits, IsItemPlan}
+use Rattle.rip_replica.specs.Rooms.{HeadsCall}
 use Rattle.rip_replica.specs.Standing.{Ahead, Behind, CostsMore, IsCut, IsWithin, Keeps, Left, Spot, Stands, StartsItem, Turns, Waits, item_play, place_behind, plan_of, turn_behind}
 use Rattle.rip_replica.proofs.PlayLemmas.{AtMost, play_at_most}
-use Rattle.rip_replica.proofs.ItemLemmas.{IsWaiting, cut, fine_passes, finished, item_closes, waiting}
+use Rattle.rip_replica.proofs.ItemLemmas.{IsWaiting, cut, fine_passes, finished, item_closes, mismatch_serves, waiting}
 use Rattle.rip_replica.proofs.TurnLemmas.{after_ended, after_fine, after_starts, cut_costs, drop_more, items_cost, stands_from}
 
 -- the same batch with another runner, place, world and page
@@ -181,6 +182,14 @@ waits_by e d may batch next at n u from base spent ahead r x t left (serves numb
     (λ c y z. items_parts d batch at.all (at.begun + 1) c (drop at.begun at.all) (given_behind (d.fact left.item) (g ∷ gs)) y z (next bs))
     [] d.full d.full (base + 1) x (d.serve batch g t) (h.3 (d.serve batch g)) counted
     ∙ ap (λ f. part_of batch at.begun (base + 1) f ∷ items_parts d batch at.all (at.begun + 1) (base + 1) (drop at.begun at.all) (given_behind f (g ∷ gs)) x (d.serve batch g t) (next bs)) fact) in
+    let told : (bs : List Contents) (gs : List Given) → ahead bs gs ≡ part_of batch at.begun (base + 1) (d.fact left.item)
+    ∷ items_parts d batch at.all (at.begun + 1) (base + 1) (drop at.begun at.all) (given_behind (d.fact left.item) gs) x (d.serve batch (first_given gs) t) (next bs) =
+    λ bs gs.
+    (let counted : base + 1 + (d.full - d.full) ≡ base + 1 = omega arith in
+    left.parts bs gs
+    ∙ after_fine d batch at.all at.begun base left.item (whole_item d batch left.item at.begun left.world left.page (first_given gs))
+    (λ c y z. items_parts d batch at.all (at.begun + 1) c (drop at.begun at.all) (given_behind (d.fact left.item) gs) y z (next bs))
+    [] d.full d.full (base + 1) x (d.serve batch (first_given gs) t) (h.3 (d.serve batch (first_given gs))) counted) in
     let C : List Part → Type 0 = λ ps. CostsMore from ps in
     let above : from < base + 1 = subst C (goes [] (first_given []) []) (stands.more [] (first_given [] ∷ [])) in
     record {
@@ -201,6 +210,7 @@ waits_by e d may batch next at n u from base spent ahead r x t left (serves numb
           subst T (sym (left.parts bs gs))
           (after_starts d batch at.all at.begun base left.item (whole_item d batch left.item at.begun left.world left.page (first_given gs)) _
           (item_closes d.run d.full may stands.keeps.counts (d.fact left.item) plan (d.serve batch (first_given gs)) (stands.keeps.shapes left.item at.begun left.world left.page))));
+      tells = λ bs gs. subst HeadsCall (sym (told bs gs)) (ap tells_call fact);
     }
 waits_by e d may batch next at n u from base spent ahead r x t left (finishes how) kept stands fact h = absurd h
 
@@ -297,6 +307,7 @@ within_ended e d may batch next at n u from base spent ahead r x t close place i
           ∙ after_ended d batch at.all at.begun base left.item (whole_item d batch left.item at.begun left.world left.page (first_given gs))
           (λ k y z. items_parts d batch at.all (at.begun + 1) k (drop at.begun at.all) (given_behind (d.fact left.item) gs) y z (next bs))
           close (change ∷ []) r.fuel whole.0 c x t whole.1 ends (ap (λ m. base + 1 + m) whole.2)),
+      λ mismatch. (left.item, left.is, mismatch_serves d.run d.full may (d.fact left.item) plan [] [] d.full r.fuel (left.units + (n + 0)) (u + 0) x t close shape (over [] 0) mismatch),
     )
 
 pub within_lacks : {M A S : Type 0} (e : Evaluation M S) (d : Doing A S) (may : S → Bool) (batch : ℕ) (next : Behind S) (at : Spot M A S) (n from base spent : ℕ) (ahead : Ahead)

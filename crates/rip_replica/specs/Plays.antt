@@ -43,7 +43,8 @@ IsCallPlan may (Takes w s plan) = ⊥
 IsCallPlan may (Awaits w s go) = (may s ≡ true) × ((r : _) → go r ≡ Over Fine w r)
 IsCallPlan may (Runs item start w s go) = ⊥
 
--- an item that comes to this has such a plan: only a call waits, and no item takes a unit but for its fuel
+-- an item that comes to this has such a plan: only a call waits or ends with a mismatch, and no item takes a unit but for its
+-- fuel
 abbrev pub IsItemPlan : {S : Type 0} → (S → Bool) → Fact → Plan S → Type 0
 IsItemPlan may passes plan = IsPlain plan
 IsItemPlan may (serves number name args) plan = IsCallPlan may plan

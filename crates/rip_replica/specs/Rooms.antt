@@ -1,16 +1,21 @@
--- A session with rooms for its items wants memory only where a call is to be served, or an item reports another call than
--- the script made.
-use Rattle.std.specs.Prelude.{◌≡◌, None, Some}
+-- A session with rooms for its items wants memory only at an item that reports a call.
+use Rattle.std.specs.Prelude.{◌≡◌, ℕ, ◌-◌, true, List, [], ◌∷◌, Option, None, Some, slice_get}
+use Rattle.rip_heap.specs.World.{World}
 use Rattle.rip_wire.specs.declared.ending.Ending.{Ending}
 use Rattle.rip_wire.specs.declared.ending.Ending.TheVariants as ending
 use Rattle.rip_runs.specs.declared.close.Close.{Close}
 use Rattle.rip_runs.specs.declared.close.Close.TheVariants.{Fine, Refused, Mismatch, Stopped}
-use Rattle.rip_runs.specs.declared.step.Phase.{Phase}
-use Rattle.rip_runs.specs.declared.step.Phase.TheVariants.{Asking, Taking, Awaiting, Running, Over}
+use Rattle.rip_runs.specs.Evaluation.{Evaluation}
+use Rattle.rip_runs.specs.Plan.{Plan}
+use Rattle.rip_runner.specs.declared.runner.Runner.{Runner}
+use Rattle.rip_runner.specs.Rooms.{HasRooms}
+use Rattle.rip_course.specs.Parts.{Fact, Given, Part, serves_call, tells_call}
 use Rattle.rip_course.specs.declared.sessions.Progress.{Progress}
 use Rattle.rip_course.specs.declared.sessions.Progress.TheVariants as progress
+use Rattle.rip_replica.specs.declared.item.AtItem.{AtItem}
 use Rattle.rip_replica.specs.declared.replica.Turn.{Turn}
 use Rattle.rip_replica.specs.declared.replica.Turn.TheVariants.{On, Busy, Calls, Done, Ends, Lacks}
+use Rattle.rip_replica.specs.Numbers.{KeepsServed, KeepsSteps}
 
 -- no memory is wanting in a turn
 abbrev pub HasNoLack : Turn → Type 0
@@ -20,15 +25,6 @@ HasNoLack (Calls u) = Unit {0}
 HasNoLack Done = Unit {0}
 HasNoLack (Ends close) = Unit {0}
 HasNoLack Lacks = ⊥
-
--- where a call is to be served the item waits, and where an item ends the session it has closed so
-abbrev pub StandsAt : Turn → Phase → Type 0
-StandsAt (On u) phase = Unit {0}
-StandsAt Busy phase = Unit {0}
-StandsAt (Calls u) phase = phase ≡ Awaiting
-StandsAt Done phase = Unit {0}
-StandsAt (Ends close) phase = phase ≡ Over close
-StandsAt Lacks phase = Unit {0}
 
 -- the item reports another call than the one that the script made, or none was made
 abbrev pub IsMismatch : Close → Type 0
@@ -46,13 +42,23 @@ IsNoLack (ending.Fault item fault) = Unit {0}
 IsNoLack (ending.Memory item) = ⊥
 IsNoLack ending.Closed = Unit {0}
 
--- the item waits for its call to be served, or has closed with another call than the one that the script made
-abbrev pub IsAtCall : Phase → Type 0
-IsAtCall Asking = ⊥
-IsAtCall Taking = ⊥
-IsAtCall Awaiting = Unit {0}
-IsAtCall (Running item) = ⊥
-IsAtCall (Over close) = IsMismatch close
+-- a session has the rooms of its runner; the host never wants memory, where `May` says that it may; and what its items need is
+-- changed by no run, no step of an item and no call that is served
+pub record IsRoomed {M I A S : Type 0} (e : Evaluation M S) (has_room : M → ℕ → Type 0) (room : I → ℕ) (need : S → ℕ)
+    (under_way : I → A → ℕ → World → S → Plan S) (serve : ℕ → Given → S → S) (May : Type 0) (r : Runner M (AtItem I A)) (s : S) : Type 0 where
+  pub steps : KeepsSteps e under_way need
+  pub served : KeepsServed serve need
+  pub never : May → ⊥
+  pub rooms : HasRooms e has_room (λ (p : AtItem I A). room p.items) need r s
+
+-- the item of this number, counted from 1, is there and reports a call
+abbrev pub IsCallAt : {A : Type 0} → (A → Fact) → List A → ℕ → Type 0
+IsCallAt fact items number = (a : _) × (slice_get items (number - 1) ≡ Some a) × (serves_call (fact a) ≡ true)
+
+-- the next part is that of an item which reports a call
+abbrev pub HeadsCall : List Part → Type 0
+HeadsCall [] = ⊥
+HeadsCall (p ∷ ps) = tells_call p.fact ≡ true
 
 -- this holds where the session lives
 abbrev pub IfLives : Progress → Type 0 → Type 0

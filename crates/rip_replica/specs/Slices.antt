@@ -15,6 +15,7 @@ use Rattle.rip_course.specs.declared.sessions.Progress.{Progress}
 use Rattle.rip_course.specs.declared.sessions.Progress.TheVariants.{Busy, Finished}
 use Rattle.rip_course.specs.declared.sessions.Slice.{Slice}
 use Rattle.rip_replica.specs.Parts.{Doing, part_of}
+use Rattle.rip_replica.specs.Rooms.{HeadsCall}
 use Rattle.rip_replica.specs.Standing.{Ahead, AreGone, Behind, CostsMore, IsCut, Keeps, Spot, Stands, StartsItem, next_number}
 
 -- the served calls of these parts, each with what it was given, are told in entries and answers, and the service replies as
@@ -42,8 +43,9 @@ pub record EndsSo (batch from base limit : ℕ) (ahead : Ahead) (ps : List Part)
   pub new_base : ℕ
   pub gone : HasGone batch number from base limit ahead (λ bs hs. part_of batch item cost (finishes (Some how)) ∷ []) new_base ps gs
 
--- memory is wanting in the item of this number, after the first of its units
-pub record LacksSo (batch from base limit : ℕ) (ahead : Ahead) (ps : List Part) (gs : List Given) (how : Ending) : Type 0 where
+-- memory is wanting in the item of this number, after the first of its units; of a session that has its rooms that item
+-- reports a call
+pub record LacksSo (Roomed : Type 0) (batch from base limit : ℕ) (ahead : Ahead) (ps : List Part) (gs : List Given) (how : Ending) : Type 0 where
   pub number : ℕ
   pub is : how ≡ Memory number
   pub later : Ahead
@@ -51,6 +53,7 @@ pub record LacksSo (batch from base limit : ℕ) (ahead : Ahead) (ps : List Part
   pub taken : new_base < limit
   pub gone : HasGone batch number from base limit ahead later new_base ps gs
   pub starts : (bs : List Contents) (hs : List Given) → StartsItem batch number new_base (later bs hs)
+  pub call : Roomed → (bs : List Contents) (hs : List Given) → HeadsCall (later bs hs)
   pub more : (bs : List Contents) (hs : List Given) → CostsMore from (later bs hs)
 
 -- its batch is done
@@ -75,18 +78,18 @@ pub record BusySo {M A S : Type 0} (e : Evaluation M S) (d : Doing A S) (may : S
   pub cut : IsCut e d batch next at at.place new_base limit later
 
 -- what a slice comes to, for a session that stood at `from` units of its batch and gets units up to a limit
-abbrev pub Comes : {M A S : Type 0} → Evaluation M S → Doing A S → (S → Bool) → ℕ → Behind S → Spot M A S → ℕ → ℕ → ℕ → Ahead → List Part → List Given → Progress → Type 0
-Comes e d may batch next at from base limit ahead ps gs Busy = BusySo e d may batch next at from base limit ahead ps gs
-Comes e d may batch next at from base limit ahead ps gs (Finished None) = DoneSo e d may batch next at from base limit ahead ps gs
-Comes e d may batch next at from base limit ahead ps gs (Finished (Some how)) =
-    EndsSo batch from base limit ahead ps gs how ⊎ LacksSo batch from base limit ahead ps gs how
+abbrev pub Comes : {M A S : Type 0} → Type 0 → Evaluation M S → Doing A S → (S → Bool) → ℕ → Behind S → Spot M A S → ℕ → ℕ → ℕ → Ahead → List Part → List Given → Progress → Type 0
+Comes Roomed e d may batch next at from base limit ahead ps gs Busy = BusySo e d may batch next at from base limit ahead ps gs
+Comes Roomed e d may batch next at from base limit ahead ps gs (Finished None) = DoneSo e d may batch next at from base limit ahead ps gs
+Comes Roomed e d may batch next at from base limit ahead ps gs (Finished (Some how)) =
+    EndsSo batch from base limit ahead ps gs how ⊎ LacksSo Roomed batch from base limit ahead ps gs how
 
 -- what comes of a slice, with what its calls were given and the service replied
-pub record Sliced {M A S : Type 0} (e : Evaluation M S) (d : Doing A S) (may : S → Bool) (batch : ℕ) (next : Behind S) (at : Spot M A S) (from base limit : ℕ) (ahead : Ahead)
+pub record Sliced {M A S : Type 0} (Roomed : Type 0) (e : Evaluation M S) (d : Doing A S) (may : S → Bool) (batch : ℕ) (next : Behind S) (at : Spot M A S) (from base limit : ℕ) (ahead : Ahead)
     (service : Service) (calls : List Called) (slice : Slice) (old new : Made) (progress : Progress) (Replies : List Called → Type 0) : Type 0 where
   pub ps : List Part
   pub gs : List Given
-  pub comes : Comes e d may batch next at from base limit ahead ps gs progress
+  pub comes : Comes Roomed e d may batch next at from base limit ahead ps gs progress
   pub served : AreServed service calls slice old new Replies ps gs
 
 -- these are what an item that is over and fine comes to, the page after a served call, and the ending of a closed item
@@ -96,9 +99,9 @@ pub record Agrees {A S : Type 0} (d : Doing A S) (fact : A → Fact) (serve : �
   pub endings : d.ending ≡ ending
 
 -- a slice, wherever the session stood, whatever the service is and was called for before
-abbrev pub SlicedSo : {M A S : Type 0} → Evaluation M S → (A → Fact) → (ℕ → Given → S → S) → (List A → Close → S → Ending) → (S → Bool) → ℕ → Spot M A S → Spot M A S → ℕ → Slice → Made → Made → Progress
+abbrev pub SlicedSo : {M A S : Type 0} → Type 0 → Evaluation M S → (A → Fact) → (ℕ → Given → S → S) → (List A → Close → S → Ending) → (S → Bool) → ℕ → Spot M A S → Spot M A S → ℕ → Slice → Made → Made → Progress
     → (Service → List Called → Type 0) → (Service → List Called → Type 0) → Type 0
-SlicedSo e fact serve ending may batch old new units slice old-made new-made progress Before Replies =
+SlicedSo Roomed e fact serve ending may batch old new units slice old-made new-made progress Before Replies =
     (d : Doing _ _) (next : Behind _) (from base : ℕ) (ahead : Ahead) (service : Service) (calls : List Called)
     → Agrees d fact serve ending → Stands e d may batch next old from base from ahead → Before service calls
-    → Sliced e d may batch next new from base (from + units) ahead service calls slice old-made new-made progress (Replies service)
+    → Sliced Roomed e d may batch next new from base (from + units) ahead service calls slice old-made new-made progress (Replies service)

@@ -20,6 +20,7 @@ use Rattle.rip_replica.specs.declared.replica.Turn.{Turn}
 use Rattle.rip_replica.specs.declared.replica.Turn.TheVariants.{On, Busy, Calls, Done, Ends, Lacks}
 use Rattle.rip_replica.specs.Parts.{Doing, part_of, batch_parts, items_parts}
 use Rattle.rip_replica.specs.Plays.{CountsUnits, IsItemPlan}
+use Rattle.rip_replica.specs.Rooms.{HeadsCall, IsCallAt, IsMismatch}
 
 -- what an item means that is under way; where there is none, nothing
 abbrev pub plan_of : {A S : Type 0} → (A → ℕ → World → S → Plan S) → Option A → ℕ → World → S → Plan S
@@ -182,6 +183,7 @@ pub record Waits {M A S : Type 0} (e : Evaluation M S) (d : Doing A S) (may : S 
   pub goes : (bs : List Contents) (g : Given) (gs : List Given) → ahead bs (g ∷ gs) ≡ part_of batch at.begun (base + 1) (serves number name args)
       ∷ items_parts d batch at.all (at.begun + 1) (base + 1) (drop at.begun at.all) gs at.world (d.serve batch g at.page) (next bs)
   pub starts : (bs : List Contents) (gs : List Given) → StartsItem batch at.begun base (ahead bs gs)
+  pub tells : (bs : List Contents) (gs : List Given) → HeadsCall (ahead bs gs)
 
 -- where a session stands behind an item that closed so, and what the turn comes to
 abbrev pub place_behind : Close → Place
@@ -197,7 +199,8 @@ turn_behind (Mismatch item) u = Ends (Mismatch item)
 turn_behind (Stopped item stop) u = Ends (Stopped item stop)
 
 -- what a turn comes to, where n units are there: the session goes on; or no unit is left and one is wanted; or a call
--- waits; or the batch is done; or it is closed by an item, which ends the session; or memory is wanting in an item
+-- waits; or the batch is done; or it is closed by an item, which ends the session, and with a mismatch only where it reports
+-- a call; or memory is wanting in an item
 abbrev pub Turns : {M A S : Type 0} → Evaluation M S → Doing A S → (S → Bool) → ℕ → Behind S → Spot M A S → ℕ → ℕ → ℕ → ℕ → Ahead → Turn → Type 0
 Turns e d may batch next at from base spent n ahead (On u) = Further e d may batch next at from base spent n u ahead
 Turns e d may batch next at from base spent n ahead Busy =
@@ -207,6 +210,7 @@ Turns e d may batch next at from base spent n ahead Done =
     (number : ℕ) × (base ≤ spent + n) × Keeps e d may batch at × ((bs : List Contents) (gs : List Given) → ahead bs gs ≡ part_of batch number base (finishes None) ∷ next bs gs at.world at.page)
 Turns e d may batch next at from base spent n ahead (Ends close) =
     (cost : ℕ) × (cost ≤ spent + n) × (base < cost) × ((bs : List Contents) (gs : List Given) → ahead bs gs ≡ part_of batch at.begun cost (finishes (Some (d.ending at.all close at.page))) ∷ [])
+    × (IsMismatch close → IsCallAt d.fact at.all at.begun)
 Turns e d may batch next at from base spent n ahead Lacks = (base < spent) × ((bs : List Contents) (gs : List Given) → StartsItem batch at.begun base (ahead bs gs))
 
 -- wherever it stood

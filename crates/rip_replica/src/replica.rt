@@ -2,7 +2,7 @@ ghost use Rattle.std.specs.Prelude.{◌≡◌, ◌<◌, ◌≤◌, ℕ, ◌-◌,
 ghost use Rattle.rip_replica.specs.Numbers.{HasNumber, KeepsSteps, StandsIdle};
 ghost use Rattle.rip_heap.specs.Growth.{Grows};
 ghost use Rattle.rip_runner.specs.Rooms.{HasRooms};
-ghost use Rattle.rip_replica.specs.Rooms.{HasNoLack, StandsAt};
+ghost use Rattle.rip_replica.specs.Rooms.{HasNoLack};
 ghost use Rattle.rip_replica.specs.Standing.{IsOnward, TurnsSo, place_behind, spot, turn_behind};
 
 use crate::item::AtItem;
@@ -76,7 +76,6 @@ impl<E, I, T, H> Replica<E, I, T, H> {
             → HasRooms (E.evaluation program.now) E.has_room (λ p. I.room p.items) I.need
             self.new.runner self.new.host × HasNoLack result }
         ensures idle { StandsIdle result self.new.place }
-        ensures phase { StandsAt result self.new.runner.phase }
     {
         match self.place {
             Place::First if n == 0 => Turn::Busy,
@@ -104,7 +103,6 @@ impl<E, I, T, H> Replica<E, I, T, H> {
             (length self.new.runner.planner.batch.items) self.new.place self.new.runner.planner.begun result }
         ensures number { self.new.number ≡ self.old.number }
         ensures idle { StandsIdle result self.new.place }
-        ensures phase { StandsAt result self.new.runner.phase }
         ensures world { (self.new.heap ≡ self.old.heap) × (self.new.host ≡ self.old.host) }
         ensures memory { (program : E.Program)
             → HasRooms (E.evaluation program) E.has_room (λ p. I.room p.items) I.need
@@ -152,7 +150,6 @@ impl<E, I, T, H> Replica<E, I, T, H> {
             → HasRooms (E.evaluation program.now) E.has_room (λ p. I.room p.items) I.need
             self.new.runner self.new.host × HasNoLack result }
         ensures idle { StandsIdle result self.new.place }
-        ensures phase { StandsAt result self.new.runner.phase }
     {
         let rested = self
             .runner

@@ -9,10 +9,10 @@ ghost use Rattle.rip_replica.specs.Serving.{HasArgs, IsCallOf, IsServed, IsUnser
 ghost use Rattle.rip_course.specs.Stages.{Resumed, Stage};
 ghost use Rattle.rip_replica.specs.Numbers.{HasNumberSo, KeepsServed, KeepsSteps, StandsIdleSo};
 ghost use Rattle.rip_replica.specs.Parts.{Doing, meaning_of};
-ghost use Rattle.rip_replica.specs.Rooms.{IfLives, IsAtCall, IsMismatch};
+ghost use Rattle.rip_replica.specs.Rooms.{IfLives, IsCallAt, IsMismatch, IsRoomed};
 ghost use Rattle.rip_replica.specs.Sessions.{IsAt, IsBusy};
 ghost use Rattle.rip_replica.specs.Slices.{Agrees, SlicedSo};
-ghost use Rattle.rip_replica.specs.Standing.{spot};
+ghost use Rattle.rip_replica.specs.Standing.{Ahead, Behind, Stands, spot};
 
 use crate::replica::{Place, Replica, Turn};
 use crate::serving::serve_call;
@@ -51,7 +51,8 @@ impl<E, I, T, H> Replica<E, I, T, H> {
     }
 
     /// Goes on with the batch for the units of a slice. Each call that comes is served within it, with a reply of the
-    /// service. Want of memory in an item ends the session there; where there are rooms for the items, it is at a call.
+    /// service. Want of memory in an item ends the session there; one that has its rooms is ended so only at an item that
+    /// reports a call.
     pub fn resume<V: Service>(
         &mut self,
         alloc: Global,
@@ -71,20 +72,25 @@ impl<E, I, T, H> Replica<E, I, T, H> {
         ensures page { (number : H → ℕ) → KeepsSteps (E.evaluation program.now) I.under_way number
             → KeepsServed I.served number → HasNumberSo result (number self.old.host)
             (number self.new.host) }
-        ensures memory { KeepsSteps (E.evaluation program.now) I.under_way I.need
-            → KeepsServed I.served I.need → (IsTrue H.may_want_memory → ⊥)
-            → HasRooms (E.evaluation program.now) E.has_room (λ p. I.room p.items) I.need
-            self.old.runner self.old.host
+        ensures memory { (doing : ℕ → ℕ → Doing T H) (st : Stage) (meant : Meant)
+            (calls : List Called)
+            → Agrees (doing st.seed st.time) I.fact I.served I.ending → self.old.number
+            ≡ length st.batches
+            → IsBusy (E.evaluation program.now) (doing st.seed st.time) I.may_serve
+            (spot I.item_plan I.under_way self.old) st
+            → V.replies_as service.old meant calls
+            → IsRoomed (E.evaluation program.now) E.has_room I.room I.need I.under_way I.served
+            (IsTrue H.may_want_memory) self.old.runner self.old.host
             → (item : ℕ) → result ≡ Progress.Finished (Some (Ends.Memory item))
-            → IsAtCall self.new.runner.phase }
-        ensures rooms { KeepsSteps (E.evaluation program.now) I.under_way I.need
-            → KeepsServed I.served I.need → (IsTrue H.may_want_memory → ⊥)
-            → HasRooms (E.evaluation program.now) E.has_room (λ p. I.room p.items) I.need
-            self.old.runner self.old.host
+            → IsCallAt I.fact self.new.runner.planner.batch.items item }
+        ensures rooms { IsRoomed (E.evaluation program.now) E.has_room I.room I.need I.under_way
+            I.served (IsTrue H.may_want_memory) self.old.runner self.old.host
             → IfLives result (HasRooms (E.evaluation program.now) E.has_room
             (λ p. I.room p.items) I.need self.new.runner self.new.host) }
         ensures idle { StandsIdleSo result self.new.place }
-        ensures slice { SlicedSo (E.evaluation program.now) I.fact I.served I.ending I.may_serve
+        ensures slice { SlicedSo (IsRoomed (E.evaluation program.now) E.has_room I.room I.need
+            I.under_way I.served (IsTrue H.may_want_memory) self.old.runner self.old.host)
+            (E.evaluation program.now) I.fact I.served I.ending I.may_serve
             self.old.number
             (spot I.item_plan I.under_way self.old) (spot I.item_plan I.under_way self.new)
             slice.now.units slice.now made.old made.new result (V.replies_as service.old) (V.replies_as service.new) }
@@ -95,6 +101,8 @@ impl<E, I, T, H> Replica<E, I, T, H> {
             → IsBusy (E.evaluation program.now) (doing st.seed st.time) I.may_serve
             (spot I.item_plan I.under_way self.old) st
             → 1 ≤ slice.now.units → V.replies_as service.old meant calls
+            → IsRoomed (E.evaluation program.now) E.has_room I.room I.need I.under_way I.served
+            (IsTrue H.may_want_memory) self.old.runner self.old.host
             → Resumed (meaning_of doing) st meant calls slice.now made.old made.new result
             (IsAt (E.evaluation program.now) doing I.may_serve (spot I.item_plan I.under_way self.new))
             (V.replies_as service.new meant) }
@@ -122,20 +130,24 @@ impl<E, I, T, H> Replica<E, I, T, H> {
         ensures page { (number : H → ℕ) → KeepsSteps (E.evaluation program.now) I.under_way number
             → KeepsServed I.served number → HasNumberSo result (number self.old.host)
             (number self.new.host) }
-        ensures memory { KeepsSteps (E.evaluation program.now) I.under_way I.need
-            → KeepsServed I.served I.need → (IsTrue H.may_want_memory → ⊥)
-            → HasRooms (E.evaluation program.now) E.has_room (λ p. I.room p.items) I.need
-            self.old.runner self.old.host
+        ensures memory { (d : Doing T H) (next : Behind H) (from base : ℕ) (ahead : Ahead)
+            (meant : Meant) (calls : List Called)
+            → Agrees d I.fact I.served I.ending
+            → Stands (E.evaluation program.now) d I.may_serve self.old.number next
+            (spot I.item_plan I.under_way self.old) from base from ahead
+            → V.replies_as service.old meant calls
+            → IsRoomed (E.evaluation program.now) E.has_room I.room I.need I.under_way I.served
+            (IsTrue H.may_want_memory) self.old.runner self.old.host
             → (item : ℕ) → result ≡ Progress.Finished (Some (Ends.Memory item))
-            → IsAtCall self.new.runner.phase }
-        ensures rooms { KeepsSteps (E.evaluation program.now) I.under_way I.need
-            → KeepsServed I.served I.need → (IsTrue H.may_want_memory → ⊥)
-            → HasRooms (E.evaluation program.now) E.has_room (λ p. I.room p.items) I.need
-            self.old.runner self.old.host
+            → IsCallAt I.fact self.new.runner.planner.batch.items item }
+        ensures rooms { IsRoomed (E.evaluation program.now) E.has_room I.room I.need I.under_way
+            I.served (IsTrue H.may_want_memory) self.old.runner self.old.host
             → IfLives result (HasRooms (E.evaluation program.now) E.has_room
             (λ p. I.room p.items) I.need self.new.runner self.new.host) }
         ensures idle { StandsIdleSo result self.new.place }
-        ensures slice { SlicedSo (E.evaluation program.now) I.fact I.served I.ending I.may_serve
+        ensures slice { SlicedSo (IsRoomed (E.evaluation program.now) E.has_room I.room I.need
+            I.under_way I.served (IsTrue H.may_want_memory) self.old.runner self.old.host)
+            (E.evaluation program.now) I.fact I.served I.ending I.may_serve
             self.old.number
             (spot I.item_plan I.under_way self.old) (spot I.item_plan I.under_way self.new)
             slice.now.units slice.now made.old made.new result (V.replies_as service.old) (V.replies_as service.new) }

@@ -16,13 +16,14 @@ pub struct Call {
 
 /// What the items of a session's batches do over a page, where T is the type of an item.
 pub trait Works<H: Host, T>: Items<H, T> {
-    ghost use Rattle.std.specs.Prelude.{◌≡◌, ℕ, Bool, true, List, IfOk, OnErr};
+    ghost use Rattle.std.specs.Prelude.{◌≡◌, ℕ, Bool, true, List, Some, IfOk, OnErr};
     ghost use Rattle.rip_data.specs.Datum.{tree_of};
     ghost use Rattle.rip_heap.specs.World.{World};
     ghost use Rattle.rip_runs.specs.Plan.{Plan};
     ghost use Rattle.rip_wire.specs.declared.ending.Ending.{Ending as Ends};
     ghost use Rattle.rip_runs.specs.declared.close.Close.{Close as Closed};
-    ghost use Rattle.rip_course.specs.Parts.{Fact, Given};
+    ghost use Rattle.rip_runs.specs.declared.close.Close.TheVariants.{Mismatch};
+    ghost use Rattle.rip_course.specs.Parts.{Fact, Given, ends_at_mismatch};
     ghost use Rattle.rip_replica.specs.Plays.{IsItemPlan};
     ghost use Rattle.rip_replica.specs.Rooms.{IsMismatch, IsNoLack};
     ghost use Rattle.rip_replica.specs.Serving.{HasArgs, IsCallOf};
@@ -69,7 +70,11 @@ pub trait Works<H: Host, T>: Items<H, T> {
         ensures told { IfOk result IsNoLack }
         ensures memory { OnErr result (IsMismatch close) };
 
-    // A call alone waits, and no item takes a unit but for its fuel.
+    // A mismatch is told as one.
+    ghost differs: { (batch : List T) (item : ℕ) (s : H)
+        → ends_at_mismatch (Some (ending batch (Mismatch item) s)) ≡ true };
+
+    // A call alone waits or ends with a mismatch, and no item takes a unit but for its fuel.
     ghost shapes: { (batch : ℕ) (item : T) (n : ℕ) (w : World) (s : H)
         → IsItemPlan may_serve (fact item) (plans batch item n w s) };
 }

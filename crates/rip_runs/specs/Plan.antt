@@ -34,9 +34,16 @@ and_then (Takes w s plan) next = Takes w s (and_then plan next)
 and_then (Awaits w s go) next = Awaits w s (λ r. and_then (go r) next)
 and_then (Runs item start w s go) next = Runs item start w s (λ x r. and_then (go x r) next)
 
--- the plan takes no unit but for fuel, and waits for nothing
+-- no other call was reported than the one that the script made
+abbrev pub IsNoMismatch : Close → Type 0
+IsNoMismatch Fine = Unit {0}
+IsNoMismatch (Refused item kind) = Unit {0}
+IsNoMismatch (Mismatch item) = ⊥
+IsNoMismatch (Stopped item stop) = Unit {0}
+
+-- the plan takes no unit but for fuel, waits for nothing, and ends with no mismatch
 abbrev pub IsPlain : {S : Type 0} → Plan S → Type 0
-IsPlain (Over close w s) = Unit {0}
+IsPlain (Over close w s) = IsNoMismatch close
 IsPlain (Takes w s plan) = ⊥
 IsPlain (Awaits w s go) = ⊥
 IsPlain (Runs item start w s go) = (x : World) (r : _) → IsPlain (go x r)

@@ -15,7 +15,7 @@ most_values (Enter part) frames units = count_of_values frames + units
 most_values (Give c) frames units = count_of_values frames + units + 1
 most_values (Halted stop room) frames units = count_of_values frames + units + 1
 
--- memory is wanting where the host may want it, or where so many values have less room than this
+-- memory is wanting where the host may want it, or where there is room for fewer values than these
 abbrev pub WantsMemory : Bool → ℕ → ℕ → Type 0
 WantsMemory host room values = IsTrue host ⊎ (room < values)
 

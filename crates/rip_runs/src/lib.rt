@@ -20,12 +20,13 @@
 //! | a part that is done at once, without a cut and without the host | `Done.Done`, by `Done.Comes` of its row |
 //! | what is left of a run that stands | `Rest.rest`, by `Rest.finish` and `Rest.unwind` |
 //! | a run cut after any unit, and its fuel | `Cut.run_of`, `Cut.rest_of` |
-//! | [`Run`] | contracts see `Law.Standing`; what each keeps is `Keeping.IsRun`, with `Nesting.IsInside` and `Room.most_values` |
+//! | [`Run`] | contracts see `Law.Standing`; what each keeps is `Keeping.IsRun`, with `Nesting.IsInside` |
+//! | how many values may yet stand beside its frames | `Room.most_values`, which never rises |
 //! | the values beside a frame and the one that it was given, side by side | `Room.AreTogether` |
 //! | [`Run::begin`], [`Run::resume`], [`Run::depth`] | `Law.Begins`, `Law.Resumes`, `Law.open_depth` |
 //! | what an item or a batch does, as a program that asks for runs | `Plan.Plan`, joined by `Plan.and_then` |
 //! | what a [`Planner`] answers, a [`Step`] of a plan | `Plan.ahead`: the plan is that step, and then what is left |
-//! | a plan that takes no unit but for fuel, and waits for nothing | `Plan.IsPlain` |
+//! | a plan that takes no unit but for fuel, waits for nothing, and ends with no mismatch | `Plan.IsPlain` |
 //! | what plans see of an [`Evaluator`] | `Evaluation.Evaluation`: where its runs stand; `Evaluation.Begins`, `Evaluation.Advances` |
 //! | [`Stack`] | contracts see `Stack.Frames`: the open frames, the outermost first, each with the values beside it |
 //!

@@ -24,7 +24,7 @@ use Rattle.rip_machine.specs.Plans.{HasRoom, evaluation}
 use Rattle.rip_replica.specs.declared.replica.Place.TheVariants.{First}
 use Rattle.rip_replica.specs.declared.replica.Replica.{Replica}
 use Rattle.rip_replica.specs.Numbers.{HasNumberSo, KeepsServed, KeepsSteps, open_of}
-use Rattle.rip_replica.specs.Rooms.{IfLives}
+use Rattle.rip_replica.specs.Rooms.{IfLives, IsRoomed}
 use Rattle.rip_replica.specs.Standing.{spot}
 use Rattle.rip_work.specs.declared.items.PageItems.{PageItems}
 use Rattle.rip_app.specs.App.{Loaded}
@@ -150,6 +150,19 @@ pub undone-lives : (app : Loaded) (st : Stage) (r : Replica Standing PageItems T
 undone-lives app st r at undone =
     let busy = not_done_busy (runs_of app) (doing_of app) may_serve (spot (λ (items : PageItems). work_plan items.batches.batch) left_of_work r) st at.stage.stands undone in
     busy_lives (runs_of app) (doing_of app) may_serve (spot (λ (items : PageItems). work_plan items.batches.batch) left_of_work r) st busy
+
+-- it has its rooms, over the program of the application
+pub roomed_at : {May : Type 0} (app : Loaded) (code : Code) (st : Stage) (r : Replica Standing PageItems Task Browser) → code ≡ app.program → StandsAt app r st
+    → is_done (meaning_of_app app) st ≡ false → (May → ⊥)
+    → IsRoomed (evaluation answers code) HasRoom room_of (λ (s : Browser). s.dom.limit) left_of_work served May r.runner r.host
+roomed_at app code st r e at undone never =
+    let R : Code → Type 0 = λ c. HasRoomsIn (evaluation answers c) r in
+    record {
+      steps = steps_stay of_nodes code;
+      served = served-stays of_nodes;
+      never = never;
+      rooms = subst R (sym e) (at.rooms (undone-lives app st r at undone));
+    }
 
 -- the page of one that goes on
 page-on : (app : Loaded) (code : Code) (st : Stage) (progress : Progress) (r s : Replica Standing PageItems Task Browser) → code ≡ app.program → StandsAt app r st → is_done (meaning_of_app app) st ≡ false

@@ -4,10 +4,11 @@ ghost use Rattle.rip_calls.specs.Calls.{used};
 ghost use Rattle.rip_host.specs.Replies.{most_replies};
 ghost use Rattle.rip_wire.specs.declared.ending.Ending.{Ending as Ends};
 ghost use Rattle.rip_course.specs.Services.{Called, Service as Meant};
-ghost use Rattle.rip_course.specs.Stages.{Resumed, Stage, is_done, is_ended};
-ghost use Rattle.rip_replica.specs.Rooms.{IsAtCall};
+ghost use Rattle.rip_course.specs.Stages.{Resumed, Stage, is_done};
+ghost use Rattle.rip_replica.specs.Rooms.{IsCallAt};
 ghost use Rattle.rip_session.specs.Application.{StandsAt, meaning_of_app};
 ghost use Rattle.rip_session.specs.Kept.{GoesWith};
+ghost use Rattle.rip_work.specs.Tasks.{fact_of};
 
 use crate::opening::{Opened, open};
 use rip_app::App;
@@ -100,8 +101,8 @@ impl<'a> Sessions for Application<'a> {
     }
 }
 
-/// Goes on with a session of an application whose batch is not done. It is ended for want of memory only where a call waits
-/// to be served, or where an item reports another call than the one that was made.
+/// Goes on with a session of an application whose batch is not done. It is ended for want of memory only at an item that
+/// reports a call: at no event, no reply and not at its opening.
 pub fn resume_session<V: Service>(
     session: &mut Session,
     alloc: Global,
@@ -110,10 +111,11 @@ pub fn resume_session<V: Service>(
     slice: &Slice,
     made: &mut Made,
 ) -> Progress
-    ensures memory { (st : Stage) → StandsAt app.now session.old.replica st
-        → is_ended (meaning_of_app app.now) st ≡ false
+    ensures memory { (st : Stage) (replies : Meant) (calls : List Called)
+        → StandsAt app.now session.old.replica st → is_done (meaning_of_app app.now) st ≡ false
+        → V.replies_as service.old replies calls
         → (item : ℕ) → result ≡ Progress.Finished (Some (Ends.Memory item))
-        → IsAtCall session.new.replica.runner.phase }
+        → IsCallAt fact_of session.new.replica.runner.planner.batch.items item }
     ensures resumed { (st : Stage) (replies : Meant) (calls : List Called)
         → StandsAt app.now session.old.replica st → is_done (meaning_of_app app.now) st ≡ false
         → V.replies_as service.old replies calls

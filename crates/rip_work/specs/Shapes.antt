@@ -1,4 +1,5 @@
--- The plans of items have the shapes of what the items come to: a call alone waits, and no other takes a unit but for fuel.
+-- The plans of items have the shapes of what the items come to: a call alone waits or ends with a mismatch, and no other takes a
+-- unit but for fuel.
 use Rattle.std.proofs.Common.{◌≡◌, ℕ, zero, suc, ◌+◌, ◌-◌, ◌<◌, ◌≤◌, ◌^◌, Bool, true, false, not, ◌&&◌, ◌||◌, ◌==◌, List, [], ◌∷◌, Option, None, Some, drop, length, refl, sym, ap, subst}
 use Rattle.std.specs.Prelude.{is_none, is_some, min, nat_le, nat_lt, option_map, slice_get, if◌then◌else◌}
 use Rattle.std.proofs.Math.Nat.{min-le_right, suc-le-suc_iff, zero-lt-suc}
@@ -9,6 +10,7 @@ use Rattle.rip_values.specs.declared.value.Span.{Span}
 use Rattle.rip_heap.specs.World.{World}
 use Rattle.rip_events.specs.declared.station.Station.{Station}
 use Rattle.rip_calls.specs.Calls.{MadeCall, front_callback, front_text, number_at}
+use Rattle.rip_runs.specs.declared.close.Close.TheVariants.{Mismatch}
 use Rattle.rip_runs.specs.Plan.{IsPlain, Plan}
 use Rattle.rip_items.specs.declared.page_host.Position.{Position}
 use Rattle.rip_items.specs.declared.page_host.Position.TheVariants as position
@@ -29,6 +31,8 @@ use Rattle.rip_replica.specs.Parts.{is_fine}
 use Rattle.rip_replica.specs.Plays.{IsCallPlan, IsItemPlan}
 use Rattle.rip_wire.specs.Calls.{call_text}
 use Rattle.rip_wire.specs.Items.{event, call, reply}
+use Rattle.rip_course.specs.Parts.{ends_at_mismatch}
+use Rattle.rip_work.specs.Endings.{ending_of}
 use Rattle.rip_work.specs.Plans.{work_plan}
 use Rattle.rip_work.specs.Serving.{may_serve}
 use Rattle.rip_work.specs.Tasks.{Task, opens, reports, fact_of}
@@ -99,6 +103,12 @@ load-plain (Some body) item next h w s = flow-plain item _ body (λ object. next
 opening-plain : (start : Start) (item : ℕ) (w : World) (s : Browser) → IsPlain (opening_plan start item w s)
 opening-plain (Passes limit) item w s = tt
 opening-plain (Loads count) item w s = scripts-plain item count 1 (loading item fine) (λ y t. load-plain t.body item fine fine-plain y t) w s
+
+-- ENDINGS
+
+-- a mismatch is told as one
+pub mismatches_are_told : (tasks : List Task) (item : ℕ) (s : Browser) → ends_at_mismatch (Some (ending_of tasks (Mismatch item) s)) ≡ true
+mismatches_are_told tasks item s = refl
 
 -- CALLS
 

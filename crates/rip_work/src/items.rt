@@ -91,7 +91,9 @@ impl Works<Browser, Work> for PageItems {
 
     ghost ending = { ending_of };
 
-    ghost use Rattle.rip_work.specs.Shapes.{shapes};
+    ghost use Rattle.rip_work.specs.Shapes.{mismatches_are_told, shapes};
+
+    ghost differs = { mismatches_are_told };
 
     ghost shapes = { shapes };
 

@@ -2,14 +2,16 @@ use Rattle.std.proofs.Common.{rules, ◌≡◌, ℕ, ◌+◌, List, ◌++◌, So
 use Rattle.rip_heap.specs.Growth.{Grows}
 use Rattle.rip_heap.specs.World.{World}
 use Rattle.rip_wire.specs.declared.ending.Ending.TheVariants.{Memory}
-use Rattle.rip_course.specs.Parts.{Given, serves}
+use Rattle.rip_runs.specs.declared.close.Close.TheVariants.{Mismatch}
+use Rattle.rip_course.specs.Parts.{Fact, Given, ends_at_mismatch, serves, serves_call}
 use Rattle.rip_course.specs.Services.{Called, called_in}
 use Rattle.rip_course.specs.declared.sessions.Progress.TheVariants.{Finished}
+use Rattle.rip_replica.specs.Rooms.{IsCallAt}
 use Rattle.rip_replica.specs.Serving.{IsServed, given_to}
 use Rattle.rip_replica.specs.Standing.{Spot, Waits, spot}
 use Rattle.rip_replica.proofs.SliceLemmas.{Went, came_busy, came_done, came_lacks, came_unserved, went_call, went_first, went_on}
 use Rattle.rip_replica.proofs.ResumeLemmas.{at_last, ended, memory_at, within_number}
-use Rattle.rip_replica.proofs.RoomLemmas.{at_call, at_end, lacks_lives, rooms_served, ends_lives}
+use Rattle.rip_replica.proofs.RoomLemmas.{call_ended, call_here, ends_lives, lacks_lives, mismatch_told, rooms_served}
 use Rattle.rip_replica.proofs.replica.Replica.go_on.Goals as goal
 
 pub loop-units-init : goal.loop-units-init
@@ -21,7 +23,7 @@ loop-units-init g c = record {
       went_first (g.E.Evaluator.evaluation c.args.program.now) d g.I.Works.may_serve c.args.self.now.number next from base (from + c.args.slice.now.units) c.args.slice.now.units ahead service calls c.args.slice.now c.args.made.now
       (spot g.I.Items.item_plan g.I.Items.under_way c.args.self.now) (g.V.Service.replies_as c.args.service.now service) refl stands replies;
   page = λ number keeps serves. refl;
-  rooms = λ keeps serves none rooms. rooms;
+  rooms = λ roomed. roomed.rooms;
 }
 
 pub loop-units-preserved-in-On : goal.loop-units-preserved-in-On
@@ -40,7 +42,7 @@ loop-units-preserved-in-On g c =
           (c.in-On.ensures.turns d g.I.Works.may_serve c.args.self.now.number next from went.new_base went.spent went.later went.stands)
           c.in-On.ensures.onward.1);
       page = λ number keeps serves. c.in-On.ensures.page number keeps ∙ c.loop-units.invariant.page number keeps serves;
-      rooms = λ keeps serves none rooms. (c.in-On.ensures.memory keeps none (c.loop-units.invariant.rooms keeps serves none rooms)).0;
+      rooms = λ roomed. (c.in-On.ensures.memory roomed.steps roomed.never (c.loop-units.invariant.rooms roomed)).0;
     }
 
 pub returns-in-Busy-clause-slice : goal.returns-in-Busy-clause-slice
@@ -75,7 +77,8 @@ returns-in-Ends-clause-slice g c = λ d next from base ahead service calls agree
     let R = g.V.Service.replies_as c.loop-units.service service in
     ended e d g.I.Works.may_serve c.args.self.now.number next from base (from + c.args.slice.now.units) ahead service calls c.args.slice.now c.args.made.now c.loop-units.made
     at to last c.loop-units.left R c.in-Ends.close went g.I.Works.ending agrees.endings
-    c.in-Ends.ensures.onward.0 c.in-Ends.ensures.onward.1 ends c.end.result c.end.ensures.ends
+    c.in-Ends.ensures.onward.0 c.in-Ends.ensures.onward.1 ends c.end.result
+    (λ is. mismatch_told d.ending to.all c.in-Ends.close to.page (c.end.ensures.memory to.begun is) (λ k. ap (λ f. ends_at_mismatch (Some (f to.all (Mismatch k) to.page))) agrees.endings ∙ g.met.I.Works.differs to.all k to.page)) c.end.ensures.ends
 
 pub returns-in-Lacks-clause-slice : goal.returns-in-Lacks-clause-slice
 returns-in-Lacks-clause-slice g c = λ d next from base ahead service calls agrees stands replies.
@@ -89,7 +92,8 @@ returns-in-Lacks-clause-slice g c = λ d next from base ahead service calls agre
     to last R c.lack.result (Memory c.turn.new.self.runner.planner.begun) c.lack.ensures.lacks
     (came_lacks e d g.I.Works.may_serve c.args.self.now.number next from base (from + c.args.slice.now.units) ahead service calls c.args.slice.now c.args.made.now c.loop-units.made
     at to c.loop-units.left R went c.in-Lacks.ensures.onward.0 c.in-Lacks.ensures.onward.1
-    (c.in-Lacks.ensures.turns d g.I.Works.may_serve c.args.self.now.number next from went.new_base went.spent went.later went.stands))
+    (c.in-Lacks.ensures.turns d g.I.Works.may_serve c.args.self.now.number next from went.new_base went.spent went.later went.stands)
+    (λ roomed. (c.in-Lacks.ensures.memory roomed.steps roomed.never (c.loop-units.invariant.rooms roomed)).1))
 
 pub loop-units-preserved : goal.loop-units-preserved
 loop-units-preserved g c =
@@ -129,10 +133,10 @@ loop-units-preserved g c =
           (within_number c.loop-units.self.place c.loop-units.self.runner.planner.begun turned.runner.planner.begun c.in-Calls.ensures.onward.0 c.in-Calls.ensures.onward.2)
           (subst B number (c.in-Ok.ensures.served service before waits.item waits.number waits.name waits.args waits.is fact went.served.replies))));
       page = λ number keeps serves. c.in-Ok.ensures.page number serves ∙ c.in-Calls.ensures.page number keeps ∙ c.loop-units.invariant.page number keeps serves;
-      rooms = λ keeps serves none rooms.
+      rooms = λ roomed.
           rooms_served e g.E.Evaluator.has_room (λ p. g.I.Items.room p.items) g.I.Items.need turned.runner last.runner turned.host last.host
-          c.in-Ok.ensures.kept.0 (c.in-Ok.ensures.page g.I.Items.need serves)
-          (c.in-Calls.ensures.memory keeps none (c.loop-units.invariant.rooms keeps serves none rooms)).0;
+          c.in-Ok.ensures.kept.0 (c.in-Ok.ensures.page g.I.Items.need roomed.served)
+          (c.in-Calls.ensures.memory roomed.steps roomed.never (c.loop-units.invariant.rooms roomed)).0;
     }
 
 pub returns-in-Err-clause-slice : goal.returns-in-Err-clause-slice
@@ -160,30 +164,43 @@ pub returns-in-Done-clause-page : goal.returns-in-Done-clause-page
 returns-in-Done-clause-page g c = λ number keeps serves. c.in-Done.ensures.page number keeps ∙ c.loop-units.invariant.page number keeps serves
 
 pub returns-in-Ends-clause-memory : goal.returns-in-Ends-clause-memory
-returns-in-Ends-clause-memory g c = λ keeps serves none rooms item is.
-    at_end c.turn.new.self.runner c.end.new.self.runner c.in-Ends.close c.end.ensures.kept.0 c.in-Ends.ensures.phase (c.end.ensures.memory item is)
+returns-in-Ends-clause-memory g c = λ d next from base ahead service calls agrees stands replies roomed item is.
+    let went = c.loop-units.invariant.went d next from base ahead service calls agrees stands replies in
+    let ends = c.in-Ends.ensures.turns d g.I.Works.may_serve c.args.self.now.number next from went.new_base went.spent went.later went.stands in
+    let mismatch = c.end.ensures.memory item is in
+    let F : (_ → Fact) → Type 0 = λ f. IsCallAt f c.turn.new.self.runner.planner.batch.items c.turn.new.self.runner.planner.begun in
+    call_ended g.I.Works.fact c.turn.new.self.runner c.end.new.self.runner c.end.result (g.I.Works.ending c.turn.new.self.runner.planner.batch.items c.in-Ends.close c.turn.new.self.host)
+    item c.end.ensures.kept.0 c.end.ensures.ends is (mismatch_told g.I.Works.ending c.turn.new.self.runner.planner.batch.items c.in-Ends.close c.turn.new.self.host mismatch
+    (λ k. g.met.I.Works.differs c.turn.new.self.runner.planner.batch.items k c.turn.new.self.host))
+    (subst F agrees.facts (ends.4 mismatch))
 
 pub returns-in-Lacks-clause-memory : goal.returns-in-Lacks-clause-memory
-returns-in-Lacks-clause-memory g c = λ keeps serves none rooms item is.
-    absurd ((c.in-Lacks.ensures.memory keeps none (c.loop-units.invariant.rooms keeps serves none rooms)).1)
+returns-in-Lacks-clause-memory g c = λ d next from base ahead service calls agrees stands replies roomed item is.
+    absurd ((c.in-Lacks.ensures.memory roomed.steps roomed.never (c.loop-units.invariant.rooms roomed)).1)
 
 pub returns-in-Err-clause-memory : goal.returns-in-Err-clause-memory
-returns-in-Err-clause-memory g c = λ keeps serves none rooms item is.
-    at_call c.turn.new.self.runner c.lack-in-Err.new.self.runner (c.lack-in-Err.ensures.kept.0 ∙ c.in-Err.ensures.kept.0) c.in-Calls.ensures.phase
+returns-in-Err-clause-memory g c = λ d next from base ahead service calls agrees stands replies roomed item is.
+    let went = c.loop-units.invariant.went d next from base ahead service calls agrees stands replies in
+    let waits : Waits _ d g.I.Works.may_serve c.args.self.now.number next _ from went.new_base went.spent c.loop-units.left c.in-Calls.units went.later =
+    c.in-Calls.ensures.turns d g.I.Works.may_serve c.args.self.now.number next from went.new_base went.spent went.later went.stands in
+    let F : (_ → Fact) → Type 0 = λ f. IsCallAt f c.turn.new.self.runner.planner.batch.items c.turn.new.self.runner.planner.begun in
+    call_here g.I.Works.fact c.turn.new.self.runner c.lack-in-Err.new.self.runner c.lack-in-Err.result item (c.lack-in-Err.ensures.kept.0 ∙ c.in-Err.ensures.kept.0)
+    (c.lack-in-Err.ensures.lacks ∙ ap (λ r. Finished (Some (Memory r.planner.begun))) c.in-Err.ensures.kept.0) is
+    (subst F agrees.facts (waits.item, waits.is, ap serves_call waits.fact))
 
 pub returns-in-Busy-clause-rooms : goal.returns-in-Busy-clause-rooms
-returns-in-Busy-clause-rooms g c = λ keeps serves none rooms.
-    (c.in-Busy.ensures.memory keeps none (c.loop-units.invariant.rooms keeps serves none rooms)).0
+returns-in-Busy-clause-rooms g c = λ roomed.
+    (c.in-Busy.ensures.memory roomed.steps roomed.never (c.loop-units.invariant.rooms roomed)).0
 
 pub returns-in-Done-clause-rooms : goal.returns-in-Done-clause-rooms
-returns-in-Done-clause-rooms g c = λ keeps serves none rooms.
-    (c.in-Done.ensures.memory keeps none (c.loop-units.invariant.rooms keeps serves none rooms)).0
+returns-in-Done-clause-rooms g c = λ roomed.
+    (c.in-Done.ensures.memory roomed.steps roomed.never (c.loop-units.invariant.rooms roomed)).0
 
 pub returns-in-Ends-clause-rooms : goal.returns-in-Ends-clause-rooms
-returns-in-Ends-clause-rooms g c = λ keeps serves none rooms. ends_lives _ c.end.result _ _ c.end.ensures.ends
+returns-in-Ends-clause-rooms g c = λ roomed. ends_lives _ c.end.result _ _ c.end.ensures.ends
 
 pub returns-in-Lacks-clause-rooms : goal.returns-in-Lacks-clause-rooms
-returns-in-Lacks-clause-rooms g c = λ keeps serves none rooms. lacks_lives _ c.lack.result _ c.lack.ensures.lacks
+returns-in-Lacks-clause-rooms g c = λ roomed. lacks_lives _ c.lack.result _ c.lack.ensures.lacks
 
 pub returns-in-Err-clause-rooms : goal.returns-in-Err-clause-rooms
-returns-in-Err-clause-rooms g c = λ keeps serves none rooms. lacks_lives _ c.lack-in-Err.result _ c.lack-in-Err.ensures.lacks
+returns-in-Err-clause-rooms g c = λ roomed. lacks_lives _ c.lack-in-Err.result _ c.lack-in-Err.ensures.lacks

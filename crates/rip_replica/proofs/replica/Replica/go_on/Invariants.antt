@@ -4,6 +4,7 @@ use Rattle.rip_runner.specs.Rooms.{HasRooms}
 use Rattle.rip_course.specs.Services.{Called, Service}
 use Rattle.rip_replica.specs.Numbers.{KeepsServed, KeepsSteps}
 use Rattle.rip_replica.specs.Parts.{Doing}
+use Rattle.rip_replica.specs.Rooms.{IsRoomed}
 use Rattle.rip_replica.specs.Slices.{Agrees}
 use Rattle.rip_replica.specs.Standing.{Ahead, Behind, Stands, spot, turns_left}
 use Rattle.rip_replica.proofs.SliceLemmas.{Went}
@@ -22,9 +23,7 @@ invariant-loop-units g l = record {
       (spot g.I.Items.item_plan g.I.Items.under_way l.self) l.left l.made (g.V.Service.replies_as l.service service);
   page : (number : _ → ℕ) → KeepsSteps (g.E.Evaluator.evaluation l.program) g.I.Items.under_way number → KeepsServed g.I.Works.served number
       → number l.self.host ≡ number l.fn.self.host;
-  rooms : KeepsSteps (g.E.Evaluator.evaluation l.program) g.I.Items.under_way g.I.Items.need → KeepsServed g.I.Works.served g.I.Items.need
-      → (IsTrue g.H.Host.may_want_memory → ⊥)
-      → HasRooms (g.E.Evaluator.evaluation l.program) g.E.Evaluator.has_room (λ p. g.I.Items.room p.items) g.I.Items.need l.fn.self.runner l.fn.self.host
+  rooms : IsRoomed (g.E.Evaluator.evaluation l.program) g.E.Evaluator.has_room g.I.Items.room g.I.Items.need g.I.Items.under_way g.I.Works.served (IsTrue g.H.Host.may_want_memory) l.fn.self.runner l.fn.self.host
       → HasRooms (g.E.Evaluator.evaluation l.program) g.E.Evaluator.has_room (λ p. g.I.Items.room p.items) g.I.Items.need l.self.runner l.self.host;
 }
 

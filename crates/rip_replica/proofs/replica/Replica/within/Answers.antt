@@ -5,10 +5,10 @@ use Rattle.rip_replica.specs.declared.replica.Place.TheVariants.{Idle}
 use Rattle.rip_replica.specs.declared.replica.Turn.{Turn}
 use Rattle.rip_replica.specs.declared.replica.Turn.TheVariants.{Busy, Calls, Lacks}
 use Rattle.rip_replica.specs.Numbers.{HasNumber, StandsIdle}
-use Rattle.rip_replica.specs.Rooms.{HasNoLack, StandsAt}
+use Rattle.rip_replica.specs.Rooms.{HasNoLack}
 use Rattle.rip_replica.specs.Standing.{Spot, Turns, place_behind, planned, spot, turn_behind}
 use Rattle.rip_replica.proofs.NumberLemmas.{closed_idle, closed_keeps, steps_keep}
-use Rattle.rip_replica.proofs.RoomLemmas.{closed_lacks_none, closed_stands, rests_neither}
+use Rattle.rip_replica.proofs.RoomLemmas.{closed_lacks_none, rests_neither}
 use Rattle.rip_replica.proofs.WithinLemmas.{kept_spot, within_awaits, within_busy, within_closed, within_lacks}
 use Rattle.rip_replica.proofs.replica.Replica.within.Goals as goal
 
@@ -97,8 +97,3 @@ pub returns-in-Unplanned-clause-memory : goal.returns-in-Unplanned-clause-memory
 returns-in-Unplanned-clause-memory g c = λ keeps none rooms.
     absurd (rests_neither c.resume-rested.result c.in-Unplanned.is
     ((c.resume-rested.ensures.memory (steps_keep (g.E.Evaluator.evaluation c.args.program.now) g.I.Items.under_way g.I.Items.need keeps) none rooms).1))
-
-pub returns-in-Finished-clause-phase : goal.returns-in-Finished-clause-phase
-returns-in-Finished-clause-phase g c =
-    let P : Turn → Type 0 = λ turn. StandsAt turn c.resume-rested.new.self.phase in
-    subst P (sym c.turn_behind.ensures) (closed_stands c.in-Finished.close c.in-Finished.left c.resume-rested.new.self.phase c.in-Finished.ensures.law.0)
