@@ -1,1 +1,2 @@
+pub mod LackLemmas
 pub mod MatchedLemmas

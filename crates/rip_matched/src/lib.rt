@@ -1,10 +1,12 @@
-//! Which calls the sessions of each application serve: the longest prefix of the reported ones that its script made.
+//! Which calls the sessions of each application serve: the longest prefix of the reported ones that its script made; and that
+//! a session is ended for want of memory only at an item that reports a call.
 //!
 //! | law | its definition in `specs/` |
 //! |---|---|
 //! | [`applications_serve_prefixes`] | `Matched.ApplicationsServePrefixes` |
+//! | [`lacks_are_at_calls`] | `Lacks.LacksAreAtCalls` |
 #![tactic(auto)]
 
 mod laws;
 
-pub use laws::applications_serve_prefixes;
+pub use laws::{applications_serve_prefixes, lacks_are_at_calls};
