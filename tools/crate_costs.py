@@ -4,6 +4,8 @@
     crate_costs.py                    a table of lines for all crates
     crate_costs.py --measure NAME ..  also proves these crates and their tests from nothing and tries their edits
                                       (the crates below are built first, and are not counted)
+    crate_costs.py --watch            beside a run of `rt ci`: the processor time of each crate that is proved from nothing,
+                                      told once no prover has been seen for a minute
 """
 
 import os
@@ -11,6 +13,7 @@ import re
 import resource
 import subprocess
 import sys
+import time
 
 TOP = os.path.dirname(os.path.dirname(os.path.abspath(__file__)))
 FUNCTION = re.compile(r"^\s*(?:pub(?:\([a-z]+\))? )?(?:const )?fn ", re.M)
@@ -71,7 +74,42 @@ def measured(crate):
     return told
 
 
+def provers():
+    """Each prover that runs: its process, its crate, what it proves, and its processor time in seconds."""
+    for pid in filter(str.isdigit, os.listdir("/proc")):
+        try:
+            with open(f"/proc/{pid}/cmdline", encoding="utf-8") as f:
+                words = f.read().split("\0")
+            if not words[0].endswith("/rattle") or "--crate-name" not in words:
+                continue
+            with open(f"/proc/{pid}/stat", encoding="utf-8") as f:
+                fields = f.read().rsplit(")", 1)[1].split()
+        except OSError:
+            continue
+        kind = "tests" if "--test" in words else "proof" if words[1] == "build" else "edits"
+        ticks = sum(map(int, fields[11:15]))
+        yield (pid, fields[19]), words[words.index("--crate-name") + 1], kind, ticks / os.sysconf("SC_CLK_TCK")
+
+
+def watch():
+    """Sums up what provers took, of each crate by kind, and tells it. What is gone within three seconds is not seen."""
+    taken, last = {}, time.time()
+    while time.time() < last + 60:
+        for process, crate, kind, seconds in provers():
+            taken[process, crate, kind] = seconds
+            last = time.time()
+        time.sleep(3)
+    print("| crate | proof, s | tests, s | edits, s |\n|---|---|---|---|")
+    for crate in crates():
+        sums = [sum(s for (_, c, k), s in taken.items() if (c, k) == (crate, kind)) for kind in ("proof", "tests", "edits")]
+        if any(sums):
+            print(f"| {crate} | " + " | ".join(f"{s:.0f}" if s else "" for s in sums) + " |")
+
+
 def main(words):
+    if words == ["--watch"]:
+        watch()
+        return
     named = words[1:] if words[:1] == ["--measure"] else []
     head = "| crate | code | tests | specs | proofs | functions | edits |"
     print(head + (" proof and tests, s | edits, s |" if named else ""))
