@@ -84,9 +84,10 @@ def provers():
                 continue
             with open(f"/proc/{pid}/stat", encoding="utf-8") as f:
                 fields = f.read().rsplit(")", 1)[1].split()
+            folder = os.readlink(f"/proc/{pid}/cwd")
         except OSError:
             continue
-        kind = "tests" if "--test" in words else "proof" if words[1] == "build" else "edits"
+        kind = "tests" if "--test" in words else "edits" if "/rt-edit-" in folder else "proof"
         ticks = sum(map(int, fields[11:15]))
         yield (pid, fields[19]), words[words.index("--crate-name") + 1], kind, ticks / os.sysconf("SC_CLK_TCK")
 
