@@ -3,6 +3,7 @@ pub mod BorderLemmas
 pub mod ConversionLemmas
 pub mod FindLemmas
 pub mod FixedLemmas
+pub mod IndexBlockLemmas
 pub mod IndexLemmas
 pub mod LookUpLemmas
 pub mod NameIndexLemmas

@@ -7,19 +7,20 @@ use Rattle.std.proofs.lemmas.Bool.{cases_Bool, cases_eq, cases_lt, cases_order}
 use Rattle.std.proofs.lemmas.Bool.Decides.{nat_tests}
 use Rattle.std.proofs.lemmas.List.Sums.{position_or_len_is}
 use Rattle.std.proofs.lemmas.List.Edits.{get_or-remove_above, get_or-remove_below, length-remove}
-use Rattle.std.proofs.lemmas.List.{get_or-replicate, get_or-set_other, get_or-set_same, get_or_append_left, get_or_at, get_or_past, length-append, length-replicate, length-set, take_all, take_more}
+use Rattle.std.proofs.lemmas.List.{get_or-replicate, get_or-set_other, get_or-set_same, get_or_append_left, get_or_at, length-append, length-replicate, length-set, take_all, take_more}
 use Rattle.std.proofs.lemmas.Option.{none-some}
 use Rattle.rip_values.specs.declared.value.Span.{Span}
 use Rattle.rip_values.specs.declared.value.Value.{Value}
 use Rattle.rip_values.specs.declared.value.Value.TheVariants.{Undefined}
 use Rattle.rip_values.specs.Pool.{Texts, IsSpan, KeepsTexts, text_at}
-use Rattle.rip_rows.specs.Rows.{Rows, list_at}
 use Rattle.rip_heap.specs.declared.name_indexes.NameIndexes.{NameIndexes}
 use Rattle.rip_heap.specs.declared.property.Property.{Property}
-use Rattle.rip_heap.specs.NameIndex.{bucket_of, bucket_at, name_at, AreIndexes, IsIndex, IsIndexAt, IsIndexOf, IsLast, ListsStay, OthersStay, shifted}
+use Rattle.rip_heap.specs.NameIndex.{bucket_of, bucket_at, name_at, AreIndexes, IsIndex, IsIndexAt, IsIndexOf, IsLast}
+use Rattle.rip_heap.specs.IndexBlocks.{OthersStay, before_at, buckets_at, shifted}
 use Rattle.rip_heap.specs.Names.{same_text, place_of}
 use Rattle.rip_heap.specs.Objects.{with_value}
 use Rattle.rip_heap.specs.Stored.{Stored}
+use Rattle.rip_heap.proofs.IndexBlockLemmas.{others_same}
 use Rattle.rip_heap.proofs.ScopeRowLemmas.{part-length}
 
 -- WHAT STAYS
@@ -169,12 +170,6 @@ pub no_name : (ps : List Property) (k : ℕ) → None ≡ slice_get ps k → rec
 no_name [] k none = refl
 no_name (x ∷ ps) zero none = absurd (none-some x none)
 no_name (x ∷ ps) (suc k) none = no_name ps k none
-
--- past the end the number is 0
-pub no_number : (numbers : List ℕ) (k : ℕ) → None ≡ slice_get numbers k → 0 ≡ slice_index numbers k
-no_number [] k none = refl
-no_number (n ∷ numbers) zero none = absurd (none-some n none)
-no_number (n ∷ numbers) (suc k) none = no_number numbers k none
 
 -- the next name of a list is taken up
 pub taken_up : (p : Texts) (ps : List Property) (k : ℕ) (buckets before buckets' before' : List ℕ) (name : Span) → k < length ps → name ≡ name_at ps k
@@ -404,71 +399,6 @@ pub no_place : (pool : Texts) (name : Span) (ps : List Property) (end : ℕ) →
 no_place pool name ps end le below =
     sym (place_none pool name ps (λ k. 0) 0 (length ps) (record { within = omega arith; ends = omega arith; none = λ k low high. below k (omega (arith, le, high)); here = λ lt. absurd (omega (arith, lt)); chain = λ some. refl }) (omega arith))
 
--- THE LISTS OF OTHER NUMBERS
-
-pub lists_same : (at : ℕ) (rows : Rows ℕ) → ListsStay at rows rows
-lists_same at rows = record { fewer = λ n le lt. le; others = λ i other. refl }
-
-pub lists_joined : (at : ℕ) (a b c : Rows ℕ) → ListsStay at a b → ListsStay at b c → ListsStay at a c
-lists_joined at a b c first second = record {
-  fewer = λ n le lt. second.fewer n (first.fewer n le lt) lt;
-  others = λ i other. second.others i other ∙ first.others i other;
-}
-
-pub lists_set : (at : ℕ) (old new : Rows ℕ) (items : List ℕ) → new.lists ≡ slice_set old.lists at items → ListsStay at old new
-lists_set at old new items is = record {
-  fewer = λ n le lt. omega (arith, le, ap length is, length-set old.lists at items);
-  others = λ i other. ap (λ lists. slice_index_or lists i []) is ∙ get_or-set_other old.lists at i items [] other;
-}
-
-pub others_same : (at : ℕ) (x : NameIndexes) → OthersStay at x x
-others_same at x = record { buckets = lists_same at x.buckets; before = lists_same at x.before }
-
--- a list that has a number was made
-pub list_made : (rows : Rows ℕ) (list place : ℕ) → place < length (list_at rows list) → list < length rows.lists
-list_made rows list place below = by (cases_lt list (length rows.lists))
-  where
-    by : (list < length rows.lists) ⊎ (length rows.lists ≤ list) → list < length rows.lists
-    by (inl lt) = lt
-    by (inr past) = absurd (omega (arith, below, ap length (get_or_past rows.lists list [] past)))
-
--- a list that is written is there
-pub list_written : (old new : Rows ℕ) (list : ℕ) (items : List ℕ) → list < length old.lists → new.lists ≡ slice_set old.lists list items → list_at new list ≡ items
-list_written old new list items within is = ap (λ lists. slice_index_or lists list []) is ∙ get_or-set_same old.lists list items [] within
-
--- the numbers of a list are shifted, before this place
-pub record Shifted (list gone link : ℕ) (old new : Rows ℕ) (place : ℕ) : Type 0 where
-  pub count : length (list_at new list) ≡ length (list_at old list)
-  pub done : (k : ℕ) → k < place → slice_index (list_at new list) k ≡ shifted gone link (slice_index (list_at old list) k)
-  pub rest : (k : ℕ) → place ≤ k → slice_index (list_at new list) k ≡ slice_index (list_at old list) k
-  pub others : ListsStay list old new
-
-pub shift_begun : (list gone link : ℕ) (rows : Rows ℕ) → Shifted list gone link rows rows 0
-shift_begun list gone link rows = record { count = refl; done = λ k lt. absurd (omega (arith, lt)); rest = λ k le. refl; others = lists_same list rows }
-
-pub shift_next : (list gone link : ℕ) (old mid new : Rows ℕ) (place number : ℕ) → place < length (list_at old list) → Shifted list gone link old mid place
-    → number ≡ shifted gone link (slice_index (list_at mid list) place) → new.lists ≡ slice_set mid.lists list (slice_set (list_at mid list) place number)
-    → Shifted list gone link old new (place + 1)
-shift_next list gone link old mid new place number within h number-is is = record {
-  count = ap length here ∙ length-set (list_at mid list) place number ∙ h.count;
-  done = λ k lt. done k (cases_eq k place) lt;
-  rest = λ k le. ap (λ xs. slice_index xs k) here ∙ get_or-set_other (list_at mid list) place k number 0 (λ is. omega (arith, le, is)) ∙ h.rest k (omega (arith, le));
-  others = lists_joined list old mid new h.others (lists_set list mid new (slice_set (list_at mid list) place number) is);
-}
-  where
-    inside : place < length (list_at mid list)
-    inside = omega (arith, within, h.count)
-
-    here : list_at new list ≡ slice_set (list_at mid list) place number
-    here = list_written mid new list (slice_set (list_at mid list) place number) (list_made mid list place inside) is
-
-    done : (k : ℕ) → (k ≡ place) ⊎ (k ≢ place) → k < place + 1 → slice_index (list_at new list) k ≡ shifted gone link (slice_index (list_at old list) k)
-    done k (inl at) lt =
-        (λ t. slice_index (here t) (at t)) ∙ get_or-set_same (list_at mid list) place number 0 inside ∙ number-is
-        ∙ ap (shifted gone link) (h.rest place (omega arith)) ∙ sym (ap (λ i. shifted gone link (slice_index (list_at old list) i)) at)
-    done k (inr other) lt =
-        ap (λ xs. slice_index xs k) here ∙ get_or-set_other (list_at mid list) place k number 0 other ∙ h.done k (omega (arith, lt, other))
-
 -- THE INDEXES OF ALL OBJECTS
 
 -- an index has buckets
@@ -496,26 +426,28 @@ last_behind ps d some =
     let one : length ps - 1 + 1 ≡ length ps = omega arith in
     sym (take_more ps (length ps - 1) d (omega arith)) ∙ take_all (length ps - 1 + 1) ps (omega arith)
 
--- what is kept for an object whose lists are as before
-index_like_lists : (pool : Texts) (ps : List Property) (indexes indexes' : NameIndexes) (at i : ℕ) → i ≢ at → OthersStay at indexes indexes' → IsIndexAt pool ps indexes i → IsIndexAt pool ps indexes' i
+-- what is kept for an object whose numbers are as before
+index_like_lists : (pool : Texts) (ps : List Property) (indexes indexes' : NameIndexes) (at i : ℕ) → i ≢ at → OthersStay at indexes.blocks indexes'.blocks → IsIndexAt pool ps indexes i → IsIndexAt pool ps indexes' i
 index_like_lists pool ps indexes indexes' at i other stay h =
-    subst (λ buckets. IsIndexOf pool ps buckets (list_at indexes'.before i)) (sym (stay.buckets.others i other))
-    (subst (IsIndexOf pool ps (list_at indexes.buckets i)) (sym (stay.before.others i other)) h)
+    subst (λ buckets. IsIndexOf pool ps buckets (before_at indexes'.blocks i)) (sym (stay.buckets i other))
+    (subst (IsIndexOf pool ps (buckets_at indexes.blocks i)) (sym (stay.before i other)) h)
 
 pub index_of_row : (pool : Texts) (objects : List Stored) (indexes : NameIndexes) (i : ℕ) (d : Stored) → AreIndexes pool objects indexes → IsIndexAt pool (slice_index_or objects i d).properties indexes i
-index_of_row pool objects indexes i d h = by (cases_lt i (length indexes.buckets.lists))
+index_of_row pool objects indexes i d h = by (cases_lt i (length objects))
   where
-    by : (i < length indexes.buckets.lists) ⊎ (length indexes.buckets.lists ≤ i) → IsIndexAt pool (slice_index_or objects i d).properties indexes i
+    by : (i < length objects) ⊎ (length objects ≤ i) → IsIndexAt pool (slice_index_or objects i d).properties indexes i
     by (inl lt) = h.each i d lt
-    by (inr le) = index_none pool (slice_index_or objects i d).properties (list_at indexes.buckets i) (list_at indexes.before i) (ap length (get_or_past indexes.buckets.lists i [] le))
+    by (inr le) = index_none pool (slice_index_or objects i d).properties (buckets_at indexes.blocks i) (before_at indexes.blocks i) (ap length (h.none i le))
 
 -- one object is changed, and what is kept for it is again an index of its names
 pub indexes_changed : (pool : Texts) (objects objects' : List Stored) (indexes indexes' : NameIndexes) (at : ℕ) (o : Stored) → AreIndexes pool objects indexes → at < length objects
-    → objects' ≡ slice_set objects at o → IsIndexAt pool o.properties indexes' at → OthersStay at indexes indexes' → AreIndexes pool objects' indexes'
+    → objects' ≡ slice_set objects at o → IsIndexAt pool o.properties indexes' at → OthersStay at indexes.blocks indexes'.blocks → AreIndexes pool objects' indexes'
 indexes_changed pool objects objects' indexes indexes' at o h within is index others =
     subst (λ r. AreIndexes pool r indexes') (sym is) (record {
-      fewer = omega (arith, others.buckets.fewer (length objects) h.fewer within, length-set objects at o);
       each = λ i d lt. by i d (cases_eq i at);
+      none = λ i le.
+          let past : length objects ≤ i = omega (arith, le, length-set objects at o) in
+          others.buckets i (λ here. omega (arith, past, within, here)) ∙ h.none i past;
     })
   where
     by : (i : ℕ) (d : Stored) → (i ≡ at) ⊎ (i ≢ at) → IsIndexAt pool (slice_index_or (slice_set objects at o) i d).properties indexes' i
@@ -531,8 +463,8 @@ pub indexes_valued : (pool : Texts) (objects objects' : List Stored) (indexes : 
 indexes_valued pool objects objects' indexes at place v o d h within is same =
     indexes_changed pool objects objects' indexes indexes at o h within is
     (subst (λ qs. IsIndexAt pool qs indexes at) (sym same)
-    (index_edited pool pool ps (with_value ps place v) (list_at indexes.buckets at) (list_at indexes.before at) (list_at indexes.buckets at) (list_at indexes.before at) refl valued (index_of_row pool objects indexes at d h)))
-    (others_same at indexes)
+    (index_edited pool pool ps (with_value ps place v) (buckets_at indexes.blocks at) (before_at indexes.blocks at) (buckets_at indexes.blocks at) (before_at indexes.blocks at) refl valued (index_of_row pool objects indexes at d h)))
+    (others_same at indexes.blocks)
   where
     ps : List Property
     ps = (slice_index_or objects at d).properties
@@ -544,9 +476,9 @@ indexes_valued pool objects objects' indexes at place v o d h within is same =
         ∙ sym (ap (name_at ps) here)
     name-same k (inr other) lt = ap (λ x. x.name) (get_or-set_other ps place k (record { name = name_at ps place; value = v }) (record { name = record { start = 0; count = 0 }; value = Undefined }) other)
 
-    valued : IsIndex pool ps (list_at indexes.buckets at) (list_at indexes.before at) → IsIndex pool (with_value ps place v) (list_at indexes.buckets at) (list_at indexes.before at)
+    valued : IsIndex pool ps (buckets_at indexes.blocks at) (before_at indexes.blocks at) → IsIndex pool (with_value ps place v) (buckets_at indexes.blocks at) (before_at indexes.blocks at)
     valued ih =
-        index_like pool pool ps (with_value ps place v) (list_at indexes.buckets at) (list_at indexes.before at) (length-set ps place (record { name = name_at ps place; value = v }))
+        index_like pool pool ps (with_value ps place v) (buckets_at indexes.blocks at) (before_at indexes.blocks at) (length-set ps place (record { name = name_at ps place; value = v }))
         (λ k lt. ap (text_at pool) (name-same k (cases_eq k place) lt))
         (λ k lt. subst (IsSpan pool) (sym (name-same k (cases_eq k place) lt)) (ih.spans k lt)) ih
 
@@ -555,9 +487,13 @@ pub indexes_pushed : (pool : Texts) (objects objects' front more : List Stored) 
     → objects' ≡ front ++ more → front ≡ objects → AreIndexes pool objects' indexes
 indexes_pushed pool objects objects' front more indexes h is same =
     subst (λ r. AreIndexes pool r indexes) (sym (is ∙ ap (λ xs. xs ++ more) same)) (record {
-      fewer = omega (arith, h.fewer, length-append objects more);
-      each = λ i d lt. subst (λ x. IsIndexAt pool x.properties indexes i) (sym (get_or_append_left objects more d i (omega (arith, lt, h.fewer)))) (h.each i d lt);
+      each = λ i d lt. by i d (cases_lt i (length objects));
+      none = λ i le. h.none i (omega (arith, le, length-append objects more));
     })
+  where
+    by : (i : ℕ) (d : Stored) → (i < length objects) ⊎ (length objects ≤ i) → IsIndexAt pool (slice_index_or (objects ++ more) i d).properties indexes i
+    by i d (inl lt) = subst (λ x. IsIndexAt pool x.properties indexes i) (sym (get_or_append_left objects more d i lt)) (h.each i d lt)
+    by i d (inr le) = index_none pool (slice_index_or (objects ++ more) i d).properties (buckets_at indexes.blocks i) (before_at indexes.blocks i) (ap length (h.none i le))
 
 cut_shorter : {X : Type 0} (k : ℕ) (xs : List X) → length (take k xs) ≤ length xs
 cut_shorter zero xs = omega arith
@@ -576,17 +512,17 @@ kept_longer p q keeps =
 -- texts are only added
 pub indexes_kept : (p q : Texts) (objects : List Stored) (indexes : NameIndexes) → AreIndexes p objects indexes → KeepsTexts p q → AreIndexes q objects indexes
 indexes_kept p q objects indexes h keeps = record {
-  fewer = h.fewer;
   each = λ i d lt.
       let ps = (slice_index_or objects i d).properties in
-      let buckets = list_at indexes.buckets i in
-      let before = list_at indexes.before i in
+      let buckets = buckets_at indexes.blocks i in
+      let before = before_at indexes.blocks i in
       index_edited p q ps ps buckets before buckets before refl (index_grows p q ps buckets before keeps (kept_longer p q keeps)) (h.each i d lt);
+  none = h.none;
 }
 
 -- no indexes are those of any objects
-pub indexes_none : (p : Texts) (objects : List Stored) (indexes : NameIndexes) → indexes.buckets.lists ≡ [] → AreIndexes p objects indexes
+pub indexes_none : (p : Texts) (objects : List Stored) (indexes : NameIndexes) → ((i : ℕ) → buckets_at indexes.blocks i ≡ []) → AreIndexes p objects indexes
 indexes_none p objects indexes none = record {
-  fewer = omega (arith, ap length none);
-  each = λ i d lt. absurd (omega (arith, lt, ap length none));
+  each = λ i d lt. index_none p (slice_index_or objects i d).properties (buckets_at indexes.blocks i) (before_at indexes.blocks i) (ap length (none i));
+  none = λ i le. none i;
 }

@@ -17,7 +17,7 @@ part-length row at n h =
     let size : at + n - at ≡ n = omega arith in
     length-take-le (at + n - at) (drop at row) (omega (arith, length-drop at row)) ∙ size
 
-part-append : {X : Type 0} (row more : List X) (at n : ℕ) → at + n ≤ length row → slice_range (row ++ more) at (at + n) ≡ slice_range row at (at + n)
+pub part-append : {X : Type 0} (row more : List X) (at n : ℕ) → at + n ≤ length row → slice_range (row ++ more) at (at + n) ≡ slice_range row at (at + n)
 part-append row more at n h =
     ap (take (at + n - at)) (drop-append-le at row more (omega arith)) ∙ take-append-le (at + n - at) (drop at row) more (omega (arith, length-drop at row))
 

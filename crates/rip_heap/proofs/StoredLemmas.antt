@@ -14,7 +14,8 @@ use Rattle.rip_heap.specs.declared.property.Property.{Property}
 use Rattle.rip_heap.specs.declared.stored.StoredObject.{StoredObject}
 use Rattle.rip_heap.specs.Arrays.{elements_of}
 use Rattle.rip_heap.specs.Growth.{KeepsObject}
-use Rattle.rip_heap.specs.NameIndex.{AreIndexes, IsIndexAt, OthersStay}
+use Rattle.rip_heap.specs.IndexBlocks.{OthersStay}
+use Rattle.rip_heap.specs.NameIndex.{AreIndexes, IsIndexAt}
 use Rattle.rip_heap.specs.NamedObjects.{KeepObjects, Named, edited, place_at, with_another, with_edit}
 use Rattle.rip_heap.specs.Names.{place_of, same_text}
 use Rattle.rip_heap.specs.ObjectRows.{Listed, with_elements, with_object, with_properties}
@@ -438,7 +439,7 @@ another_kept pool l l' head properties items indexes indexed listed kept is =
 -- the list of its place is again indexed by what is kept for it
 properties_indexed : (pool : Texts) (heads : List StoredObject) (properties properties' : List (List Property)) (indexes indexes' : NameIndexes) (at : ℕ) (ps : List Property)
     → AreIndexes pool (all_stored heads properties) indexes → length properties ≡ length heads → at < length heads → properties' ≡ slice_set properties at ps
-    → IsIndexAt pool ps indexes' at → OthersStay at indexes indexes'
+    → IsIndexAt pool ps indexes' at → OthersStay at indexes.blocks indexes'.blocks
     → AreIndexes pool (all_stored heads properties') indexes'
 properties_indexed pool heads properties properties' indexes indexes' at ps h same within is index others =
     indexes_changed pool (all_stored heads properties) (all_stored heads properties') indexes indexes' at (record (slice_index_or (all_stored heads properties) at none) { properties = ps }) h
@@ -481,7 +482,7 @@ lists_kept heads properties properties' lists at ps kept listed is = (
 
 pub properties_kept : (pool : Texts) (l l' : Listed) (at : ℕ) (ps : List Property) (rooms : Rooms) (indexes indexes' : NameIndexes)
     → AreIndexes pool (all_stored l.heads l.properties) indexes → length l.elements ≡ length (all_stored l.heads l.properties) → length l.properties ≡ length l.heads → at < length l.heads
-    → l' ≡ record (with_properties l at ps) { rooms = rooms } → IsIndexAt pool ps indexes' at → OthersStay at indexes indexes' → AreKept pool l'.heads l'.properties l'.elements indexes'
+    → l' ≡ record (with_properties l at ps) { rooms = rooms } → IsIndexAt pool ps indexes' at → OthersStay at indexes.blocks indexes'.blocks → AreKept pool l'.heads l'.properties l'.elements indexes'
 properties_kept pool l l' at ps rooms indexes indexes' indexed listed kept within is index others =
     let rest = lists_kept l.heads l.properties (slice_set l.properties at ps) l.elements at ps kept listed refl in
     subst (λ (m : Listed). AreKept pool m.heads m.properties m.elements indexes') (sym is) (record {

@@ -5,6 +5,7 @@ pub mod Errors
 pub mod Growth
 pub mod Holders
 pub mod Host
+pub mod IndexBlocks
 pub mod Keys
 pub mod Laws
 pub mod Lending

@@ -1,12 +1,12 @@
 -- How a heap finds the properties of an object by name: those whose names fall into one bucket hang together. No public
 -- clause cites this.
-use Rattle.std.specs.Prelude.{◌≡◌, ◌≢◌, ℕ, List, [], ◌∷◌, ◌+◌, ◌-◌, ◌*◌, ◌%◌, ◌^◌, ◌<◌, ◌≤◌, fold, if◌then◌else◌, length, nat_lt, slice_index, slice_index_or}
+use Rattle.std.specs.Prelude.{◌≡◌, ◌≢◌, ℕ, List, [], ◌∷◌, ◌+◌, ◌-◌, ◌*◌, ◌%◌, ◌^◌, ◌<◌, ◌≤◌, fold, length, slice_index, slice_index_or}
 use Rattle.rip_values.specs.declared.value.Span.{Span}
 use Rattle.rip_values.specs.declared.value.Value.TheVariants.{Undefined}
 use Rattle.rip_values.specs.Pool.{Texts, IsSpan, text_at}
-use Rattle.rip_rows.specs.Rows.{Rows, list_at}
 use Rattle.rip_heap.specs.declared.name_indexes.NameIndexes.{NameIndexes}
 use Rattle.rip_heap.specs.declared.property.Property.{Property}
+use Rattle.rip_heap.specs.IndexBlocks.{before_at, buckets_at}
 use Rattle.rip_heap.specs.Stored.{Stored}
 
 -- the number that is made of one unit more
@@ -16,11 +16,6 @@ hash_more hash unit = (hash * 31 % 2 ^ 32 + unit) % 2 ^ 32
 -- the bucket of a text, of so many
 unfoldable pub bucket_of : ℕ → List ℕ → ℕ
 bucket_of count text = fold hash_more 0 text % count
-
--- where a place is left: those behind the one that is gone are one less, and the one before it in its bucket stands for
--- it; `gone` and `link` are how many places there are up to and with each
-abbrev pub shifted : ℕ → ℕ → ℕ → ℕ
-shifted gone link v = if nat_lt v gone then v else if nat_lt gone v then v - 1 else link
 
 -- the name of the property at this place
 abbrev pub name_at : List Property → ℕ → Span
@@ -53,19 +48,9 @@ IsIndexOf pool properties (bucket ∷ buckets) before = IsIndex pool properties 
 
 -- the lists of this number are what is kept for these properties
 abbrev pub IsIndexAt : Texts → List Property → NameIndexes → ℕ → Type 0
-IsIndexAt pool properties indexes at = IsIndexOf pool properties (list_at indexes.buckets at) (list_at indexes.before at)
-
--- the lists of other numbers are as before, and none is behind them that was not
-pub record ListsStay (at : ℕ) (old new : Rows ℕ) : Type 0 where
-  pub fewer : (n : ℕ) → length old.lists ≤ n → at < n → length new.lists ≤ n
-  pub others : (i : ℕ) → i ≢ at → list_at new i ≡ list_at old i
-
--- the indexes of other objects are as before
-pub record OthersStay (at : ℕ) (old new : NameIndexes) : Type 0 where
-  pub buckets : ListsStay at old.buckets new.buckets
-  pub before : ListsStay at old.before new.before
+IsIndexAt pool properties indexes at = IsIndexOf pool properties (buckets_at indexes.blocks at) (before_at indexes.blocks at)
 
 -- what is kept for each object is an index of the names of its properties, or nothing
 pub record AreIndexes (pool : Texts) (objects : List Stored) (indexes : NameIndexes) : Type 0 where
-  pub fewer : length indexes.buckets.lists ≤ length objects
-  pub each : (i : ℕ) (d : Stored) → i < length indexes.buckets.lists → IsIndexAt pool (slice_index_or objects i d).properties indexes i
+  pub each : (i : ℕ) (d : Stored) → i < length objects → IsIndexAt pool (slice_index_or objects i d).properties indexes i
+  pub none : (i : ℕ) → length objects ≤ i → buckets_at indexes.blocks i ≡ []

@@ -40,6 +40,7 @@ mod errors;
 mod heap;
 mod holder;
 mod host;
+mod index_blocks;
 mod keys;
 mod laws;
 mod limits;

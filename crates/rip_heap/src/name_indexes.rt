@@ -2,8 +2,10 @@ ghost use Rattle.std.specs.Prelude.{◌≡◌, ℕ, ◌-◌, ◌<◌, ◌↔◌,
 ghost use Rattle.rip_values.specs.Pool.{Texts};
 ghost use Rattle.rip_rows.specs.Rows.{list_at};
 ghost use Rattle.rip_heap.specs.declared.property.Property.{Property};
-ghost use Rattle.rip_heap.specs.NameIndex.{IsIndexAt, OthersStay};
+ghost use Rattle.rip_heap.specs.IndexBlocks.{OthersStay, buckets_at};
+ghost use Rattle.rip_heap.specs.NameIndex.{IsIndexAt};
 
+use crate::index_blocks::IndexBlocks;
 use crate::property::Property;
 use rip_rows::Rows;
 use rip_values::{NoMemory, Pool};
@@ -12,48 +14,35 @@ use std::alloc::Global;
 /// How many properties an object has before their names are worth an index.
 const INDEXED_FROM: u32 = 16;
 
-/// The room of each row for a cell. An index is filled anew whenever its properties are four times as many, so that less
-/// than three numbers of a row are spent for each of them, and one list for each object.
-const ROOM_OF_CELL: u32 = 3;
-
-/// The most room that rows are made for.
-const MOST_ROOM: u32 = 0x7fff_ffff;
-
-/// The indexes of the objects that have one. The lists of a number are of the object at that place: `buckets` has the
-/// last property of each bucket, and `before` for each property the one before it in its bucket. An object whose list of
-/// buckets is empty has none. The rows are reserved when they are made, so that no call takes memory.
+/// The indexes of the objects that have one, of the object at each place: its buckets have the last property of each, and
+/// beside them each property has the one before it in its bucket. An object that has no buckets has no index.
 #[derive(Debug, Drop)]
 pub struct NameIndexes {
-    pub buckets: Rows<u32>,
-    pub before: Rows<u32>,
+    pub blocks: IndexBlocks,
 }
 
 impl NameIndexes {
     /// No indexes, with room for those of so many objects and properties together.
     pub fn make(alloc: Global, cells: u32) -> Result<NameIndexes, NoMemory>
-        ensures { IfOk result (λ indexes. indexes.buckets.lists ≡ []) }
+        ensures { IfOk result (λ indexes. (i : ℕ) → buckets_at indexes.blocks i ≡ []) }
     {
-        let room = cells.saturating_mul(ROOM_OF_CELL).min(MOST_ROOM);
         Ok(NameIndexes {
-            buckets: Rows::make(alloc, room, 0)?,
-            before: Rows::make(alloc, room, 0)?,
+            blocks: IndexBlocks::make(alloc, cells)?,
         })
     }
 
     /// Whether the object at this place has an index.
     pub fn has(&self, at: usize) -> bool
-        ensures { IsTrue result ↔ (0 < length (list_at self.now.buckets at)) }
+        ensures { IsTrue result ↔ (0 < length (buckets_at self.now.blocks at)) }
     {
-        self.buckets.len(at) > 0
+        self.blocks.bucket_count(at) > 0
     }
 
-    /// Drops all indexes. What they took is not given back.
+    /// Drops all indexes.
     pub fn clear(&mut self)
-        ensures buckets { self.new.buckets.lists ≡ [] }
-        ensures before { self.new.before.lists ≡ [] }
+        ensures { (i : ℕ) → buckets_at self.new.blocks i ≡ [] }
     {
-        self.buckets.truncate(0);
-        self.before.truncate(0);
+        self.blocks.clear();
     }
 
     /// Takes up the last property of the object at this place, whose properties are the list of that
@@ -63,10 +52,10 @@ impl NameIndexes {
         requires index { IsIndexAt pool.now
             (take (length (list_at rows.now at) - 1) (list_at rows.now at)) self.old at }
         ensures index { IsIndexAt pool.now (list_at rows.now at) self.new at }
-        ensures others { OthersStay at self.old self.new }
+        ensures others { OthersStay at self.old.blocks self.new.blocks }
     {
         if self.extend(pool, at, rows).is_err() {
-            self.forget(at);
+            self.blocks.forget(at);
         }
     }
 
@@ -75,12 +64,12 @@ impl NameIndexes {
         ensures index { (pool : Texts) (properties : List Property)
             → IsIndexAt pool properties self.old at
             → IsIndexAt pool (remove properties place) self.new at }
-        ensures others { OthersStay at self.old self.new }
+        ensures others { OthersStay at self.old.blocks self.new.blocks }
     {
-        if place < self.before.len(at) {
+        if place < self.blocks.name_count(at) {
             self.remove(at, place);
         } else {
-            self.forget(at);
+            self.blocks.forget(at);
         }
     }
 
@@ -90,16 +79,16 @@ impl NameIndexes {
         requires index { IsIndexAt pool.now
             (take (length (list_at rows.now at) - 1) (list_at rows.now at)) self.old at }
         ensures index { OnOk result (IsIndexAt pool.now (list_at rows.now at) self.new at) }
-        ensures others { OthersStay at self.old self.new }
+        ensures others { OthersStay at self.old.blocks self.new.blocks }
     {
         let count = rows.len(at);
-        let buckets = self.buckets.len(at);
-        if buckets == 0 && count <= INDEXED_FROM {
-            Ok(())
-        } else if count / 2 > buckets {
-            self.fill(pool, rows, at)
-        } else {
-            self.take_up(pool, rows, at, count - 1)
+        if self.has(at) {
+            if self.take_up(pool, rows, at, count - 1).is_ok() {
+                return Ok(());
+            }
+        } else if count <= INDEXED_FROM {
+            return Ok(());
         }
+        self.fill(pool, rows, at)
     }
 }

@@ -7,7 +7,7 @@ use Rattle.rip_heap.proofs.named_objects.NamedObjects.cut_back.Goals as goal
 
 pub invariant_of-self : goal.invariant_of-self
 invariant_of-self c = record {
-  indexed = indexes_none c.cut_back.new.self (all_stored c.self.inside.rows.heads c.self.inside.rows.properties) c.clear.new.self c.clear.ensures.buckets;
+  indexed = indexes_none c.cut_back.new.self (all_stored c.self.inside.rows.heads c.self.inside.rows.properties) c.clear.new.self c.clear.ensures;
   listed = c.self.invariant.listed;
   kept = c.self.invariant.kept;
 }

@@ -1,5 +1,5 @@
 use Rattle.std.proofs.Common.{rules, ◌<◌, ◌∙◌, [], ap, length, slice_index_or, subst, sym}
-use Rattle.rip_rows.specs.Rows.{list_at}
+use Rattle.rip_heap.specs.IndexBlocks.{before_at, buckets_at}
 use Rattle.rip_heap.specs.NameIndex.{IsIndex}
 use Rattle.rip_heap.specs.Names.{place_of}
 use Rattle.rip_heap.proofs.NameIndexLemmas.{index_there}
@@ -9,8 +9,8 @@ use Rattle.rip_heap.proofs.named_objects.NamedObjects.place.Goals as goal
 pub find-requires : goal.find-requires
 find-requires c =
     let within = heads_within c.args.self.now c.self.inside.pool c.self.inside.rows.heads c.self.inside.rows.properties c.self.inside.rows.elements c.args.at c.self.view_is c.requires.within in
-    let buckets = list_at c.self.inside.indexes.buckets c.args.at in
-    let before = list_at c.self.inside.indexes.before c.args.at in
+    let buckets = buckets_at c.self.inside.indexes.blocks c.args.at in
+    let before = before_at c.self.inside.indexes.blocks c.args.at in
     let some : 0 < length buckets = search rules in
     subst (λ lists. IsIndex c.self.inside.pool (slice_index_or lists c.args.at []) buckets before) (sym c.properties.ensures)
     (index_there c.self.inside.pool (slice_index_or c.self.inside.rows.properties c.args.at []) buckets before some
