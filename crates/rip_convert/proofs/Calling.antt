@@ -1,7 +1,7 @@
 -- The text of a call, from the judging and the data of its arguments.
 use Rattle.std.specs.Prelude.{IsTrue, IsSome, unwrap_or}
 use Rattle.rip_convert.proofs.Chars.{utf8_nil}
-use Rattle.std.proofs.Common.{rules, ◌≡◌, ◌≢◌, ◌↔◌, ℕ, ◌+◌, ◌-◌, ◌≤◌, nat_le, Bool, true, false, cond, Option, None, Some, Result, Ok, Err, List, [], ◌∷◌, ◌++◌, All, length, refl, sym, ap, subst, ◌∙◌, arith, append_assoc}
+use Rattle.std.proofs.Common.{rules, ◌≡◌, ◌≢◌, ◌↔◌, ℕ, ◌≤◌, nat_le, Bool, true, false, cond, Option, None, Some, Result, Ok, Err, List, [], ◌∷◌, ◌++◌, All, length, refl, sym, ap, subst, ◌∙◌, arith, append_assoc}
 use Rattle.std.proofs.lemmas.Bool.{le-leb, leb-true}
 use Rattle.json.specs.Print.{quoted}
 use Rattle.serde_json.specs.Data.{Data, Items, depth}
@@ -17,20 +17,34 @@ use Rattle.rip_heap.specs.Arrays.{elements_at}
 use Rattle.rip_heap.specs.World.{World}
 use Rattle.rip_data.specs.Datum.{Tree, Elements, no_elements, element, elements_of, data_of, canonical_text, utf8_of}
 use Rattle.rip_data.specs.Datum as datum
-use Rattle.rip_convert.specs.Arguments.{text_judged, line_judged, call_line, call_text}
+use Rattle.rip_convert.specs.Arguments.{text_judged, line_judged, call_line, call_text, arguments_text, fault_of, unless_faulty}
 use Rattle.rip_convert.specs.Told.{IsArgument, IsCallOf, CallsAreTold, ListsAreTold}
 use Rattle.rip_convert.specs.Written.{added, elements_data, left_after, parts_data, value_data}
+use Rattle.rip_convert.proofs.FirstFault.{no_fault}
 use Rattle.rip_convert.proofs.Judged.{with_data, walked-same}
 use Rattle.rip_convert.proofs.ToldData.{data-told, data-deep}
 use Rattle.rip_convert.proofs.Lines.{canonical_line, call_is_line, some_text, call_has_six}
 
-pub call_err : (w : World) (name : Span) (v : Value) (fault : Fault) → left_after 8 w v 16384 ≡ Err fault → call_text w name v ≡ Err fault
-call_err w name v fault e =
-    ap (λ m. line_judged (utf8_of (text_at w.pool name)) (text_judged m)) (walked-same 8 w v 16384 ∙ ap (with_data (value_data 8 w v)) e)
+-- the judging, behind the first fault
+judged_same : (w : World) (v : Value) (m : Result ℕ Fault) → left_after 8 w v 16384 ≡ m
+    → arguments_text w v ≡ unless_faulty (fault_of 8 w v) (text_judged (with_data (value_data 8 w v) m))
+judged_same w v m e = ap (λ m. unless_faulty (fault_of 8 w v) (text_judged m)) (walked-same 8 w v 16384 ∙ ap (with_data (value_data 8 w v)) e)
+
+-- where the judging ends at a fault, the first one counts, and that of the judging where there is none
+pub judged_err : (w : World) (v : Value) (spent : Fault) → left_after 8 w v 16384 ≡ Err spent → arguments_text w v ≡ Err (unwrap_or (fault_of 8 w v) spent)
+judged_err w v spent e = judged_same w v (Err spent) e ∙ by (fault_of 8 w v)
+  where
+    by : (o : Option Fault) → ◌≡◌ {A = Result (List ℕ) Fault} (unless_faulty o (Err spent)) (Err (unwrap_or o spent))
+    by None = refl
+    by (Some fault) = refl
+
+pub call_err : (w : World) (name : Span) (v : Value) (fault : Fault) → arguments_text w v ≡ Err fault → call_text w name v ≡ Err fault
+call_err w name v fault e = ap (line_judged (utf8_of (text_at w.pool name))) e
 
 call_ok : (w : World) (name : Span) (v : Value) (rest : ℕ) → left_after 8 w v 16384 ≡ Ok rest → call_text w name v ≡ line_judged (utf8_of (text_at w.pool name)) (text_judged (Ok (value_data 8 w v, rest)))
 call_ok w name v rest e =
-    ap (λ m. line_judged (utf8_of (text_at w.pool name)) (text_judged m)) (walked-same 8 w v 16384 ∙ ap (with_data (value_data 8 w v)) e)
+    ap (line_judged (utf8_of (text_at w.pool name)))
+    (judged_same w v (Ok rest) e ∙ ap (λ o. unless_faulty {A = List ℕ} o (text_judged (Ok (value_data 8 w v, rest)))) (no_fault w v rest e))
 
 pub call_long : (w : World) (name : Span) (v : Value) (rest : ℕ) → left_after 8 w v 16384 ≡ Ok rest → added (Some []) (compact_text (value_data 8 w v)) ≡ None → call_text w name v ≡ Err BadArgument
 call_long w name v rest e long = call_ok w name v rest e ∙ by (nat_le (length (compact_text (value_data 8 w v))) 16384) long
@@ -59,7 +73,7 @@ joined q t = ap (λ l. 91 ∷ l) (append_assoc (q ++ 44 ∷ []) t (93 ∷ []) �
 -- the text of a call is that of a datum, which is the data of the arguments
 call-told : (w : World) (name : Span) (v : Value) (text : List ℕ) → call_text w name v ≡ Ok text
     → (t : Tree) × (IsArgument t × (data_of t ≡ value_data 8 w v) × (call_line (utf8_of (text_at w.pool name)) (canonical_text t) ≡ text))
-call-told w name v text h = by (left_after 8 w v 16384) refl (sym (ap (λ m. line_judged spelt (text_judged m)) (walked-same 8 w v 16384)) ∙ h)
+call-told w name v text h = by (left_after 8 w v 16384) refl
   where
     spelt : List ℕ
     spelt = utf8_of (text_at w.pool name)
@@ -87,10 +101,9 @@ call-told w name v text h = by (left_after 8 w v 16384) refl (sym (ap (λ m. lin
         )
     fits rest left false short e = absurd (cc)
 
-    by : (m : Result ℕ Fault) → left_after 8 w v 16384 ≡ m → line_judged spelt (text_judged (with_data d m)) ≡ Ok text
-        → (t : Tree) × (IsArgument t × (data_of t ≡ d) × (call_line spelt (canonical_text t) ≡ text))
-    by (Ok rest) is e = fits rest is (nat_le (length (compact_text d)) 16384) refl e
-    by (Err fault) is e = absurd (cc)
+    by : (m : Result ℕ Fault) → left_after 8 w v 16384 ≡ m → (t : Tree) × (IsArgument t × (data_of t ≡ d) × (call_line spelt (canonical_text t) ≡ text))
+    by (Ok rest) is = fits rest is (nat_le (length (compact_text d)) 16384) refl (sym (call_ok w name v rest is) ∙ h)
+    by (Err fault) is = absurd (let e = sym (ap (line_judged spelt) (judged_err w v fault is)) ∙ h in cc)
 
 pub calls_are_told : CallsAreTold
 calls_are_told w name v text h = let t = call-told w name v text h in (canonical_text t.0, ((t.0, (t.1.0, refl)), t.1.2))

@@ -19,7 +19,7 @@ use Rattle.rip_convert.specs.Arguments.{are_units, properties_of}
 use Rattle.rip_convert.specs.Written.{then_left, spelled_left, whole_left, elements_left, fields_left, parts_left, piece_left, left_after}
 use Rattle.rip_convert.proofs.Telling.{is_whole_of}
 
-abbrev named : Property → Span × Value
+abbrev pub named : Property → Span × Value
 named p = (p.name, p.value)
 
 -- the property at a place is the first of those from there on

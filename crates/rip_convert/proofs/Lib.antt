@@ -1,6 +1,7 @@
 pub mod Adding
 pub mod Calling
 pub mod Chars
+pub mod FirstFault
 pub mod Judged
 pub mod Judging
 pub mod Lines

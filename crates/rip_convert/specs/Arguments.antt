@@ -98,10 +98,66 @@ abbrev pub text_judged : Walk Data → Result (List ℕ) Fault
 text_judged (Ok found) = if nat_le (length (compact_text found.0)) 16384 then Ok (compact_text found.0) else Err BadArgument
 text_judged (Err fault) = Err fault
 
--- the canonical text of a value as data, or the first fault on the way: it nests at most 8 levels deep, has at most
--- 16,384 pieces, whose text would be longer, and at last a text of at most 16,384 bytes
+-- THE FIRST FAULT
+
+-- the first of two, of which the second is sought where the first is none
+abbrev pub or_fault : Option Fault → Option Fault → Option Fault
+or_fault (Some fault) later = Some fault
+or_fault None later = later
+
+-- a text or a name: numbers that are no units, or a surrogate without its partner
+abbrev pub text_fault : List ℕ → Option Fault
+text_fault units = if are_units units then (if has_unpaired_surrogate units then Some LoneSurrogate else None) else Some BadArgument
+
+-- the elements of an array, left to right
+abbrev pub elements_fault : (Value → Option Fault) → List Value → Option Fault
+elements_fault walk [] = None
+elements_fault walk (v ∷ vs) = or_fault (walk v) (elements_fault walk vs)
+
+-- the properties of an object, in the order of making: each name, and then its value
+abbrev pub fields_fault : (Value → Option Fault) → Texts → List Property → Option Fault
+fields_fault walk pool [] = None
+fields_fault walk pool (p ∷ ps) = or_fault (text_fault (text_at pool p.name)) (or_fault (walk p.value) (fields_fault walk pool ps))
+
+-- all of them, where they are fewer than 2^32, as in each object of a heap; more are no data
+abbrev pub properties_fault : (Value → Option Fault) → Texts → List Property → Option Fault
+properties_fault walk pool ps = if nat_le (length ps) 4294967295 then fields_fault walk pool ps else Some BadArgument
+
+-- an object: nothing but arrays and plain objects is data
+abbrev pub parts_fault : Holder → (Value → Option Fault) → World → ℕ → Option Fault
+parts_fault ArrayObject walk w n = elements_fault walk (elements_at w n)
+parts_fault PlainObject walk w n = properties_fault walk w.pool (properties_of (object_at w n))
+parts_fault OtherObject walk w n = Some BadArgument
+
+-- a number that is not whole
+abbrev pub whole_fault : ℤ → Option Fault
+whole_fault z = if is_whole (number_of_whole z) then None else Some BadArgument
+
+-- a value, whose objects have such faults: undefined and NaN are no data
+abbrev pub value_fault : (ℕ → Option Fault) → World → Value → Option Fault
+value_fault parts w Undefined = Some BadArgument
+value_fault parts w Null = None
+value_fault parts w (Boolean b) = None
+value_fault parts w (Num z) = whole_fault z
+value_fault parts w NaN = Some BadArgument
+value_fault parts w (Text span) = text_fault (text_at w.pool span)
+value_fault parts w (Object n) = parts n
+
+-- the first fault on the walk over a value, left to right, where so many levels of arrays and objects are left, whatever
+-- its length
+abbrev pub fault_of : ℕ → World → Value → Option Fault
+fault_of zero w v = value_fault (λ n. Some BadArgument) w v
+fault_of (suc levels) w v = value_fault (λ n. parts_fault (holder_of (object_at w n)) (fault_of levels w) w n) w v
+
+-- the fault, or what follows where there is none
+abbrev pub unless_faulty : {A : Type 0} → Option Fault → Result A Fault → Result A Fault
+unless_faulty (Some fault) otherwise = Err fault
+unless_faulty None otherwise = otherwise
+
+-- the canonical text of a value as data; or the first fault on the walk over it, left to right, 8 levels deep at most; or,
+-- where there is none, BadArgument for a text of more than 16,384 bytes, as that of more than 16,384 pieces is
 abbrev pub arguments_text : World → Value → Result (List ℕ) Fault
-arguments_text w v = text_judged (walked 8 w v 16384)
+arguments_text w v = unless_faulty (fault_of 8 w v) (text_judged (walked 8 w v 16384))
 
 -- the text of a call, `[NAME,ARGS]` with no space: a name in UTF-8 and the canonical text of arguments
 abbrev pub call_line : List ℕ → List ℕ → List ℕ
@@ -111,6 +167,6 @@ abbrev pub line_judged : List ℕ → Result (List ℕ) Fault → Result (List �
 line_judged name (Ok args) = Ok (call_line name args)
 line_judged name (Err fault) = Err fault
 
--- the canonical text of a call of this name, or the first fault on the walk over its arguments
+-- the canonical text of a call of this name, or the first fault on the walk over its arguments, their length last
 abbrev pub call_text : World → Span → Value → Result (List ℕ) Fault
 call_text w name args = line_judged (utf8_of (text_at w.pool name)) (arguments_text w args)

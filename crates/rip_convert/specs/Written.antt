@@ -22,7 +22,7 @@ use Rattle.rip_heap.specs.Objects.{own_at}
 use Rattle.rip_heap.specs.World.{World, object_at}
 use Rattle.rip_data.specs.Datum.{AreInOrder, number_of_whole, utf8_of}
 use Rattle.rip_data.specs.Reading.{is_whole}
-use Rattle.rip_convert.specs.Arguments.{are_units, properties_of}
+use Rattle.rip_convert.specs.Arguments.{are_units, properties_of, fault_of}
 
 -- TEXT
 
@@ -76,6 +76,16 @@ abbrev pub left_after : ℕ → World → Value → ℕ → Result ℕ Fault
 left_after zero w v left = piece_left left (value_left (λ n rest. Err BadArgument) w v)
 left_after (suc levels) w v left =
     piece_left left (value_left (λ n rest. parts_left (holder_of (object_at w n)) (left_after levels w) w n rest) w v)
+
+-- THE MARKS of the walk for the first fault: with how few levels left an object was walked without a fault; 0 for none
+
+-- the mark of the object with this number
+abbrev pub mark_of : List ℕ → ℕ → ℕ
+mark_of marks n = slice_index_or marks n 0
+
+-- each object that is marked has no fault in this heap, where so many levels are left as its mark says
+abbrev pub AreWalked : World → List ℕ → Type 0
+AreWalked w marks = (n : ℕ) → 0 < mark_of marks n → fault_of (mark_of marks n) w (Object n) ≡ None
 
 -- THE DATA of a value that was judged; of any other value it is null
 

@@ -2,11 +2,14 @@ ghost use Rattle.std.specs.Prelude.{◌≡◌, ◌≢◌, ◌≤◌, ◌+◌, �
 ghost use Rattle.json.specs.Print.{quoted};
 ghost use Rattle.rip_values.specs.Pool.{text_at};
 ghost use Rattle.rip_data.specs.Datum.{utf8_of};
-ghost use Rattle.rip_convert.specs.Arguments.{call_text};
+ghost use Rattle.rip_convert.specs.Arguments.{arguments_text, call_text};
 ghost use Rattle.rip_convert.specs.Told.{IsCallOf};
+ghost use Rattle.rip_convert.specs.Written.{left_after};
 
+use crate::faults::first_fault;
 use crate::judge::left_after;
 use crate::line::{Line, append};
+use crate::marks::Marks;
 use crate::order::Places;
 use crate::write::write_value;
 use rip_data::{MAX_DEPTH, MAX_LENGTH};
@@ -24,6 +27,7 @@ pub struct CallRow {
     text: Vec<u8>,
     part: Line,
     places: Places,
+    marks: Marks,
 }
 
 impl Model for CallRow {
@@ -37,17 +41,19 @@ impl Model for CallRow {
 }
 
 impl CallRow {
-    /// A row for each text of a call. It takes all its memory.
-    pub fn make(alloc: Global) -> Result<CallRow, NoMemory> {
+    /// A row for each text of a call, from a heap of so many cells at most. It takes all its memory. From a heap of more
+    /// it writes the same texts, and may take longer to find a fault.
+    pub fn make(alloc: Global, cells: u32) -> Result<CallRow, NoMemory> {
         Ok(CallRow {
             text: Vec::with_capacity(alloc, ROW)?,
             part: Line::make(alloc)?,
             places: Places::make(alloc)?,
+            marks: Marks::make(alloc, cells)?,
         })
     }
 
     /// The canonical text of a call, `[NAME,ARGS]` with no space, of a name and arguments, or the first fault on the walk
-    /// over the arguments. It takes no memory.
+    /// over the arguments, their length last. It takes no memory.
     pub fn write_call(&mut self, heap: &Heap, name: Span, args: Value) -> Result<&[u8], Fault>
         requires { length (quoted (utf8_of (text_at heap.now.pool name))) ≤ 73 }
         ensures text { MatchResult result (λ text. call_text heap.now name args ≡ Ok text.now)
@@ -61,6 +67,7 @@ impl CallRow {
             &mut self.text,
             &mut self.part,
             &mut self.places,
+            &mut self.marks,
             heap,
             name,
             &args,
@@ -74,6 +81,7 @@ fn fill(
     text: &mut Vec<u8>,
     part: &mut Line,
     places: &mut Places,
+    marks: &mut Marks,
     heap: &Heap,
     name: Span,
     args: &Value,
@@ -86,7 +94,7 @@ fn fill(
     ensures places { places.new ≡ places.old }
     ensures room { vec_capacity text.new ≡ vec_capacity text.old }
 {
-    left_after(heap, *args, MAX_DEPTH, MAX_LENGTH as u32)?;
+    judge(marks, heap, args)?;
     text.truncate(0);
     text.push_reserved(b'[');
     part.clear();
@@ -100,6 +108,21 @@ fn fill(
     }
     text.push_reserved(b']');
     Ok(())
+}
+
+// How many pieces are left behind the arguments of a call, or the first fault. More is walked only where a fault is met or
+// the pieces are spent.
+fn judge(marks: &mut Marks, heap: &Heap, args: &Value) -> Result<u32, Fault>
+    ensures { MatchResult result (λ left. left_after 8 heap.now args.now 16384 ≡ Ok left)
+        (λ fault. arguments_text heap.now args.now ≡ Err fault) }
+{
+    match left_after(heap, *args, MAX_DEPTH, MAX_LENGTH as u32) {
+        Ok(left) => Ok(left),
+        Err(spent) => {
+            marks.clear();
+            Err(first_fault(heap, *args, MAX_DEPTH as u8, marks).unwrap_or(spent))
+        }
+    }
 }
 
 // Puts a text behind others, if there is one.

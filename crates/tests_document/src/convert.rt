@@ -83,7 +83,7 @@ fn nested(alloc: Global, heap: &mut Heap, levels: u32, inner: Value) -> Result<V
 
 // The text of a call without a name, or its fault.
 fn told(alloc: Global, heap: &Heap, args: Value) -> Result<String, Fail> {
-    let mut row = CallRow::make(alloc)?;
+    let mut row = CallRow::make(alloc, ROOM.cells)?;
     match row.write_call(heap, Span { start: 0, count: 0 }, args) {
         Ok(text) => Ok(String::from_utf8(Vec::from_slice(alloc, text)?)?),
         Err(fault) => Ok(format!(in alloc; "{fault:?}")?),
@@ -157,5 +157,41 @@ fn a_text_has_at_most_16384_bytes(rt: HostRuntime) -> Result<(), Fail> {
     }
     let found = told(alloc, &heap, value)?;
     assert_eq!(rt; found.as_str(), "BadArgument");
+    Ok(())
+}
+
+#[test]
+fn the_first_fault_counts_and_the_length_last(rt: HostRuntime) -> Result<(), Fail> {
+    let alloc = rt.alloc();
+    let limits = HeapLimits {
+        cells: 5_000,
+        ..ROOM
+    };
+    let mut heap = Heap::make(alloc, limits)?;
+    let heap = &mut heap;
+    let mut units = vec![in alloc; 0x61; 17_000]?;
+    let long = Value::Text(heap.add_text(alloc, &units)?);
+    units[16_999] = 0xD800;
+    let ends_alone = Value::Text(heap.add_text(alloc, &units)?);
+    let lone = Value::Text(heap.add_text(alloc, &[0x61, 0xD800])?);
+    // One array a thousand times over, four deep: it is walked once for each depth.
+    let mut many = Value::Null;
+    for _ in 0..4 {
+        many = array_of(alloc, heap, &[many; 1_000])?;
+    }
+    let rows = [
+        (array_of(alloc, heap, &[long])?, "BadArgument"),
+        (array_of(alloc, heap, &[ends_alone])?, "LoneSurrogate"),
+        (array_of(alloc, heap, &[long, lone])?, "LoneSurrogate"),
+        (
+            array_of(alloc, heap, &[long, Value::Undefined, lone])?,
+            "BadArgument",
+        ),
+        (array_of(alloc, heap, &[many, lone])?, "LoneSurrogate"),
+    ];
+    for (value, text) in rows {
+        let found = told(alloc, heap, value)?;
+        assert_eq!(rt; found.as_str(), text);
+    }
     Ok(())
 }
