@@ -1,8 +1,8 @@
 -- What a browser goes with, and what each answer keeps.
-use Rattle.std.proofs.Common.{◌≡◌, ℕ, ◌+◌, nat_le, Bool, true, false, cond, Option, List, [], ◌∷◌, ◌++◌, length, refl, sym, ap, subst, arith}
+use Rattle.std.proofs.Common.{◌≡◌, ℕ, ◌+◌, nat_le, Bool, true, false, cond, Option, List, length, refl, sym, ap, subst, arith}
 use Rattle.std.specs.Prelude.{All, IfSome}
 use Rattle.std.proofs.lemmas.List.Elements.{All-push}
-use Rattle.rip_values.specs.declared.value.Limit.TheVariants.{Queue}
+use Rattle.rip_values.specs.declared.value.Limit.TheVariants.{Cells, Queue}
 use Rattle.rip_values.specs.declared.value.Value.TheVariants.{Undefined, Object}
 use Rattle.rip_values.specs.declared.value.Value.{Value as ScriptValue}
 use Rattle.rip_values.specs.Pool.{Texts}
@@ -10,12 +10,13 @@ use Rattle.rip_heap.specs.declared.host.HostDone.{HostDone}
 use Rattle.rip_heap.specs.declared.host.HostDone.TheVariants.{Value, TypeFault, Dom, Fault, Limit, Memory}
 use Rattle.rip_heap.specs.Growth.{Belongs}
 use Rattle.rip_heap.specs.Host.{Keeps, LeavesOnRefusal}
-use Rattle.rip_heap.specs.World.{World}
+use Rattle.rip_heap.specs.World.{World, paid}
 use Rattle.rip_dom.specs.Tree.{Tree}
 use Rattle.rip_nodes.specs.Answers.{AddsTexts, IsAnswered, KeepsTree}
 use Rattle.rip_host.specs.declared.browser.Browser.{Browser}
 use Rattle.rip_calls.specs.Calls.{Calls, used, with_call}
 use Rattle.rip_host.specs.declared.replies.WaitingReply.{WaitingReply}
+use Rattle.rip_host.specs.Listening.{is_spent}
 use Rattle.rip_host.specs.Ripley.{call_made, of_calls}
 use Rattle.rip_host.specs.Stays.{fits-stays}
 use Rattle.rip_host.specs.Visit.{Fits, KeepsBrowser, with_tree}
@@ -157,10 +158,36 @@ fits-served s w c replies f e all = record {
   reply_callbacks = all;
 }
 
+-- a cell more is charged
+charged : (w : World) → AddsTexts w (paid 1 w)
+charged w = record {
+  grows = record {
+    limit = refl;
+    unit_limit = refl;
+    text_limit = refl;
+    cells = omega arith;
+    units = omega arith;
+    texts = λ s h. refl;
+    spans = omega arith;
+    made = omega arith;
+    objects = λ i d h. (refl, refl, refl);
+    opened = omega arith;
+    scopes = λ i d h. (refl, refl);
+  };
+  objects = refl;
+}
+
+-- what is answered where a call is put behind those that were made
+abbrev put-call : World → Browser → List ℕ → Option ℕ → Bool → Bool → HostDone × World × Calls
+put-call w s text callback spent room = cond spent (Limit Cells, w, s.calls) (cond room (Value Undefined, paid 1 w, with_call s.calls text callback) (Limit Queue, w, s.calls))
+
 -- an answer of the calls
-pub keeps-call : (w : World) (s : Browser) (text : List ℕ) (callback : Option ℕ) → Fits s w → IfSome callback (λ f. Belongs w (Object f)) → KeepsBrowser w s (call_made w s callback text).0 w (call_made w s callback text).2
-keeps-call w s text callback f b = by (nat_le (used s.calls + (length text + 1)) s.calls.limit)
+pub keeps-call : (w : World) (s : Browser) (text : List ℕ) (callback : Option ℕ) → Fits s w → IfSome callback (λ f. Belongs w (Object f)) → KeepsBrowser w s (call_made w s callback text).0 (call_made w s callback text).1 (call_made w s callback text).2
+keeps-call w s text callback f b = by (is_spent w) (nat_le (used s.calls + (length text + 1)) s.calls.limit)
   where
-    by : (x : Bool) → KeepsBrowser w s (of_calls (cond x (Value Undefined, with_call s.calls text callback) (Limit Queue, s.calls)) w s).0 w (of_calls (cond x (Value Undefined, with_call s.calls text callback) (Limit Queue, s.calls)) w s).2
-    by true = keeps-value-here w s (record s { calls = with_call s.calls text callback }) Undefined (fits-call s w text callback f b) tt
-    by false = keeps-all w s (Limit Queue) f refl
+    by : (x y : Bool) → KeepsBrowser w s (of_calls (put-call w s text callback x y) s).0 (of_calls (put-call w s text callback x y) s).1 (of_calls (put-call w s text callback x y) s).2
+    by true y = keeps-all w s (Limit Cells) f refl
+    by false true =
+        keeps-value w (paid 1 w) s (record s { calls = with_call s.calls text callback }) Undefined
+        (fits-stays (record s { calls = with_call s.calls text callback }) w (paid 1 w) (fits-call s w text callback f b) (charged w).grows) (charged w) tt
+    by false false = keeps-all w s (Limit Queue) f refl

@@ -1,5 +1,5 @@
 -- A value that is read only adds texts to the pool.
-use Rattle.std.proofs.Common.{ℕ, Result}
+use Rattle.std.proofs.Common.{Result}
 use Rattle.rip_values.specs.declared.value.Span.{Span}
 use Rattle.rip_values.specs.Pool.{Texts}
 use Rattle.rip_heap.specs.Lending.{PoolGrows}

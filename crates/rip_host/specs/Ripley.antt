@@ -7,7 +7,7 @@ use Rattle.rip_values.specs.declared.fixed.FixedText.{FixedText}
 use Rattle.rip_values.specs.declared.fixed.FixedText.TheVariants.{Call, Now, Random}
 use Rattle.rip_values.specs.declared.value.Fault.{Fault}
 use Rattle.rip_values.specs.declared.value.Fault.TheVariants.{BadArgument}
-use Rattle.rip_values.specs.declared.value.Limit.TheVariants.{Queue}
+use Rattle.rip_values.specs.declared.value.Limit.TheVariants.{Cells, Queue}
 use Rattle.rip_values.specs.declared.value.Span.{Span}
 use Rattle.rip_values.specs.declared.value.Value.{Value}
 use Rattle.rip_values.specs.declared.value.Value.TheVariants.{Undefined, Null, Bool as Boolean, Num, NaN, Text, Object}
@@ -17,13 +17,13 @@ use Rattle.rip_heap.specs.declared.holder.Holder.TheVariants.{PlainObject, Array
 use Rattle.rip_heap.specs.declared.host.HostDone.{HostDone}
 use Rattle.rip_heap.specs.declared.host.HostDone.TheVariants as host
 use Rattle.rip_heap.specs.Holders.{holder_of}
-use Rattle.rip_heap.specs.World.{World, object_at}
+use Rattle.rip_heap.specs.World.{World, object_at, paid}
 use Rattle.rip_members.specs.Calls.{builtin_of}
 use Rattle.rip_wire.specs.Names.{is_name_letter}
 use Rattle.rip_calls.specs.Calls.{Calls, used, with_call}
 use Rattle.rip_convert.specs.Arguments.{call_text}
 use Rattle.rip_host.specs.declared.browser.Browser.{Browser}
-use Rattle.rip_host.specs.Listening.{is_function_object}
+use Rattle.rip_host.specs.Listening.{is_function_object, is_spent}
 
 -- the function of `ripley` that has this name
 abbrev pub ripley_member : FixedText → Option Builtin
@@ -106,18 +106,20 @@ call_callback w (Num z) = None
 call_callback w NaN = None
 call_callback w (Text span) = None
 
--- the calls with one more of this text and callback, where it has room among the bytes that wait
-abbrev pub call_put : Calls → Option ℕ → List ℕ → HostDone × Calls
-call_put c callback text =
-    if nat_le (used c + (length text + 1)) c.limit then (host.Value Undefined, with_call c text callback)
-    else (host.Limit Queue, c)
+-- the calls with one more of this text and callback, at a cell, where one is left and the bytes that wait have room for the
+-- text; else nothing is changed
+abbrev pub call_put : World → Calls → Option ℕ → List ℕ → HostDone × World × Calls
+call_put w c callback text =
+    if is_spent w then (host.Limit Cells, w, c)
+    else if nat_le (used c + (length text + 1)) c.limit then (host.Value Undefined, paid 1 w, with_call c text callback)
+    else (host.Limit Queue, w, c)
 
-abbrev pub of_calls : HostDone × Calls → World → Browser → HostDone × World × Browser
-of_calls put w s = (put.0, w, record s { calls = put.1 })
+abbrev pub of_calls : HostDone × World × Calls → Browser → HostDone × World × Browser
+of_calls put s = (put.0, put.1, record s { calls = put.2 })
 
 -- the call is made
 abbrev pub call_made : World → Browser → Option ℕ → List ℕ → HostDone × World × Browser
-call_made w s callback text = of_calls (call_put s.calls callback text) w s
+call_made w s callback text = of_calls (call_put w s.calls callback text) s
 
 -- the same where the walk over the arguments comes to a text; else it answers its fault
 abbrev pub call_judged : World → Browser → Option ℕ → Result (List ℕ) Fault → HostDone × World × Browser
@@ -132,6 +134,6 @@ call_with w s (Some name) true None args = (host.Fault BadArgument, w, s)
 call_with w s (Some name) true (Some callback) args = call_judged w s callback (call_text w name args)
 
 -- `ripley.call(n, a, c)`: n is a name, a an array, c a function, null or undefined, which are judged before the walk over
--- the array; the room is judged last
+-- the array; the limits are judged last, that of cells before that of the bytes that wait
 abbrev pub ripley_call : World → Browser → Value → Value → Value → HostDone × World × Browser
 ripley_call w s n a c = call_with w s (call_name w n) (is_array w a) (call_callback w c) a

@@ -1,5 +1,5 @@
 -- The code of the trees that data stand for.
-use Rattle.std.specs.Prelude.{◌≡◌, ℕ, zero, suc, ℤ, pos, negsuc, Bool, true, false, List, [], ◌∷◌, refl}
+use Rattle.std.specs.Prelude.{◌≡◌, ℕ, zero, suc, pos, negsuc, true, false, List, [], ◌∷◌, refl}
 use Rattle.std.specs.Coded.{Coded, code_by}
 use mathlib.Core.Path.{ap, ◌∙◌}
 use base.Stored.{Gv, gnil, gnum, gcons}

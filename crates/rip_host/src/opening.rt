@@ -50,7 +50,7 @@ impl Browser {
             events: Events::make(alloc, limits.cells)?,
             calls: Queue::make(alloc, limits.queue)?,
             undelivered: Undelivered::make(alloc)?,
-            row: CallRow::make(alloc)?,
+            row: CallRow::make(alloc, limits.cells)?,
             moment: time,
             random: seed,
             body: body_of(page),

@@ -96,14 +96,20 @@ fn call_callback(heap: &Heap, v: &Value) -> Option<Option<u32>>
     }
 }
 
-// Puts a call behind those that were made.
-fn put_call(calls: &mut Queue, callback: Option<u32>, text: &[u8]) -> HostDone
+// Puts a call behind those that were made, at a cell.
+fn put_call(heap: &mut Heap, calls: &mut Queue, callback: Option<u32>, text: &[u8]) -> HostDone
     requires line { IsOneLine text.now }
     requires least { least_text ≤ length text.now }
-    ensures { (result, calls.new) ≡ call_put calls.old callback text.now }
+    ensures { (result, heap.new, calls.new) ≡ call_put heap.old calls.old callback text.now }
 {
+    if heap.free_cells() == 0 {
+        return HostDone::Limit(Limit::Cells);
+    }
     match calls.push_made(text, callback) {
-        Ok(_) => HostDone::Value(Value::Undefined),
+        Ok(_) => {
+            heap.charge(1).unwrap();
+            HostDone::Value(Value::Undefined)
+        }
         Err(_) => HostDone::Limit(Limit::Queue),
     }
 }
@@ -112,15 +118,15 @@ impl Browser {
     /// `ripley.call(name, args, callback)`.
     pub(crate) fn ripley_call(
         &mut self,
-        heap: &Heap,
+        heap: &mut Heap,
         name: &Value,
         args: &Value,
         callback: &Value,
     ) -> HostDone
-        requires fits { Fits self.old heap.now }
-        ensures answer { (result, heap.now, self.new) ≡
-            ripley_call heap.now self.old name.now args.now callback.now }
-        ensures keeps { KeepsBrowser heap.now self.old result heap.now self.new }
+        requires fits { Fits self.old heap.old }
+        ensures answer { (result, heap.new, self.new) ≡
+            ripley_call heap.old self.old name.now args.now callback.now }
+        ensures keeps { KeepsBrowser heap.old self.old result heap.new self.new }
     {
         let Some(name) = call_name(heap, name) else {
             return HostDone::Fault(Fault::BadArgument);
@@ -137,20 +143,20 @@ impl Browser {
     // Makes a call, once the walk over its arguments has come to a text.
     fn make_call(
         &mut self,
-        heap: &Heap,
+        heap: &mut Heap,
         name: Span,
         args: &Value,
         callback: Option<u32>,
     ) -> HostDone
-        requires fits { Fits self.old heap.now }
-        requires name { is_call_name (text_at heap.now.pool name) ≡ true }
-        requires belongs { IfSome callback (λ f. Belongs heap.now (ObjectValue f)) }
-        ensures answer { (result, heap.now, self.new) ≡
-            call_judged heap.now self.old callback (call_text heap.now name args.now) }
-        ensures keeps { KeepsBrowser heap.now self.old result heap.now self.new }
+        requires fits { Fits self.old heap.old }
+        requires name { is_call_name (text_at heap.old.pool name) ≡ true }
+        requires belongs { IfSome callback (λ f. Belongs heap.old (ObjectValue f)) }
+        ensures answer { (result, heap.new, self.new) ≡
+            call_judged heap.old self.old callback (call_text heap.old name args.now) }
+        ensures keeps { KeepsBrowser heap.old self.old result heap.new self.new }
     {
         match self.row.write_call(heap, name, *args) {
-            Ok(text) => put_call(&mut self.calls, callback, text),
+            Ok(text) => put_call(heap, &mut self.calls, callback, text),
             Err(fault) => HostDone::Fault(fault),
         }
     }

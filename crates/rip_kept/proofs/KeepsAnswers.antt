@@ -18,7 +18,7 @@ use Rattle.rip_heap.specs.Conversions.{boolean_of, number_of, span_of, text_faul
 use Rattle.rip_heap.specs.declared.host.HostDone.{HostDone}
 use Rattle.rip_heap.specs.declared.host.HostDone.TheVariants as host
 use Rattle.rip_heap.specs.Host.{Request, Reads, Writes, Calls}
-use Rattle.rip_heap.specs.World.{World}
+use Rattle.rip_heap.specs.World.{World, paid}
 use Rattle.rip_members.specs.Calls.{builtin_of}
 use Rattle.rip_calls.specs.Calls.{Calls as Queued, used, with_call}
 use Rattle.rip_convert.specs.Arguments.{call_text}
@@ -241,17 +241,21 @@ listener_added_keeps w s k t f c = fault_keeps (text_fault w.pool t) w s (added_
 listener_removed_keeps : (w : World) (s : Browser) (k : ℕ) (t f c : Value) → kept (listener_removed w s k t f c) ≡ held s
 listener_removed_keeps w s k t f c = fault_keeps (text_fault w.pool t) w s (removed_by w s k t (handler_of w f) (boolean_of w.pool c)) (removed_keeps w s k t (handler_of w f) (boolean_of w.pool c))
 
-abbrev queued : HostDone × Queued → ℕ × ℕ
-queued put = ((let c = put.1 in c.taken), (let c = put.1 in c.limit))
+abbrev queued : HostDone × World × Queued → ℕ × ℕ
+queued put = ((let c = put.2 in c.taken), (let c = put.2 in c.limit))
 
-if_queued : (b : Bool) (x y : HostDone × Queued) (k : ℕ × ℕ) → queued x ≡ k → queued y ≡ k → queued (if b then x else y) ≡ k
+if_queued : (b : Bool) (x y : HostDone × World × Queued) (k : ℕ × ℕ) → queued x ≡ k → queued y ≡ k → queued (if b then x else y) ≡ k
 if_queued true x y k h g = h
 if_queued false x y k h g = g
 
 judged_keeps : (w : World) (s : Browser) (callback : Option ℕ) (r : Result (List ℕ) Fault) → count (kept (call_judged w s callback r)) ≡ count (held s)
 judged_keeps w s callback (Ok text) =
+    let k : ℕ × ℕ = ((let c = s.calls in c.taken), (let c = s.calls in c.limit)) in
+    let room : Bool = nat_le (used s.calls + (length text + 1)) (let c = s.calls in c.limit) in
+    let made : HostDone × World × Queued = (host.Value Undefined, paid 1 w, with_call s.calls text callback) in
+    let full : HostDone × World × Queued = (host.Limit Queue, w, s.calls) in
     ap (λ (q : ℕ × ℕ). (q.0, s.undelivered, (let t = s.dom in t.limit), q.1))
-    (if_queued (nat_le (used s.calls + (length text + 1)) (let c = s.calls in c.limit)) (host.Value Undefined, with_call s.calls text callback) (host.Limit Queue, s.calls) ((let c = s.calls in c.taken), (let c = s.calls in c.limit)) refl refl)
+    (if_queued (is_spent w) (host.Limit Cells, w, s.calls) (if room then made else full) k refl (if_queued room made full k refl refl))
 judged_keeps w s callback (Err fault) = refl
 
 call_with_keeps : (w : World) (s : Browser) (name : Option Span) (array : Bool) (callback : Option (Option ℕ)) (args : Value) → count (kept (call_with w s name array callback args)) ≡ count (held s)

@@ -4,7 +4,7 @@ use Rattle.std.specs.Prelude.{◌+◌, ◌&&◌, nat_le, if◌then◌else◌}
 use Rattle.std.specs.List.{AllByRecursion, list_all}
 use Rattle.std.proofs.lemmas.Bool.{leb-true}
 use Rattle.rip_values.specs.declared.value.Fault.{Fault}
-use Rattle.rip_values.specs.declared.value.Limit.TheVariants.{Queue}
+use Rattle.rip_values.specs.declared.value.Limit.TheVariants.{Cells, Queue}
 use Rattle.rip_values.specs.declared.value.Span.{Span}
 use Rattle.rip_values.specs.declared.value.Value.{Value}
 use Rattle.rip_values.specs.declared.value.Value.TheVariants.{Undefined, Null, Bool as Boolean, Num, NaN, Text, Object}
@@ -14,7 +14,7 @@ use Rattle.rip_heap.specs.declared.holder.Holder.TheVariants.{PlainObject, Array
 use Rattle.rip_heap.specs.declared.host.HostDone.{HostDone}
 use Rattle.rip_heap.specs.declared.host.HostDone.TheVariants as host
 use Rattle.rip_heap.specs.Holders.{holder_of}
-use Rattle.rip_heap.specs.World.{World, object_at}
+use Rattle.rip_heap.specs.World.{World, object_at, paid}
 use Rattle.rip_calls.specs.Calls.{Calls, MadeCall, used, with_call}
 use Rattle.rip_data.specs.Datum.{utf8_of}
 use Rattle.rip_wire.specs.Calls.{IsCallText}
@@ -23,6 +23,7 @@ use Rattle.rip_convert.specs.Arguments.{call_text}
 use Rattle.rip_convert.specs.Told.{IsListCall}
 use Rattle.rip_convert.proofs.Calling.{lists_are_told}
 use Rattle.rip_host.specs.declared.browser.Browser.{Browser}
+use Rattle.rip_host.specs.Listening.{is_spent}
 use Rattle.rip_host.specs.Ripley.{call_callback, call_judged, call_name, call_with, is_array, is_array_holder, is_call_name}
 use Rattle.rip_kept.specs.Laws.{AreMadeInRange, CallsStayInRange}
 use Rattle.rip_kept.proofs.KeepsAnswers.{calls_stay}
@@ -86,11 +87,14 @@ with_more [] m all one = (one, tt)
 with_more (x ∷ ms) m all one = (all.0, with_more ms m all.1 one)
 
 judged_range : (w : World) (s : Browser) (callback : Option ℕ) (r : Result (List ℕ) Fault) → ((text : List ℕ) → r ≡ Ok text → IsCallText text) → AreMadeInRange s.calls → AreMadeInRange (calls_of (call_judged w s callback r))
-judged_range w s callback (Ok text) told all = by (nat_le (used s.calls + (length text + 1)) (let c = s.calls in c.limit))
+judged_range w s callback (Ok text) told all = by (is_spent w) (nat_le (used s.calls + (length text + 1)) (let c = s.calls in c.limit))
   where
-    by : (b : Bool) → AreMadeInRange (let put : HostDone × Calls = if b then (host.Value Undefined, with_call s.calls text callback) else (host.Limit Queue, s.calls) in put.1)
-    by true = with_more (let c = s.calls in c.made) (record { text = text; callback = callback }) all (told text refl)
-    by false = all
+    by : (spent room : Bool)
+        → AreMadeInRange (let put : HostDone × World × Calls = if spent then (host.Limit Cells, w, s.calls)
+        else if room then (host.Value Undefined, paid 1 w, with_call s.calls text callback) else (host.Limit Queue, w, s.calls) in put.2)
+    by true room = all
+    by false true = with_more (let c = s.calls in c.made) (record { text = text; callback = callback }) all (told text refl)
+    by false false = all
 judged_range w s callback (Err fault) told all = all
 
 with_range : (w : World) (s : Browser) (name : Option Span) (array : Bool) (callback : Option (Option ℕ)) (v : Value) → ((span : Span) → name ≡ Some span → IsName (text_at w.pool span)) → is_array w v ≡ array

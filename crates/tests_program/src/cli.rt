@@ -23,6 +23,8 @@ const TRACE: &[u8] =
 const FALSE_TRACE: &[u8] =
     b"open 0\nsay 0 get\nsay 0 e 1 {\"batch\":1,\"items\":[[\"call\",1,\"f\",[1]],[\"call\",2,\"f\",[3]]]}";
 
+const OPENING_TRACE: &[u8] = b"open 0\nsay 0 get\n";
+
 const OTHER_TRACE: &[u8] = b"open 0\nsay 0 get\nquit\n";
 
 const CLICKED_TRACE: &[u8] =
@@ -194,6 +196,28 @@ fn replays_a_trace(rt: HostRuntime) -> Result<(), Fail> {
         let (status, put) = run(rt.alloc(), &words[..count], &named, &[])?;
         assert_eq!(rt; status, expected, "{text}");
         assert!(rt; put.as_slice() == text.as_bytes(), "{text}");
+    }
+    Ok(())
+}
+
+#[test]
+fn charges_a_cell_and_then_bytes_for_a_made_call(rt: HostRuntime) -> Result<(), Fail> {
+    let table = [
+        ("\"cells\":14", "ok"),
+        ("\"cells\":13", "cells 1"),
+        ("\"cells\":14,\"queue\":19", "queue 1"),
+        ("\"cells\":6,\"queue\":9", "cells 1"),
+    ];
+    let alloc = rt.alloc();
+    for (limits, ending) in table {
+        let app = format!(in alloc;
+            "{{\"version\":1,\"functions\":{{}},\"limits\":{{{limits}}}}}"
+        )?;
+        let log = format!(in alloc; "{OPENING}done 2 1 0 {ending}\nend 3 0\n")?;
+        let named = [("p", PAGE), ("a", app.as_bytes()), ("t", OPENING_TRACE)];
+        let (status, put) = run(alloc, &["replay", "p", "a", "t"], &named, &[])?;
+        assert_eq!(rt; status, Status::Read, "{limits}");
+        assert!(rt; put.as_slice() == log.as_bytes(), "{limits}");
     }
     Ok(())
 }

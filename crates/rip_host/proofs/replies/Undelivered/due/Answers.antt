@@ -1,4 +1,4 @@
-use Rattle.std.proofs.Common.{◌≡◌, Some, None, sym, ap, ◌∙◌, arith, rules}
+use Rattle.std.proofs.Common.{sym, ◌∙◌, rules}
 use Rattle.rip_host.proofs.ReplyLemmas.{found_at, found_none}
 use Rattle.rip_host.proofs.replies.Undelivered.due.Goals as goal
 

@@ -1,8 +1,5 @@
-use Rattle.std.proofs.Common.{◌≡◌, ℕ, Some, None, suc, List, ◌++◌, take, drop, get_or, sym, ap, ◌∙◌, arith, position}
+use Rattle.std.proofs.Common.{◌≡◌, Some, get_or, sym, ap, ◌∙◌}
 use Rattle.std.specs.Prelude.{remove}
-use Rattle.std.proofs.lemmas.Grind.{common_steps}
-use Rattle.rip_host.specs.declared.replies.WaitingReply.{WaitingReply}
-use Rattle.rip_host.specs.Replies.{is_due}
 use Rattle.rip_host.proofs.ReplyLemmas.{found_at, found_none}
 use Rattle.rip_host.proofs.replies.Undelivered.take_due.Goals as goal
 
