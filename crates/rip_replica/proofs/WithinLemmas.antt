@@ -199,6 +199,7 @@ waits_by e d may batch next at n u from base spent ahead r x t left (serves numb
       args = args;
       keeps = keeps_moved e d may batch at r at.place x t kept stands.keeps;
       is = left.is;
+      one = left.one;
       few = left.few;
       fact = fact;
       may_serve = h.0;
@@ -307,7 +308,7 @@ within_ended e d may batch next at n u from base spent ahead r x t close place i
           ∙ after_ended d batch at.all at.begun base left.item (whole_item d batch left.item at.begun left.world left.page (first_given gs))
           (λ k y z. items_parts d batch at.all (at.begun + 1) k (drop at.begun at.all) (given_behind (d.fact left.item) gs) y z (next bs))
           close (change ∷ []) r.fuel whole.0 c x t whole.1 ends (ap (λ m. base + 1 + m) whole.2)),
-      λ mismatch. (left.item, left.is, mismatch_serves d.run d.full may (d.fact left.item) plan [] [] d.full r.fuel (left.units + (n + 0)) (u + 0) x t close shape (over [] 0) mismatch),
+      λ mismatch. (left.one, left.item, left.is, mismatch_serves d.run d.full may (d.fact left.item) plan [] [] d.full r.fuel (left.units + (n + 0)) (u + 0) x t close shape (over [] 0) mismatch),
     )
 
 pub within_lacks : {M A S : Type 0} (e : Evaluation M S) (d : Doing A S) (may : S → Bool) (batch : ℕ) (next : Behind S) (at : Spot M A S) (n from base spent : ℕ) (ahead : Ahead)

@@ -1,5 +1,5 @@
 -- A session with rooms for its items wants memory only at an item that reports a call.
-use Rattle.std.specs.Prelude.{◌≡◌, ℕ, ◌-◌, true, List, [], ◌∷◌, Option, None, Some, slice_get}
+use Rattle.std.specs.Prelude.{◌≡◌, ℕ, ◌-◌, ◌≤◌, true, List, [], ◌∷◌, Option, None, Some, slice_get}
 use Rattle.rip_heap.specs.World.{World}
 use Rattle.rip_wire.specs.declared.ending.Ending.{Ending}
 use Rattle.rip_wire.specs.declared.ending.Ending.TheVariants as ending
@@ -53,7 +53,7 @@ pub record IsRoomed {M I A S : Type 0} (e : Evaluation M S) (has_room : M → �
 
 -- the item of this number, counted from 1, is there and reports a call
 abbrev pub IsCallAt : {A : Type 0} → (A → Fact) → List A → ℕ → Type 0
-IsCallAt fact items number = (a : _) × (slice_get items (number - 1) ≡ Some a) × (serves_call (fact a) ≡ true)
+IsCallAt fact items number = (1 ≤ number) × (a : _) × (slice_get items (number - 1) ≡ Some a) × (serves_call (fact a) ≡ true)
 
 -- the next part is that of an item which reports a call
 abbrev pub HeadsCall : List Part → Type 0

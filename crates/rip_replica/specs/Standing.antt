@@ -175,6 +175,7 @@ pub record Waits {M A S : Type 0} (e : Evaluation M S) (d : Doing A S) (may : S 
   pub args : List _
   pub keeps : Keeps e d may batch at
   pub is : slice_get at.all (at.begun - 1) ≡ Some item
+  pub one : 1 ≤ at.begun
   pub few : at.begun ≤ length at.all
   pub fact : d.fact item ≡ serves number name args
   pub may_serve : may at.page ≡ true

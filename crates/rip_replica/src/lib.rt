@@ -17,7 +17,7 @@
 //! | [`Replica::resume`] | `Slices.SlicedSo`: what comes of a slice is `Slices.Comes`, with the served calls `Slices.AreServed`; at a stage of the server's course `Stages.Resumed` (`rip_course`) |
 //! | a session at such a stage: busy, idle, ended | `Sessions.IsAt` |
 //! | a batch that goes on; that is done; that an item ends; where memory is wanting | `Slices.BusySo`, `DoneSo`, `EndsSo`, `LacksSo` |
-//! | that memory is wanting only at a call, where there are rooms for the items | `Rooms.IsAtCall`, by `Rooms.HasRooms` (`rip_runner`) |
+//! | that memory is wanting only at a call, where there are rooms for the items | `Rooms.IsCallAt`, by `Rooms.HasRooms` (`rip_runner`) |
 //! | [`AtItem`], one item of a batch as a plan | `Standing.planned`, and what each step keeps `Kept.IsKept` |
 //!
 //! | law | its definition |

@@ -67,6 +67,7 @@ impl<E, I, T, H> Replica<E, I, T, H> {
             self.old.runner.planner.begun
             (length self.new.runner.planner.batch.items) self.new.place self.new.runner.planner.begun result }
         ensures number { self.new.number ≡ self.old.number }
+        ensures batch { self.new.runner.planner.batch ≡ self.old.runner.planner.batch }
         ensures page { (number : H → ℕ) → KeepsSteps (E.evaluation program.now) I.under_way number
             → HasNumber result (number self.old.host) (number self.new.host) }
         ensures memory { KeepsSteps (E.evaluation program.now) I.under_way I.need
@@ -102,6 +103,7 @@ impl<E, I, T, H> Replica<E, I, T, H> {
             self.old.runner.planner.begun
             (length self.new.runner.planner.batch.items) self.new.place self.new.runner.planner.begun result }
         ensures number { self.new.number ≡ self.old.number }
+        ensures batch { self.new.runner.planner.batch ≡ self.old.runner.planner.batch }
         ensures idle { StandsIdle result self.new.place }
         ensures world { (self.new.heap ≡ self.old.heap) × (self.new.host ≡ self.old.host) }
         ensures memory { (program : E.Program)
@@ -141,6 +143,7 @@ impl<E, I, T, H> Replica<E, I, T, H> {
             self.old.runner.planner.begun
             (length self.new.runner.planner.batch.items) self.new.place self.new.runner.planner.begun result }
         ensures number { self.new.number ≡ self.old.number }
+        ensures batch { self.new.runner.planner.batch ≡ self.old.runner.planner.batch }
         ensures page { (number : H → ℕ) → KeepsSteps (E.evaluation program.now) I.under_way number
             → HasNumber result (number self.old.host) (number self.new.host) }
         ensures memory { KeepsSteps (E.evaluation program.now) I.under_way I.need

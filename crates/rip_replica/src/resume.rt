@@ -69,6 +69,7 @@ impl<E, I, T, H> Replica<E, I, T, H> {
         ensures fits { H.fits self.new.host self.new.heap }
         ensures grows { Grows self.old.heap self.new.heap }
         ensures number { self.new.number ≡ self.old.number }
+        ensures batch { self.new.runner.planner.batch ≡ self.old.runner.planner.batch }
         ensures page { (number : H → ℕ) → KeepsSteps (E.evaluation program.now) I.under_way number
             → KeepsServed I.served number → HasNumberSo result (number self.old.host)
             (number self.new.host) }
@@ -127,6 +128,7 @@ impl<E, I, T, H> Replica<E, I, T, H> {
         ensures fits { H.fits self.new.host self.new.heap }
         ensures grows { Grows self.old.heap self.new.heap }
         ensures number { self.new.number ≡ self.old.number }
+        ensures batch { self.new.runner.planner.batch ≡ self.old.runner.planner.batch }
         ensures page { (number : H → ℕ) → KeepsSteps (E.evaluation program.now) I.under_way number
             → KeepsServed I.served number → HasNumberSo result (number self.old.host)
             (number self.new.host) }

@@ -19,6 +19,7 @@ loop-units-init g c = record {
   fits = c.requires;
   grows = search rules;
   number = refl;
+  batch = refl;
   went = λ d next from base ahead service calls agrees stands replies.
       went_first (g.E.Evaluator.evaluation c.args.program.now) d g.I.Works.may_serve c.args.self.now.number next from base (from + c.args.slice.now.units) c.args.slice.now.units ahead service calls c.args.slice.now c.args.made.now
       (spot g.I.Items.item_plan g.I.Items.under_way c.args.self.now) (g.V.Service.replies_as c.args.service.now service) refl stands replies;
@@ -35,6 +36,7 @@ loop-units-preserved-in-On g c =
       fits = c.in-On.ensures.fits;
       grows = search (rules, c.loop-units.invariant.grows, c.in-On.ensures.grows);
       number = c.in-On.ensures.number ∙ c.loop-units.invariant.number;
+      batch = c.in-On.ensures.batch ∙ c.loop-units.invariant.batch;
       went = λ d next from base ahead service calls agrees stands replies.
           (let went = c.loop-units.invariant.went d next from base ahead service calls agrees stands replies in
           went_on e d g.I.Works.may_serve c.args.self.now.number next from base (from + c.args.slice.now.units) ahead service calls c.args.slice.now c.args.made.now c.loop-units.made
@@ -109,6 +111,7 @@ loop-units-preserved g c =
       fits = c.in-Ok.ensures.fits;
       grows = subst G (sym c.in-Ok.ensures.kept.1) (search (rules, c.loop-units.invariant.grows, c.in-Calls.ensures.grows));
       number = c.in-Ok.ensures.kept.2 ∙ c.in-Calls.ensures.number ∙ c.loop-units.invariant.number;
+      batch = ap (λ r. r.planner.batch) c.in-Ok.ensures.kept.0 ∙ c.in-Calls.ensures.batch ∙ c.loop-units.invariant.batch;
       went = λ d next from base ahead service calls agrees stands replies.
           (let b : ℕ = c.args.self.now.number in
           let limit : ℕ = from + c.args.slice.now.units in
@@ -186,7 +189,7 @@ returns-in-Err-clause-memory g c = λ d next from base ahead service calls agree
     let F : (_ → Fact) → Type 0 = λ f. IsCallAt f c.turn.new.self.runner.planner.batch.items c.turn.new.self.runner.planner.begun in
     call_here g.I.Works.fact c.turn.new.self.runner c.lack-in-Err.new.self.runner c.lack-in-Err.result item (c.lack-in-Err.ensures.kept.0 ∙ c.in-Err.ensures.kept.0)
     (c.lack-in-Err.ensures.lacks ∙ ap (λ r. Finished (Some (Memory r.planner.begun))) c.in-Err.ensures.kept.0) is
-    (subst F agrees.facts (waits.item, waits.is, ap serves_call waits.fact))
+    (subst F agrees.facts (waits.one, waits.item, waits.is, ap serves_call waits.fact))
 
 pub returns-in-Busy-clause-rooms : goal.returns-in-Busy-clause-rooms
 returns-in-Busy-clause-rooms g c = λ roomed.
