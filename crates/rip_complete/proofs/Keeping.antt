@@ -29,7 +29,7 @@ use Rattle.rip_machine.specs.Law.{Standing, loaded}
 use Rattle.rip_machine.specs.Loading.{cost_of_literals}
 use Rattle.rip_machine.specs.Plans.{evaluation}
 use Rattle.rip_machine.specs.Starting.{begun_by}
-use Rattle.rip_machine.specs.Table.{table}
+use Rattle.rip_language.specs.Table.{table}
 use Rattle.rip_tree.specs.Program.{Code}
 use Rattle.rip_visit.specs.Calls.{position_of}
 use Rattle.rip_visit.specs.Replies.{delivery, handed, taken_out}

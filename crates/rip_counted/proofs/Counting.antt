@@ -10,7 +10,7 @@ use Rattle.rip_machine.specs.PlanLaws.{ends, once}
 use Rattle.rip_machine.specs.Plans.{evaluation}
 use Rattle.rip_machine.specs.Run.{run_begun}
 use Rattle.rip_machine.specs.Starting.{Beginning, Exceeds, Runs, begun_by}
-use Rattle.rip_machine.specs.Table.{table}
+use Rattle.rip_language.specs.Table.{table}
 use Rattle.rip_replica.specs.Plays.{CountsUnits, LeavesAtMost, WantsMore}
 use Rattle.rip_replica.proofs.RunUnits.{of-lent, of-wants}
 

@@ -18,12 +18,12 @@ use Rattle.rip_runs.specs.Rest.{as_row}
 use Rattle.rip_runs.specs.Row.{Asks, Halts, Row, Table}
 use Rattle.rip_runs.specs.Run.{world_at}
 use Rattle.rip_runs.specs.Stack.{Open, framed}
-use Rattle.rip_machine.specs.declared.rows.calls.Invocable.{Invocable}
-use Rattle.rip_machine.specs.declared.rows.calls.Invocable.TheVariants.{OfScript}
+use Rattle.rip_language.specs.declared.callee.Invocable.{Invocable}
+use Rattle.rip_language.specs.declared.callee.Invocable.TheVariants.{OfScript}
 use Rattle.rip_machine.specs.Law.{Starts, StartsRun, standing}
-use Rattle.rip_machine.specs.Reading.{Loaded}
-use Rattle.rip_machine.specs.Rows.Functions.{body, function_entered}
-use Rattle.rip_machine.specs.Rows.Statements.{statements}
+use Rattle.rip_language.specs.Reading.{Loaded}
+use Rattle.rip_language.specs.Rows.Functions.{body, function_entered}
+use Rattle.rip_language.specs.Rows.Statements.{statements}
 use Rattle.rip_machine.specs.Starting.{Beginning, Runs, call_begun, function_begun, function_part}
 
 -- the call of a function of the script runs its statements

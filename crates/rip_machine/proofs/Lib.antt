@@ -1,14 +1,7 @@
-pub mod Abruptly
 pub mod Beginnings
-pub mod Children
-pub mod Clauses
-pub mod Declared
-pub mod Filling
-pub mod InPlace
 pub mod Loads
 pub mod LoopRuns
 pub mod PlanLaws
 pub mod Roomed
-pub mod Scopes
 pub mod TakenBack
 pub mod WholeRuns

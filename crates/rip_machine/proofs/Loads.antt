@@ -12,8 +12,8 @@ use Rattle.rip_tree.specs.declared.node.Node.{Node}
 use Rattle.rip_tree.specs.Branches.{Branch, links_of, node_of}
 use Rattle.rip_tree.specs.Firsts.{first_named, first_with, name_at, name_of}
 use Rattle.rip_tree.specs.Program.{Code, Grove}
-use Rattle.rip_machine.specs.Loading.{StandsIfAny, TextsStand, form_cost, form_text, name_span, node_cost, own_span, own_text, place_of, put_text, span_of, texts_before, with_form}
-use Rattle.rip_machine.specs.Reading.{form_in}
+use Rattle.rip_machine.specs.Loading.{StandsIfAny, TextsStand, form_cost, form_text, name_span, node_cost, own_span, own_text, start_of_text, put_text, span_of, texts_before, with_form}
+use Rattle.rip_language.specs.Reading.{form_in}
 
 -- the branches from this one on
 pub branches_from : (bs : List Branch) (id : ℕ) (node : Node) → node_of bs id ≡ Some node → drop id bs ≡ record { node = node; children = links_of bs id } ∷ drop (id + 1) bs
@@ -64,8 +64,8 @@ form_is code id node h = ap form_in h
 pub own_spans : (code : Code) (w x : World) (id : ℕ) (node : Node) (span : Span) → node_of code.grove.branches id ≡ Some node → first_named code.grove id ≡ id
     → x ≡ loaded_before code id w → span ≡ own_span (length x.pool.units) code.grove.units node.form → span ≡ span_of code w id
 own_spans code w x id node span h own loaded is =
-    let start : length x.pool.units ≡ place_of code w id = ap (λ (y : World). length y.pool.units) loaded ∙ length-append w.pool.units (texts_before code id) in
-    is ∙ ap₂ (λ n f. own_span n code.grove.units f) (start ∙ ap (place_of code w) (sym own)) (sym (form_is code id node h))
+    let start : length x.pool.units ≡ start_of_text code w id = ap (λ (y : World). length y.pool.units) loaded ∙ length-append w.pool.units (texts_before code id) in
+    is ∙ ap₂ (λ n f. own_span n code.grove.units f) (start ∙ ap (start_of_text code w) (sym own)) (sym (form_is code id node h))
 
 pub own_world : (code : Code) (w x y : World) (id : ℕ) (node : Node) → node_of code.grove.branches id ≡ Some node → first_named code.grove id ≡ id
     → x ≡ loaded_before code id w → y ≡ with_form code.grove.units node.form x → y ≡ loaded_before code (id + 1) w
@@ -118,9 +118,9 @@ named_span start g id name h = of_named (λ f. own_span start g.units f ≡ name
 pub copied_span : (code : Code) (w : World) (id first : ℕ) (name : List ℕ) → name_at code.grove id ≡ Some name → name_at code.grove first ≡ name_at code.grove id
     → first_named code.grove first ≡ first_named code.grove id → span_of code w first ≡ span_of code w id
 copied_span code w id first name h same is =
-    named_span (place_of code w (first_named code.grove first)) code.grove first name (same ∙ h)
-    ∙ ap (λ n. name_span (place_of code w n) name) is
-    ∙ sym (named_span (place_of code w (first_named code.grove id)) code.grove id name h)
+    named_span (start_of_text code w (first_named code.grove first)) code.grove first name (same ∙ h)
+    ∙ ap (λ n. name_span (start_of_text code w n) name) is
+    ∙ sym (named_span (start_of_text code w (first_named code.grove id)) code.grove id name h)
 
 -- it puts nothing in
 pub copied_world : (code : Code) (w x : World) (id : ℕ) (name : List ℕ) → name_at code.grove id ≡ Some name → first_named code.grove id < id → x ≡ loaded_before code id w → x ≡ loaded_before code (id + 1) w

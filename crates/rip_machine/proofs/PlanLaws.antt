@@ -1,9 +1,7 @@
 -- The machine as plans see it.
-use Rattle.std.proofs.Common.{◌≡◌, ℕ, ◌+◌, ◌-◌, ◌≤◌, min, List, Option, None, Some, Result, Ok, Err, refl, ap, sym, subst, ◌∙◌, arith}
-use Rattle.rip_values.specs.declared.value.Limit.{Limit}
+use Rattle.std.proofs.Common.{◌≡◌, ℕ, ◌+◌, ◌-◌, ◌≤◌, min, Option, None, Some, Result, Ok, Err, refl, ap, sym, ◌∙◌, arith}
 use Rattle.rip_values.specs.declared.value.Refused.{Refused}
 use Rattle.rip_values.specs.declared.value.Refused.TheVariants.{Limit as At, Memory as NoRoom}
-use Rattle.rip_values.specs.declared.value.Span.{Span}
 use Rattle.rip_heap.specs.World.{World}
 use Rattle.rip_runs.specs.declared.completion.Completion.{Completion}
 use Rattle.rip_runs.specs.declared.completion.Completion.TheVariants.{Normal, Thrown as ThrownCompletion, Returned, Broken, Continued, Referred, Method}
@@ -23,7 +21,7 @@ use Rattle.rip_machine.specs.Law.{Ends, Resumes, Standing, Starts, left, loaded,
 use Rattle.rip_machine.specs.Plans.{advance_of, evaluation}
 use Rattle.rip_machine.specs.Run.{run_begun, run_from}
 use Rattle.rip_machine.specs.Starting.{begun_by}
-use Rattle.rip_machine.specs.Table.{table}
+use Rattle.rip_language.specs.Table.{table}
 use Rattle.rip_machine.proofs.WholeRuns.{runs_on}
 
 -- another machine with these literals and this depth reads the program alike

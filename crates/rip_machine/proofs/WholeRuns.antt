@@ -1,18 +1,18 @@
 -- A run that was started and went on to its end is the whole run of its start.
-use Rattle.std.proofs.Common.{◌≡◌, ℕ, ◌+◌, ◌-◌, ◌≤◌, min, Bool, true, false, nat_le, Some, Ok, refl, ap, sym, ◌∙◌, arith}
+use Rattle.std.proofs.Common.{◌≡◌, ℕ, ◌+◌, ◌-◌, ◌≤◌, min, Bool, true, false, Some, Ok, ap, sym, ◌∙◌, arith}
 use Rattle.std.proofs.lemmas.Bool.{le-leb}
 use Rattle.rip_values.specs.declared.value.Limit.{Limit}
 use Rattle.rip_heap.specs.World.{World}
 use Rattle.rip_runs.specs.Cut.{conclude}
-use Rattle.rip_runs.specs.Row.{Row, Table}
+use Rattle.rip_runs.specs.Row.{Table}
 use Rattle.rip_runs.specs.Run.{Answer, Completes, Stops, Cuts, Calling}
 use Rattle.rip_runs.specs.Started.{Started}
 use Rattle.rip_runs.specs.Law.{end_of, further}
-use Rattle.rip_machine.specs.Law.{Begins, Ends, Resumes, Standing, left, open_depth, run}
-use Rattle.rip_machine.specs.Reading.{Loaded}
+use Rattle.rip_machine.specs.Law.{Ends, Resumes, Standing, left, open_depth, run}
+use Rattle.rip_language.specs.Reading.{Loaded}
 use Rattle.rip_machine.specs.Run.{IsStarted, Ran, RunsWhole, comes_to, run_begun, run_from}
 use Rattle.rip_machine.specs.Starting.{Runs, Exceeds, begun_by}
-use Rattle.rip_machine.specs.Table.{table}
+use Rattle.rip_language.specs.Table.{table}
 use Rattle.rip_runs.specs.declared.outcome.Outcome.{Outcome}
 use Rattle.rip_runs.specs.declared.outcome.Outcome.TheVariants.{Value as Gives, Thrown, Fault, Limit as AtLimit, Memory}
 use Rattle.rip_runs.specs.declared.outcome.Turned.TheVariants.{More, Done}

@@ -13,7 +13,7 @@ use Rattle.rip_runs.specs.Row.{Row, Table}
 use Rattle.rip_runs.specs.Run.{Answer, Calling}
 use Rattle.rip_runs.specs.Stack.{Open}
 use Rattle.rip_tree.specs.Program.{Code}
-use Rattle.rip_machine.specs.Reading.{Loaded}
+use Rattle.rip_language.specs.Reading.{Loaded}
 use Rattle.rip_machine.specs.Starting.{Beginning, Exceeds, Runs}
 
 -- a machine: a run that stands, by its parts; and of each node of the program the span of the text that it is or names

@@ -1,14 +1,8 @@
 pub mod Back
-pub mod Does
-pub mod InPlace
 pub mod Law
 pub mod Loading
 pub mod PlanLaws
 pub mod Plans
-pub mod Reading
-pub mod Rows
 pub mod Run
 pub mod Starting
-pub mod Table
 pub mod Turns
-pub mod Worked

@@ -17,7 +17,7 @@ use Rattle.rip_tree.specs.Branches.{Branch, node_of, units_at}
 use Rattle.rip_tree.specs.Firsts.{first_named}
 use Rattle.rip_tree.specs.Program.{Code}
 use Rattle.rip_machine.specs.Law.{Standing}
-use Rattle.rip_machine.specs.Reading.{Loaded, form_in, form_of, literal}
+use Rattle.rip_language.specs.Reading.{Loaded, form_in, form_of, literal}
 
 -- TEXTS, in a program with these units
 
@@ -100,12 +100,12 @@ own_span start units f = record { start = 0; count = 0 }
 
 -- where the text of the node with this number stands, if it puts one in: behind all that was there and all that nodes before
 -- it put in
-abbrev pub place_of : Code → World → ℕ → ℕ
-place_of code w id = length w.pool.units + length (texts_before code id)
+abbrev pub start_of_text : Code → World → ℕ → ℕ
+start_of_text code w id = length w.pool.units + length (texts_before code id)
 
 -- the span of the node with this number: its name stands where the first node that has it puts it in
 abbrev pub span_of : Code → World → ℕ → Span
-span_of code w id = own_span (place_of code w (first_named code.grove id)) code.grove.units (form_in (node_of code.grove.branches id))
+span_of code w id = own_span (start_of_text code w (first_named code.grove id)) code.grove.units (form_in (node_of code.grove.branches id))
 
 -- of each node the span of its text in the world in which the program is loaded
 abbrev pub spans_loaded : Code → World → List Span
@@ -122,13 +122,13 @@ abbrev pub with_form : List ℕ → Form → World → World
 with_form units f w = record w { pool = with_text w.pool (own_text units f) (form_cost units f) }
 
 -- the text stands at this span, within the pool
-abbrev pub StandsAt : Texts → List ℕ → Span → Type 0
-StandsAt pool text span = (text_at pool span ≡ text) × IsSpan pool span
+abbrev pub IsTextAt : Texts → List ℕ → Span → Type 0
+IsTextAt pool text span = (text_at pool span ≡ text) × IsSpan pool span
 
 -- if there is a text, it stands there
 abbrev pub StandsIfAny : Texts → Option (List ℕ) → Span → Type 0
 StandsIfAny pool None span = Unit {0}
-StandsIfAny pool (Some text) span = StandsAt pool text span
+StandsIfAny pool (Some text) span = IsTextAt pool text span
 
 -- ROOM FOR VALUES
 

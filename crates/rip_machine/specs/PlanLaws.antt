@@ -11,7 +11,7 @@ use Rattle.rip_machine.specs.Law.{Standing, loaded}
 use Rattle.rip_machine.specs.Plans.{evaluation}
 use Rattle.rip_machine.specs.Run.{run_begun}
 use Rattle.rip_machine.specs.Starting.{Beginning, Exceeds, Runs, begun_by}
-use Rattle.rip_machine.specs.Table.{table}
+use Rattle.rip_language.specs.Table.{table}
 
 -- what a start comes to, with more units
 pub begun_once : {S : Type 0} (h : Calling S) (t : Table) (depth : ℕ) (b : Beginning) (w : World) (s : S) (fuel u k : ℕ)

@@ -1,5 +1,5 @@
 -- What plans see of the machine.
-use Rattle.std.specs.Prelude.{ℕ, ◌-◌, ◌≤◌}
+use Rattle.std.specs.Prelude.{ℕ, ◌≤◌}
 use Rattle.rip_runs.specs.declared.completion.Stop.TheVariants.{Fault as AtFault, Limit as AtLimit}
 use Rattle.rip_runs.specs.declared.evaluator.Advance.{Advance}
 use Rattle.rip_runs.specs.declared.evaluator.Advance.TheVariants.{Passed, Broken, Memory as NoRoom}
@@ -11,7 +11,7 @@ use Rattle.rip_runs.specs.declared.outcome.Outcome.TheVariants.{Value as Gives, 
 use Rattle.rip_machine.specs.Law.{Standing, left, loaded, open_depth, values_of}
 use Rattle.rip_machine.specs.Loading.{values_needed}
 use Rattle.rip_machine.specs.Run.{run_from}
-use Rattle.rip_machine.specs.Table.{table}
+use Rattle.rip_language.specs.Table.{table}
 
 -- what the runs of a program mean, where the host answers this
 abbrev pub evaluation : {S : Type 0} → Calling S → Code → Evaluation Standing S

@@ -12,9 +12,9 @@ use Rattle.rip_runs.specs.declared.outcome.Outcome.{Outcome}
 use Rattle.rip_runs.specs.declared.outcome.Outcome.TheVariants.{Value as Gives, Thrown, Fault, Limit, Memory}
 use Rattle.rip_runs.specs.Law.{end_of}
 use Rattle.rip_machine.specs.Law.{Begins, Standing, left, open_depth}
-use Rattle.rip_machine.specs.Reading.{Loaded}
+use Rattle.rip_language.specs.Reading.{Loaded}
 use Rattle.rip_machine.specs.Starting.{Beginning, Runs, Exceeds, begun_by}
-use Rattle.rip_machine.specs.Table.{table}
+use Rattle.rip_language.specs.Table.{table}
 
 -- the run that a start comes to, where so much depth and fuel is there, after k units; one whose own charge would pass a
 -- limit stops before its first unit, with nothing open

@@ -15,16 +15,16 @@ use Rattle.rip_runs.specs.Frame.{inside}
 use Rattle.rip_runs.specs.Row.{Row}
 use Rattle.rip_runs.specs.Run.{world_at}
 use Rattle.rip_runs.specs.Started.{Started, ScriptOf, CallOf}
-use Rattle.rip_machine.specs.declared.rows.calls.Invocable.{Invocable}
-use Rattle.rip_machine.specs.declared.rows.calls.Invocable.TheVariants.{OfScript, OfBuiltin, NotCallable}
+use Rattle.rip_language.specs.declared.callee.Invocable.{Invocable}
+use Rattle.rip_language.specs.declared.callee.Invocable.TheVariants.{OfScript, OfBuiltin, NotCallable}
 use Rattle.rip_machine.specs.declared.outcome.Start.{Start}
 use Rattle.rip_machine.specs.declared.outcome.Start.TheVariants as start
-use Rattle.rip_machine.specs.Reading.{Loaded}
-use Rattle.rip_machine.specs.Rows.Calls.{answered_by, answerer_of, callable, running}
-use Rattle.rip_machine.specs.Rows.Functions.{body, function_entered}
-use Rattle.rip_machine.specs.Rows.Names.{throws}
-use Rattle.rip_machine.specs.Rows.Scripts.{script_entered, script_row}
-use Rattle.rip_machine.specs.Rows.Statements.{statements}
+use Rattle.rip_language.specs.Reading.{Loaded}
+use Rattle.rip_language.specs.Rows.Calls.{answered_by, answerer_of, callable, running}
+use Rattle.rip_language.specs.Rows.Functions.{body, function_entered}
+use Rattle.rip_language.specs.Rows.Names.{throws}
+use Rattle.rip_language.specs.Rows.Scripts.{script_entered, script_row}
+use Rattle.rip_language.specs.Rows.Statements.{statements}
 
 -- what a start comes to: the run of a row, in this world; or a limit that its own charge would pass
 pub data Beginning : Type 0 where

@@ -5,9 +5,9 @@ use Rattle.rip_heap.specs.World.{World}
 use Rattle.rip_runs.specs.declared.part.Part.{Part}
 use Rattle.rip_runs.specs.Row.{Row, Asks, with_value}
 use Rattle.rip_runs.specs.Run.{Calling, run}
-use Rattle.rip_machine.specs.Reading.{Loaded, child_at, part, part_at}
-use Rattle.rip_machine.specs.Rows.Statements.{do_row, for_turn, goes_on, tested, while_row}
-use Rattle.rip_machine.specs.Table.{table}
+use Rattle.rip_language.specs.Reading.{Loaded, child_at, part, part_at}
+use Rattle.rip_language.specs.Rows.Statements.{do_row, for_turn, goes_on, tested, while_row}
+use Rattle.rip_language.specs.Table.{table}
 
 -- 12.6.1: the statement, and then the test, and where it holds the loop again
 abbrev pub do_loop : Loaded → Part → World → Row

@@ -5,7 +5,7 @@ ghost use Rattle.rip_runs.specs.Row.{Row};
 ghost use Rattle.rip_runs.specs.Started.{Started};
 ghost use Rattle.rip_machine.specs.Law.{Begins, left, loaded};
 ghost use Rattle.rip_machine.specs.Run.{RunsOn};
-ghost use Rattle.rip_machine.specs.Table.{table};
+ghost use Rattle.rip_language.specs.Table.{table};
 ghost use Rattle.rip_machine.specs.Turns.{LoopsAreTheirRows};
 
 use crate::machine::Machine;

@@ -2,7 +2,7 @@ ghost use Rattle.std.specs.Prelude.{◌≡◌, ◌↔◌, ◌+◌, ◌≤◌, �
 ghost use Rattle.rip_heap.specs.Growth.{Grows};
 ghost use Rattle.rip_heap.specs.World.{World};
 ghost use Rattle.rip_machine.specs.Back.{CutsTo};
-ghost use Rattle.rip_machine.specs.Loading.{cost_of_literals, StandsAt, StandsIfAny, TextsStand, form_cost, form_text, key_text, name_span, own_span, spans_loaded, values_needed, with_form, with_name, world_loaded};
+ghost use Rattle.rip_machine.specs.Loading.{cost_of_literals, IsTextAt, StandsIfAny, TextsStand, form_cost, form_text, key_text, name_span, own_span, spans_loaded, values_needed, with_form, with_name, world_loaded};
 
 use rip_heap::Heap;
 use rip_tree::{Form, Key, Program};
@@ -54,7 +54,7 @@ pub(crate) fn fits(program: &Program, heap: &Heap) -> bool
 fn add_name(alloc: Global, heap: &mut Heap, name: &[u16]) -> Result<Span, NoMemory>
     ensures span { IfOk result (λ span. span ≡ name_span (length heap.old.pool.units) name.now) }
     ensures added { OnOk result (heap.new ≡ with_name name.now heap.old) }
-    ensures stands { IfOk result (StandsAt heap.new.pool name.now) }
+    ensures stands { IfOk result (IsTextAt heap.new.pool name.now) }
     ensures kept { OnErr result (heap.new ≡ heap.old) }
     ensures cells { heap.new.cells ≡ heap.old.cells }
     ensures grows { Grows heap.old heap.new }
@@ -72,7 +72,7 @@ fn add_key(alloc: Global, program: &Program, heap: &mut Heap, key: &Key) -> Resu
     ensures added { OnOk result
         (heap.new ≡ with_name (key_text program.now.grove.units key.now) heap.old) }
     ensures stands { IfOk result
-        (StandsAt heap.new.pool (key_text program.now.grove.units key.now)) }
+        (IsTextAt heap.new.pool (key_text program.now.grove.units key.now)) }
     ensures kept { OnErr result (heap.new ≡ heap.old) }
     ensures cells { heap.new.cells ≡ heap.old.cells }
     ensures grows { Grows heap.old heap.new }

@@ -6,14 +6,14 @@ ghost use Rattle.rip_runs.specs.Room.{WantsMemory};
 ghost use Rattle.rip_machine.specs.Law.{Resumes, Starts, loaded, open_depth, values_of};
 ghost use Rattle.rip_machine.specs.Loading.{Loads, TextsStand, spans_loaded, values_needed, world_loaded};
 ghost use Rattle.rip_machine.specs.Starting.{arguments_in, begun, started_of};
-ghost use Rattle.rip_machine.specs.Table.{table};
+ghost use Rattle.rip_language.specs.Table.{table};
 
+use crate::language::Language;
 use crate::loading::{fits, load_texts, values_needed};
 use crate::outcome::Start;
-use crate::source::Source;
 use crate::starting::start_run;
-use crate::worth::{Worth, worths};
 use rip_heap::{Heap, Host};
+use rip_language::{Source, Worth, worths};
 use rip_runs::{Completion, Control, Outcome, Run, Turned};
 use rip_tree::Program;
 use rip_values::{Limit, NoMemory, Refused, Span, Value};
@@ -194,12 +194,12 @@ impl Machine {
         ensures law { Resumes H.answers (table (loaded program.now self.old)) self.old heap.old
             host.old n self.new heap.new host.new result }
     {
-        let p = Source {
+        let source = Source {
             alloc,
             program,
             literals: self.literals.as_slice(),
             worths: self.worths.as_slice(),
         };
-        self.run.resume(&p, heap, host, n)
+        self.run.resume(&Language { source }, heap, host, n)
     }
 }

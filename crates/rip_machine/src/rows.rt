@@ -1,101 +1,35 @@
 ghost use Rattle.std.specs.Prelude.{◌<◌, length, IsTrue, OnErr};
 ghost use Rattle.rip_heap.specs.Growth.{Grows};
 ghost use Rattle.rip_runs.specs.Room.{AreTogether};
-ghost use Rattle.rip_machine.specs.Does.{Does, DoesBeside, DoesBesideWithHost};
-ghost use Rattle.rip_machine.specs.Table.{hosted_rest, own_rest, row_by};
+ghost use Rattle.rip_answers.specs.Does.{Does, DoesBeside, DoesBesideWithHost};
+ghost use Rattle.rip_language.specs.Table.{hosted_rest, own_rest, row_by};
 
-pub(crate) mod answers;
-pub(crate) mod assignment;
-pub(crate) mod calls;
-pub(crate) mod constructing;
-pub(crate) mod exceptions;
-pub(crate) mod functions;
-pub(crate) mod had;
-pub(crate) mod host;
-pub(crate) mod in_place;
-pub(crate) mod literals;
-pub(crate) mod members;
-pub(crate) mod names;
-pub(crate) mod operators;
-pub(crate) mod referred;
-pub(crate) mod scripts;
-pub(crate) mod statements;
-pub(crate) mod switch;
-pub(crate) mod unary;
-
-use crate::rows::answers::{Answer, end, give};
-use crate::rows::assignment::{
-    after_assign_target, after_assign_value, after_compound_target, after_compound_value,
-    after_step_target, begin_assign, begin_compound, begin_step,
-};
-use crate::rows::calls::{after_argument, after_called, after_callee, begin_call};
-use crate::rows::constructing::{after_constructor, after_new_argument, begin_new};
-use crate::rows::exceptions::{
-    after_finally_block, after_throw_value, after_try_block, begin_throw, begin_try, finally,
-};
-use crate::rows::functions::begin_function;
-use crate::rows::in_place::done;
-use crate::rows::literals::{after_element, after_entry, begin_array, begin_object};
-use crate::rows::members::{
-    after_index_base, after_member_base, after_subscript, begin_index, begin_member,
-};
-use crate::rows::names::begin_name;
-use crate::rows::operators::{
-    after_comma_left, after_conditional_test, after_left, after_logical_left, after_right,
-    begin_binary, begin_comma, begin_conditional, begin_logical,
-};
-use crate::rows::statements::{
-    after_do_body, after_do_test, after_expression, after_for_body, after_for_start,
-    after_for_test, after_for_update, after_if_test, after_initialiser, after_return_value,
-    after_statement, after_while_body, after_while_test, begin_block, begin_do, begin_expression,
-    begin_for, begin_if, begin_return, begin_var, begin_while,
-};
-use crate::rows::switch::{
-    after_case_test, after_clause_statement, after_discriminant, begin_switch,
-};
-use crate::rows::unary::{after_operand, begin_unary};
-use crate::source::Source;
-use crate::worth::HEIGHT;
+use rip_answers::{Answer, begin_name, end, give};
 use rip_heap::{Heap, Host};
-use rip_runs::{Completed, Completion, HostedWait, Next, OwnWait, Part, Rows, Wait};
+use rip_language::Source;
+use rip_operations::{
+    after_assign_target, after_assign_value, after_comma_left, after_compound_target,
+    after_compound_value, after_conditional_test, after_element, after_entry, after_index_base,
+    after_left, after_logical_left, after_member_base, after_operand, after_right,
+    after_step_target, after_subscript, begin_array, begin_assign, begin_binary, begin_comma,
+    begin_compound, begin_conditional, begin_index, begin_logical, begin_member, begin_object,
+    begin_step, begin_unary,
+};
+use rip_runs::{Completion, HostedWait, Next, OwnWait, Part};
+use rip_statements::{
+    after_argument, after_called, after_callee, after_case_test, after_clause_statement,
+    after_constructor, after_discriminant, after_do_body, after_do_test, after_expression,
+    after_finally_block, after_for_body, after_for_start, after_for_test, after_for_update,
+    after_if_test, after_initialiser, after_new_argument, after_return_value, after_statement,
+    after_throw_value, after_try_block, after_while_body, after_while_test, begin_block,
+    begin_call, begin_do, begin_expression, begin_for, begin_function, begin_if, begin_new,
+    begin_return, begin_switch, begin_throw, begin_try, begin_var, begin_while, finally,
+};
 use rip_tree::Form;
 use rip_values::Value;
 
-impl Rows for Source<'_> {
-    ghost use Rattle.rip_machine.specs.Table.{table as table_of};
-
-    ghost table = { table_of };
-
-    fn begin(&self, heap: &mut Heap, at: &Part) -> Next {
-        begin_form(self, heap, at, &self.form(at.node))
-    }
-
-    fn at_once(&self, heap: &mut Heap, at: &Part, most: u64) -> Option<Completed> {
-        if at.room == 0 || most == 0 {
-            return None;
-        }
-        done(self, heap, at, u32::from(HEIGHT), most)
-    }
-
-    fn finish<H: Host>(
-        &self,
-        heap: &mut Heap,
-        host: &mut H,
-        at: &Part,
-        wait: &Wait,
-        values: &[Value],
-        all: &[Value],
-        c: &Completion,
-    ) -> Answer {
-        match wait {
-            Wait::Own(wait) => Ok(finish_own(self, heap, at, wait, values, all, c)),
-            Wait::Hosted(wait) => { finish_hosted(self, heap, host, at, wait, values, all, c) },
-        }
-    }
-}
-
 /// What a part does that was entered, by the form of its node.
-fn begin_form(p: &Source, heap: &mut Heap, at: &Part, form: &Form) -> Next
+pub(crate) fn begin(p: &Source, heap: &mut Heap, at: &Part, form: &Form) -> Next
     ensures row { Does p.now at.now result heap.new (row_by p.now at.now form.now heap.old) }
     ensures grows { Grows heap.old heap.new }
 {
@@ -139,7 +73,7 @@ fn begin_form(p: &Source, heap: &mut Heap, at: &Part, form: &Form) -> Next
 }
 
 /// What is done where a part waited, and the host is asked for nothing before its next part.
-fn finish_own(
+pub(crate) fn finish_own(
     p: &Source,
     heap: &mut Heap,
     at: &Part,
@@ -195,7 +129,7 @@ fn finish_own(
 }
 
 /// The same where the host may be asked. Its calls with which the row goes on are made.
-fn finish_hosted<H: Host>(
+pub(crate) fn finish_hosted<H: Host>(
     p: &Source,
     heap: &mut Heap,
     host: &mut H,

@@ -1,4 +1,5 @@
-ghost use Rattle.std.specs.Prelude.{◌≡◌, ◌+◌, ◌<◌, ◌≤◌, ◌^◌, length, None, Some, OnOk};
+ghost use Rattle.std.specs.Prelude.{◌≡◌, ◌+◌, ◌<◌, ◌≤◌, ◌^◌, length, List, None, Ok, Some, OnOk};
+ghost use Rattle.rip_values.specs.declared.value.Value.{Value as ScriptValue};
 ghost use Rattle.rip_heap.specs.Growth.{Grows};
 ghost use Rattle.rip_heap.specs.Step.{TakesNoMemory};
 ghost use Rattle.rip_heap.specs.World.{charging};
@@ -6,21 +7,20 @@ ghost use Rattle.rip_tree.specs.Program.{root_of};
 ghost use Rattle.rip_runs.specs.Law.{values_of};
 ghost use Rattle.rip_runs.specs.Nesting.{IsInside};
 ghost use Rattle.rip_machine.specs.Law.{StartsRun};
-ghost use Rattle.rip_machine.specs.Reading.{Loaded};
-ghost use Rattle.rip_machine.specs.Rows.Calls.{callable};
-ghost use Rattle.rip_machine.specs.Rows.Scripts.{script_entered};
+ghost use Rattle.rip_language.specs.Reading.{Loaded};
+ghost use Rattle.rip_language.specs.Rows.Calls.{callable};
+ghost use Rattle.rip_language.specs.Rows.Scripts.{script_entered};
 ghost use Rattle.rip_machine.specs.Starting.{arguments_in, begun, builtin_begun, call_begun, outside, script_begun, started_of};
-ghost use Rattle.rip_machine.specs.Table.{table};
+ghost use Rattle.rip_language.specs.Table.{table};
 
 use crate::outcome::Start;
-use crate::rows::calls::{Invocable, call_statements, callable, running};
-use crate::rows::functions::enter_function;
-use crate::rows::names::throw;
-use crate::rows::scripts::{enter_script, script_part};
-use crate::rows::statements::statements;
-use crate::source::Source;
+use rip_answers::throw;
 use rip_heap::{Class, Heap};
+use rip_language::{Invocable, Source};
 use rip_runs::{Ending, Frame, HostedWait, Part, Role, Run, Wait};
+use rip_statements::{
+    call_statements, callable, enter_function, enter_script, running, script_part, statements,
+};
 use rip_values::{Builtin, Limit, Refused, Value};
 use std::alloc::Global;
 
@@ -102,7 +102,10 @@ fn start_function(
     match callable(heap, &Value::Object(function)) {
         Invocable::OfScript(f, scope) => { start_call(run, p, heap, (f, scope), this, args, fuel) },
         Invocable::OfBuiltin(b) => start_builtin(run, heap, b, this, args, fuel),
-        Invocable::NotCallable => start_throw(run, p.alloc(), heap, this, args, fuel),
+        Invocable::NotCallable => {
+            start_throw(run, p.alloc(), heap, this, fuel);
+            Ok(())
+        },
     }
 }
 
@@ -196,27 +199,17 @@ fn start_builtin(
 }
 
 /// Stands where a TypeError was thrown, since what is called is no function.
-fn start_throw(
-    run: &mut Run,
-    alloc: Global,
-    heap: &mut Heap,
-    this: &Value,
-    args: &[Value],
-    fuel: u64,
-) -> Result<(), Refused>
-    ensures starts { (p : Loaded) → StartsRun (table p)
-        (call_begun p run.old.depth this.now args.now Invocable.NotCallable heap.old) fuel heap.old
-        heap.new run.old run.new result }
-    ensures memory { TakesNoMemory result }
-    ensures values { OnOk result (values_of run.new ≤ fuel + 1) }
+fn start_throw(run: &mut Run, alloc: Global, heap: &mut Heap, this: &Value, fuel: u64)
+    ensures starts { (p : Loaded) (args : List ScriptValue) → StartsRun (table p)
+        (call_begun p run.old.depth this.now args Invocable.NotCallable heap.old) fuel heap.old
+        heap.new run.old run.new (Ok tt) }
+    ensures values { values_of run.new ≤ fuel + 1 }
     ensures depth { run.new.depth ≡ run.old.depth }
     ensures value_room { run.new.value_room ≡ run.old.value_room }
     ensures nested { IsInside (run.new.depth + 1) run.new.control run.new.frames }
     ensures grows { Grows heap.old heap.new }
 {
-    let _ = args;
     let depth = run.greatest_depth();
     let thrown = throw(alloc, heap, Class::ThrownTypeError);
     run.begin(&outside(depth, this), &thrown, fuel);
-    Ok(())
 }

@@ -16,7 +16,7 @@ use Rattle.rip_machine.specs.Law.{Standing, loaded}
 use Rattle.rip_machine.specs.Loading.{cost_of_literals}
 use Rattle.rip_machine.specs.Plans.{evaluation}
 use Rattle.rip_machine.specs.Starting.{begun_by}
-use Rattle.rip_machine.specs.Table.{table}
+use Rattle.rip_language.specs.Table.{table}
 use Rattle.rip_dom.specs.Opening.{count_of_nodes, count_of_units}
 use Rattle.rip_host.specs.Answers.{answers}
 use Rattle.rip_host.specs.declared.browser.Browser.{Browser}

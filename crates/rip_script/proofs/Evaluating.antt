@@ -11,7 +11,7 @@ use Rattle.rip_machine.specs.Law.{Resumes, Standing}
 use Rattle.rip_runs.specs.declared.outcome.Turned.{Turned}
 use Rattle.rip_runs.specs.declared.outcome.Turned.TheVariants.{More, Done}
 use Rattle.rip_machine.specs.Law.{loaded}
-use Rattle.rip_machine.specs.Table.{table}
+use Rattle.rip_language.specs.Table.{table}
 use Rattle.rip_runs.specs.declared.outcome.Outcome.{Outcome}
 use Rattle.rip_tree.specs.Program.{Code}
 use Rattle.rip_script.specs.Evaluation.{IsEvaluated, empty_host, no_host}

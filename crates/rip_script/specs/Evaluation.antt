@@ -16,7 +16,7 @@ use Rattle.rip_runs.specs.Run.{Calling}
 use Rattle.rip_machine.specs.Law.{Resumes, Standing, Starts, loaded}
 use Rattle.rip_machine.specs.Loading.{Loads}
 use Rattle.rip_machine.specs.Starting.{Beginning, begun}
-use Rattle.rip_machine.specs.Table.{table}
+use Rattle.rip_language.specs.Table.{table}
 use Rattle.rip_runs.specs.declared.outcome.Outcome.TheVariants.{Limit as LimitPassed}
 use Rattle.rip_machine.specs.declared.outcome.Start.TheVariants.{Script}
 use Rattle.rip_runs.specs.declared.outcome.Turned.TheVariants.{Done}

@@ -23,7 +23,7 @@ use Rattle.rip_runner.specs.Numbers.{host_begun, host_reached}
 use Rattle.rip_tree.specs.Program.{Code}
 use Rattle.rip_machine.specs.Law.{loaded}
 use Rattle.rip_machine.specs.Plans.{evaluation}
-use Rattle.rip_machine.specs.Table.{table}
+use Rattle.rip_language.specs.Table.{table}
 use Rattle.rip_host.specs.Answers.{answers}
 use Rattle.rip_host.specs.EventMembers.{bubbles}
 use Rattle.rip_host.specs.Events.{event_of}

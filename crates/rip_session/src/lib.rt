@@ -9,7 +9,7 @@
 //! | what a session does | `Application.meaning_of_app`, by the one `Application.doing_of` its seed and time |
 //! | how it is opened: the charges in their order, the heap and the browser, by [`open`] | `Opening.opened_of` |
 //! | a session at a stage of the server's course, within the limits of the manifest: its heap always, its page and its runs while it lives, and then with its rooms | `Application.StandsAt` by `Limits.HasLimits`, `Limits.PassesNoLimit`, `Limits.HasPageLimits`, `Limits.PassesNoPageLimit` |
-//! | that it is ended for want of memory only at a call, by [`resume_session`] | `IsAtCall` of `rip_replica`, by `Rooms.HasRoomsIn` |
+//! | that it is ended for want of memory only at a call, by [`resume_session`] | `IsCallAt` of `rip_replica`, by `Rooms.HasRoomsIn` |
 //! | [`Application`] as the sessions of a server | `rip_course::Sessions` |
 //!
 //! A layer above may rest on this: what a session does is a function of the application, its seed and time, its batches and

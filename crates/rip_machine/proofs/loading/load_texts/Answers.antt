@@ -9,7 +9,7 @@ use Rattle.rip_tree.specs.Branches.{node_of}
 use Rattle.rip_tree.specs.Firsts.{first_named}
 use Rattle.rip_machine.specs.Back.{CutsTo}
 use Rattle.rip_machine.specs.Loading.{StandsIfAny, form_text, span_of}
-use Rattle.rip_machine.specs.Reading.{form_in}
+use Rattle.rip_language.specs.Reading.{form_in}
 use Rattle.rip_machine.proofs.TakenBack.{form_cuts}
 use Rattle.rip_machine.proofs.Loads.{all_stand, copied_span, copied_stand, copied_world, loaded_before, name_before, own_spans, own_world, spans_long, stand_more}
 use Rattle.rip_machine.proofs.loading.load_texts.Goals as goal

@@ -6,7 +6,7 @@ use Rattle.rip_heap.specs.World.{World}
 use Rattle.rip_tree.specs.Branches.{node_of}
 use Rattle.rip_machine.specs.Back.{CutsTo}
 use Rattle.rip_machine.specs.Loading.{StandsIfAny, form_text, span_of}
-use Rattle.rip_machine.specs.Reading.{form_in}
+use Rattle.rip_language.specs.Reading.{form_in}
 use Rattle.rip_machine.proofs.Loads.{loaded_before}
 use Rattle.rip_machine.proofs.loading.load_texts.Given as goal
 

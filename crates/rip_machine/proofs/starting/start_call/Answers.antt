@@ -4,14 +4,14 @@ use Rattle.rip_runs.specs.declared.part.Inner.{Inner}
 use Rattle.rip_runs.specs.declared.part.Part.{Part}
 use Rattle.rip_runs.specs.Frame.{inside}
 use Rattle.rip_runs.specs.Law.{Begins}
-use Rattle.rip_machine.specs.declared.rows.calls.Invocable.TheVariants.{OfScript}
-use Rattle.rip_machine.specs.Rows.Calls.{running}
-use Rattle.rip_machine.specs.Rows.Functions.{body, function_entered}
-use Rattle.rip_machine.specs.Rows.Statements.{statements}
+use Rattle.rip_language.specs.declared.callee.Invocable.TheVariants.{OfScript}
+use Rattle.rip_language.specs.Rows.Calls.{running}
+use Rattle.rip_language.specs.Rows.Functions.{body, function_entered}
+use Rattle.rip_language.specs.Rows.Statements.{statements}
 use Rattle.rip_machine.specs.Starting.{function_part, outside}
-use Rattle.rip_machine.specs.Table.{table}
+use Rattle.rip_language.specs.Table.{table}
 use Rattle.rip_machine.proofs.Beginnings.{runs_function, stood}
-use Rattle.rip_machine.proofs.Declared.{entered_scope}
+use Rattle.rip_statements.proofs.Declared.{entered_scope}
 use Rattle.rip_machine.proofs.starting.start_call.Goals as goal
 
 pub returns-in-Some-clause-starts : goal.returns-in-Some-clause-starts

@@ -1,8 +1,8 @@
-use Rattle.std.proofs.Common.{subst}
-use Rattle.rip_machine.specs.declared.rows.calls.Invocable.{Invocable}
+use Rattle.std.proofs.Common.{Ok, subst}
+use Rattle.rip_language.specs.declared.callee.Invocable.{Invocable}
 use Rattle.rip_machine.specs.Law.{StartsRun}
 use Rattle.rip_machine.specs.Starting.{call_begun}
-use Rattle.rip_machine.specs.Table.{table}
+use Rattle.rip_language.specs.Table.{table}
 use Rattle.rip_machine.proofs.starting.start_function.Goals as goal
 
 pub returns-in-OfScript-clause-starts : goal.returns-in-OfScript-clause-starts
@@ -20,5 +20,5 @@ returns-in-OfBuiltin-clause-starts c =
 pub returns-in-NotCallable-clause-starts : goal.returns-in-NotCallable-clause-starts
 returns-in-NotCallable-clause-starts c =
     let p = c.args.p.now in
-    let S : Invocable → Type 0 = λ callee. StartsRun (table p) (call_begun p c.args.run.now.depth c.args.this.now c.args.args.now callee c.args.heap.now) c.args.fuel c.args.heap.now c.start_throw.new.heap c.args.run.now c.start_throw.new.run c.start_throw.result in
-    subst S c.in-NotCallable.ensures (c.start_throw.ensures.starts p)
+    let S : Invocable → Type 0 = λ callee. StartsRun (table p) (call_begun p c.args.run.now.depth c.args.this.now c.args.args.now callee c.args.heap.now) c.args.fuel c.args.heap.now c.start_throw.new.heap c.args.run.now c.start_throw.new.run (Ok tt) in
+    subst S c.in-NotCallable.ensures (c.start_throw.ensures.starts p c.args.args.now)

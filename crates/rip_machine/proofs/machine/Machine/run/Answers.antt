@@ -1,10 +1,10 @@
-use Rattle.std.proofs.Common.{List, ap, subst}
+use Rattle.std.proofs.Common.{List, subst}
 use Rattle.rip_values.specs.declared.value.Span.{Span}
 use Rattle.rip_runs.specs.declared.outcome.Turned.TheVariants.{Done}
 use Rattle.rip_machine.specs.Law.{Resumes, loaded}
 use Rattle.rip_machine.specs.Run.{IsStarted}
 use Rattle.rip_machine.specs.Starting.{started_of}
-use Rattle.rip_machine.specs.Table.{table}
+use Rattle.rip_language.specs.Table.{table}
 use Rattle.rip_machine.proofs.WholeRuns.{ran}
 use Rattle.rip_machine.proofs.machine.Machine.run.Goals as goal
 

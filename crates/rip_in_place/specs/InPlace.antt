@@ -1,0 +1,37 @@
+-- The words of the contracts of what is done in place: no part of it is entered by itself, no cut falls in it, and no host
+-- is asked.
+use Rattle.std.specs.Prelude.{◌≡◌, ℕ, ◌≤◌, Option, IfSome, MatchOption}
+use Rattle.rip_heap.specs.World.{World}
+use Rattle.rip_runs.specs.declared.completion.Completed.{Completed}
+use Rattle.rip_runs.specs.declared.completion.Completion.TheVariants.{Normal}
+use Rattle.rip_runs.specs.declared.part.Part.{Part}
+use Rattle.rip_runs.specs.Done.{Comes, Done}
+use Rattle.rip_runs.specs.Row.{Row}
+use Rattle.rip_in_place.specs.declared.had.Had.{Had}
+use Rattle.rip_language.specs.Reading.{Loaded}
+use Rattle.rip_language.specs.Table.{table}
+
+-- what is had of a part is the value that it comes to with so many units, in a world that stays as it is
+abbrev pub IsHad : Loaded → Part → World → Option Had → Type 0
+IsHad p at w had = IfSome had (λ h. Done (table p) at h.units w (Normal h.value) w)
+
+-- the same of a row, whose parts take the units
+abbrev pub RowIsHad : Loaded → Row → World → Option Had → Type 0
+RowIsHad p row w had = IfSome had (λ h. Comes (table p) row h.units (Normal h.value) w)
+
+-- no more units are taken than there are
+abbrev pub IsWithin : ℕ → Option Had → Type 0
+IsWithin left had = IfSome had (λ h. h.units ≤ left)
+
+-- what is done of a part is what it comes to with so many units from world w on, and x is the world then; where nothing is
+-- done the world stays as it is
+abbrev pub IsDone : Loaded → Part → World → Option Completed → World → Type 0
+IsDone p at w done x = MatchOption done (x ≡ w) (λ d. Done (table p) at d.units w d.completion x)
+
+-- the same of a row, whose parts take the units
+abbrev pub RowIsDone : Loaded → Row → World → Option Completed → World → Type 0
+RowIsDone p row w done x = MatchOption done (x ≡ w) (λ d. Comes (table p) row d.units d.completion x)
+
+-- no more units are taken than there are
+abbrev pub IsDoneWithin : ℕ → Option Completed → Type 0
+IsDoneWithin left done = IfSome done (λ d. d.units ≤ left)

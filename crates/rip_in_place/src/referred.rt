@@ -1,0 +1,159 @@
+ghost use Rattle.std.specs.Prelude.{◌≡◌, ℕ, ◌<◌, IfSome};
+ghost use Rattle.rip_heap.specs.World.{World};
+ghost use Rattle.rip_runs.specs.Row.{Ends};
+ghost use Rattle.rip_in_place.specs.InPlace.{IsDone, IsDoneWithin, IsHad, IsWithin, RowIsDone};
+ghost use Rattle.rip_language.specs.Reading.{Loaded, literal, target_at};
+ghost use Rattle.rip_language.specs.Rows.Members.{index_row, member_for, member_row, subscript_end, with_base};
+
+use crate::had::{Had, had_inside, had_part, key_had, read_had};
+use rip_heap::{Heap, Key, Reference};
+use rip_language::Source;
+use rip_runs::{Completed, Completion, Part, Role};
+use rip_tree::Form;
+use rip_values::Value;
+
+/// What a part comes to for which some depth is left, where it changes nothing and can be had in place: what it means as a
+/// target, its value and the base for a call, or else its value. Of any part it may be none.
+pub(crate) fn done_reference(
+    p: &Source,
+    heap: &Heap,
+    at: &Part,
+    height: u32,
+    left: u64,
+) -> Option<Completed>
+    requires some { 0 < at.now.room }
+    requires unit { 0 < left }
+    ensures done { IsDone p.now at.now heap.now result heap.now }
+    ensures within { IsDoneWithin left result }
+{
+    match p.form(at.node) {
+        Form::Member(_) => match done_member(p, heap, at, height, left - 1) {
+            Some(done) => Some(Completed {
+                completion: done.completion,
+                units: done.units + 1,
+            }),
+            None => None,
+        },
+        Form::Index => match done_index(p, heap, at, height, left - 1) {
+            Some(done) => Some(Completed {
+                completion: done.completion,
+                units: done.units + 1,
+            }),
+            None => None,
+        },
+        _ => valued(had_part(p, heap, at, height, left)),
+    }
+}
+
+/// A value that was had, as a completion.
+pub(crate) fn valued(had: Option<Had>) -> Option<Completed>
+    ensures done { (p : Loaded) (at : Part) (w : World) → IsHad p at w had
+        → IsDone p at w result w }
+    ensures within { (left : ℕ) → IsWithin left had → IsDoneWithin left result }
+{
+    match had {
+        Some(had) => Some(Completed {
+            completion: Completion::Normal(had.value),
+            units: had.units,
+        }),
+        None => None,
+    }
+}
+
+/// What the target of a node means, where it is a member.
+pub(crate) fn done_target(
+    p: &Source,
+    heap: &Heap,
+    at: &Part,
+    height: u32,
+    left: u64,
+) -> Option<Completed>
+    ensures done { IsDone p.now (target_at p.now at.now 0) heap.now result heap.now }
+    ensures within { IsDoneWithin left result }
+{
+    if height == 0 || left == 0 || at.room < 2 {
+        return None;
+    }
+    done_reference(p, heap, &at.inside(&p.target_at(at, 0)), height - 1, left)
+}
+
+// MEMBERS
+
+fn done_member(p: &Source, heap: &Heap, at: &Part, height: u32, left: u64) -> Option<Completed>
+    ensures done { RowIsDone p.now (member_row p.now at.now heap.now) heap.now result heap.now }
+    ensures within { IsDoneWithin left result }
+{
+    match had_inside(p, heap, at, p.child(at.node, 0), height, left) {
+        Some(base) => match named_end(p, heap, at, &base.value) {
+            Some(completion) => Some(Completed {
+                completion,
+                units: base.units,
+            }),
+            None => None,
+        },
+        None => None,
+    }
+}
+
+fn done_index(p: &Source, heap: &Heap, at: &Part, height: u32, left: u64) -> Option<Completed>
+    ensures done { RowIsDone p.now (index_row p.now at.now heap.now) heap.now result heap.now }
+    ensures within { IsDoneWithin left result }
+{
+    let base = match had_inside(p, heap, at, p.child(at.node, 0), height, left) {
+        Some(base) => base,
+        None => return None,
+    };
+    let subscript = p.child(at.node, 1);
+    match had_inside(p, heap, at, subscript, height, left - base.units) {
+        Some(key) => match subscript_end(heap, at, &base.value, &key.value) {
+            Some(completion) => Some(Completed {
+                completion,
+                units: base.units + key.units,
+            }),
+            None => None,
+        },
+        None => None,
+    }
+}
+
+/// What the member comes to that a name names, where the host has not to be asked.
+fn named_end(p: &Source, heap: &Heap, at: &Part, base: &Value) -> Option<Completion>
+    ensures { IfSome result (λ c. with_base base.now heap.now (member_for at.now.role base.now
+        (Key.Name (literal p.now at.now.node)) heap.now) ≡ Ends c heap.now) }
+{
+    match base {
+        Value::Undefined | Value::Null => None,
+        _ => member_end(heap, at.role, base, Key::Name(p.literal(at.node))),
+    }
+}
+
+/// The same of a member that the value of an expression names.
+fn subscript_end(heap: &Heap, at: &Part, base: &Value, key: &Value) -> Option<Completion>
+    ensures { IfSome result (λ c. subscript_end at.now base.now (Completion.Normal key.now) heap.now
+        ≡ Ends c heap.now) }
+{
+    match key_had(heap, *base, *key) {
+        Some(key) => member_end(heap, at.role, base, key),
+        None => None,
+    }
+}
+
+/// What a member comes to by its key.
+fn member_end(heap: &Heap, role: Role, base: &Value, key: Key) -> Option<Completion>
+    ensures { IfSome result (λ c. member_for role base.now key heap.now ≡ Ends c heap.now) }
+{
+    match role {
+        Role::Target => Some(Completion::Referred(Reference { base: *base, key })),
+        Role::Value => match read_had(heap, *base, key) {
+            Some(v) => Some(Completion::Normal(v)),
+            None => None,
+        },
+        Role::Callee => match read_had(heap, *base, key) {
+            Some(function) => Some(Completion::Method {
+                function,
+                this: *base,
+            }),
+            None => None,
+        },
+    }
+}

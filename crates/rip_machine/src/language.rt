@@ -1,0 +1,56 @@
+ghost use Rattle.rip_language.specs.Table.{table};
+
+use crate::rows::{begin, finish_hosted, finish_own};
+use rip_heap::{Heap, Host};
+use rip_in_place::done;
+use rip_language::{HEIGHT, Source};
+use rip_runs::{Completed, Completion, Next, Part, Rows, Wait};
+use rip_values::{NoMemory, Value};
+use std::marker::Model;
+
+/// The rows of the language over a program whose literals are loaded, for the machine of any rows.
+#[derive(Drop)]
+pub(crate) struct Language<'a> {
+    pub source: Source<'a>,
+}
+
+impl<'a> Model for Language<'a> {
+    ghost use Rattle.rip_language.specs.Reading.{Loaded};
+
+    ghost Value = { Loaded };
+
+    ghost view = { λ l. l.source };
+}
+
+impl Rows for Language<'_> {
+    ghost use Rattle.rip_language.specs.Table.{table as table_of};
+
+    ghost table = { table_of };
+
+    fn begin(&self, heap: &mut Heap, at: &Part) -> Next {
+        begin(&self.source, heap, at, &self.source.form(at.node))
+    }
+
+    fn at_once(&self, heap: &mut Heap, at: &Part, most: u64) -> Option<Completed> {
+        if at.room == 0 || most == 0 {
+            return None;
+        }
+        done(&self.source, heap, at, u32::from(HEIGHT), most)
+    }
+
+    fn finish<H: Host>(
+        &self,
+        heap: &mut Heap,
+        host: &mut H,
+        at: &Part,
+        wait: &Wait,
+        values: &[Value],
+        all: &[Value],
+        c: &Completion,
+    ) -> Result<Next, NoMemory> {
+        match wait {
+            Wait::Own(wait) => Ok(finish_own(&self.source, heap, at, wait, values, all, c)),
+            Wait::Hosted(wait) => finish_hosted(&self.source, heap, host, at, wait, values, all, c),
+        }
+    }
+}

@@ -1,0 +1,414 @@
+ghost use Rattle.std.specs.Prelude.{◌≡◌, [], MatchResult};
+ghost use Rattle.rip_heap.specs.World.{World};
+ghost use Rattle.rip_heap.specs.Growth.{Grows};
+ghost use Rattle.rip_runs.specs.Row.{Ends, Row, with_value};
+ghost use Rattle.rip_answers.specs.Does.{Does, DoesPurely, DoesAlways};
+ghost use Rattle.rip_language.specs.Reading.{child_at, children_from};
+ghost use Rattle.rip_language.specs.Rows.Statements.{block_row, constructed, declarations, declarators_in, declared, do_row, ended, expression_row, for_row, for_statement, for_turn, for_update_by, goes_on, if_row, is_bindings, is_declaration, is_for, return_row, returned, script_ended, statements, switched, tested, var_row, while_row, IsFirst, done, return_end};
+ghost use Rattle.rip_language.specs.Table.{own_rest};
+ghost use Rattle.rip_runs.specs.declared.frame.Ending.{Ending};
+
+use rip_answers::{ask, end, give, throw, turn};
+use rip_heap::Heap;
+use rip_language::{Listed, Source, is_declaration, is_for, truth_of, value_of, write};
+use rip_runs::{Completion, Ending, Next, OwnWait, Part};
+use rip_tree::Form;
+use rip_values::Value;
+
+// LISTS
+
+/// What a function returns.
+fn returned(c: Completion) -> Completion
+    ensures { result ≡ returned c }
+{
+    match c {
+        Completion::Thrown(v) => Completion::Thrown(v),
+        Completion::Returned(v) => Completion::Normal(v),
+        _ => Completion::Normal(Value::Undefined),
+    }
+}
+
+/// What `new` gives: an object that its function returns, or else the new object.
+fn constructed(object: u32, c: Completion) -> Completion
+    ensures { result ≡ constructed object c }
+{
+    match c {
+        Completion::Thrown(v) => Completion::Thrown(v),
+        Completion::Returned(Value::Object(n)) => Completion::Normal(Value::Object(n)),
+        _ => Completion::Normal(Value::Object(object)),
+    }
+}
+
+/// `break` leaves a `switch`.
+fn switched(c: Completion) -> Completion
+    ensures { result ≡ switched c }
+{
+    match c {
+        Completion::Broken => Completion::Normal(Value::Undefined),
+        _ => c,
+    }
+}
+
+fn script_ended(c: Completion) -> Completion
+    ensures { result ≡ script_ended c }
+{
+    match c {
+        Completion::Thrown(v) => Completion::Thrown(v),
+        _ => Completion::Normal(Value::Undefined),
+    }
+}
+
+/// What becomes of the completion of a list.
+pub(crate) fn ended(ending: Ending, c: Completion) -> Completion
+    ensures { result ≡ ended ending c }
+{
+    match ending {
+        Ending::Block => c,
+        Ending::Call => returned(c),
+        Ending::Construct { object } => constructed(object, c),
+        Ending::Switch => switched(c),
+        Ending::Script => script_ended(c),
+    }
+}
+
+/// The first statement of a list that is no declaration, from this place on.
+#[tactic(auto, using(rip_language::proofs::Children::children_some, rip_language::proofs::Children::children_none))]
+pub(crate) fn first_statement(p: &Source, at: &Part, from: u32) -> Option<Listed>
+    ensures { (ending : Ending) (w : World)
+        → IsFirst p.now at.now ending result w (statements p.now at.now ending
+        (children_from p.now at.now.node from) w) }
+{
+    let mut place = from;
+    while let Some(node) = p.child_at(at.node, place) {
+        if !is_declaration(p.form(node)) {
+            return Some(Listed { place, node });
+        }
+        place += 1;
+    }
+    None
+}
+
+/// The statements of a list from this place on.
+pub fn statements(p: &Source, at: &Part, ending: Ending, from: u32) -> Next
+    ensures row { DoesPurely p.now at.now result
+        (statements p.now at.now ending (children_from p.now at.now.node from)) }
+{
+    match first_statement(p, at, from) {
+        Some(s) => ask(
+            at.inner(s.node),
+            OwnWait::Statement {
+                place: s.place,
+                ending,
+            },
+        ),
+        None => end(&ended(ending, Completion::Normal(Value::Undefined))),
+    }
+}
+
+pub fn after_statement(p: &Source, at: &Part, place: u32, ending: Ending, c: &Completion) -> Next
+    ensures row { DoesPurely p.now at.now result
+        (own_rest p.now at.now (OwnWait.Statement place ending) [] c.now) }
+{
+    match c {
+        Completion::Normal(_) => statements(p, at, ending, p.behind(place, 1)),
+        _ => end(&ended(ending, *c)),
+    }
+}
+
+pub fn begin_block(p: &Source, at: &Part) -> Next
+    ensures row { DoesPurely p.now at.now result (block_row p.now at.now) }
+{
+    statements(p, at, Ending::Block, 0)
+}
+
+// SIMPLE STATEMENTS
+
+pub fn begin_expression(p: &Source, at: &Part) -> Next
+    ensures row { DoesPurely p.now at.now result (expression_row p.now at.now) }
+{
+    ask(p.part_at(at, 0), OwnWait::Expression)
+}
+
+pub fn after_expression(c: &Completion) -> Next
+    ensures row { DoesAlways result (λ w. with_value c.now w (λ _. done w)) }
+{
+    match value_of(c) {
+        Some(_) => give(Value::Undefined),
+        None => end(c),
+    }
+}
+
+pub fn begin_if(p: &Source, at: &Part) -> Next
+    ensures row { DoesPurely p.now at.now result (if_row p.now at.now) }
+{
+    ask(p.part_at(at, 0), OwnWait::IfTest)
+}
+
+pub fn after_if_test(p: &Source, heap: &Heap, at: &Part, c: &Completion) -> Next
+    ensures row { Does p.now at.now result heap.now
+        (own_rest p.now at.now OwnWait.IfTest [] c.now heap.now) }
+{
+    match value_of(c) {
+        Some(test) => {
+            if truth_of(heap, &test) {
+                return ask(p.part_at(at, 1), OwnWait::Last);
+            }
+            match p.child_at(at.node, 2) {
+                Some(s) => ask(at.inner(s), OwnWait::Last),
+                None => give(Value::Undefined),
+            }
+        },
+        None => end(c),
+    }
+}
+
+pub fn begin_return(p: &Source, at: &Part) -> Next
+    ensures row { DoesPurely p.now at.now result (return_row p.now at.now) }
+{
+    match p.child_at(at.node, 0) {
+        Some(e) => ask(at.inner(e), OwnWait::ReturnValue),
+        None => end(&Completion::Returned(Value::Undefined)),
+    }
+}
+
+pub fn after_return_value(c: &Completion) -> Next
+    ensures row { DoesAlways result (return_end c.now) }
+{
+    match value_of(c) {
+        Some(v) => end(&Completion::Returned(v)),
+        None => end(c),
+    }
+}
+
+// LOOPS
+
+/// Whether a loop goes on after its statement, and else what it ends with.
+fn goes_on(c: &Completion) -> Result<(), Completion>
+    ensures { MatchResult result (λ _. (w : World) (again : Row) → goes_on c.now w again ≡ again)
+        (λ end. (w : World) (again : Row) → goes_on c.now w again ≡ Ends end w) }
+{
+    match c {
+        Completion::Broken => Err(Completion::Normal(Value::Undefined)),
+        Completion::Thrown(_) | Completion::Returned(_) => Err(*c),
+        _ => Ok(()),
+    }
+}
+
+/// Whether a loop goes on after its test, and else what it ends with.
+fn tested(heap: &Heap, c: &Completion) -> Result<(), Completion>
+    ensures { MatchResult result (λ _. (again : Row) → tested c.now heap.now again ≡ again)
+        (λ end. (again : Row) → tested c.now heap.now again ≡ Ends end heap.now) }
+{
+    match value_of(c) {
+        Some(test) => {
+            if truth_of(heap, &test) {
+                Ok(())
+            } else {
+                Err(Completion::Normal(Value::Undefined))
+            }
+        },
+        None => Err(*c),
+    }
+}
+
+pub fn begin_do(p: &Source, at: &Part) -> Next
+    ensures row { DoesPurely p.now at.now result (do_row p.now at.now) }
+{
+    turn(p.part_at(at, 0), OwnWait::DoBody)
+}
+
+pub fn after_do_body(p: &Source, at: &Part, c: &Completion) -> Next
+    ensures row { DoesPurely p.now at.now result (own_rest p.now at.now OwnWait.DoBody [] c.now) }
+{
+    match goes_on(c) {
+        Ok(()) => turn(p.part_at(at, 1), OwnWait::DoTest),
+        Err(other) => end(&other),
+    }
+}
+
+pub fn after_do_test(p: &Source, heap: &Heap, at: &Part, c: &Completion) -> Next
+    ensures row { Does p.now at.now result heap.now
+        (own_rest p.now at.now OwnWait.DoTest [] c.now heap.now) }
+{
+    match tested(heap, c) {
+        Ok(()) => begin_do(p, at),
+        Err(other) => end(&other),
+    }
+}
+
+pub fn begin_while(p: &Source, at: &Part) -> Next
+    ensures row { DoesPurely p.now at.now result (while_row p.now at.now) }
+{
+    turn(p.part_at(at, 0), OwnWait::WhileTest)
+}
+
+pub fn after_while_test(p: &Source, heap: &Heap, at: &Part, c: &Completion) -> Next
+    ensures row { Does p.now at.now result heap.now
+        (own_rest p.now at.now OwnWait.WhileTest [] c.now heap.now) }
+{
+    match tested(heap, c) {
+        Ok(()) => turn(p.part_at(at, 1), OwnWait::WhileBody),
+        Err(other) => end(&other),
+    }
+}
+
+pub fn after_while_body(p: &Source, at: &Part, c: &Completion) -> Next
+    ensures row { DoesPurely p.now at.now result
+        (own_rest p.now at.now OwnWait.WhileBody [] c.now) }
+{
+    match goes_on(c) {
+        Ok(()) => begin_while(p, at),
+        Err(other) => end(&other),
+    }
+}
+
+/// The statement of a `for`.
+fn for_statement(p: &Source, at: &Part) -> Next
+    ensures row { DoesPurely p.now at.now result (for_statement p.now at.now) }
+{
+    turn(p.part_at(at, 3), OwnWait::ForBody)
+}
+
+/// A turn of a `for`: its test, or its statement where it has none.
+fn for_turn(p: &Source, at: &Part) -> Next
+    ensures row { DoesPurely p.now at.now result (for_turn p.now at.now) }
+{
+    match p.child_at(at.node, 1) {
+        Some(test) => turn(at.inner(test), OwnWait::ForTest),
+        None => for_statement(p, at),
+    }
+}
+
+pub fn after_for_test(p: &Source, heap: &Heap, at: &Part, c: &Completion) -> Next
+    ensures row { Does p.now at.now result heap.now
+        (own_rest p.now at.now OwnWait.ForTest [] c.now heap.now) }
+{
+    match tested(heap, c) {
+        Ok(()) => for_statement(p, at),
+        Err(other) => end(&other),
+    }
+}
+
+pub fn after_for_body(p: &Source, at: &Part, c: &Completion) -> Next
+    ensures row { DoesPurely p.now at.now result (own_rest p.now at.now OwnWait.ForBody [] c.now) }
+{
+    match goes_on(c) {
+        Ok(()) => for_update(p, at),
+        Err(other) => end(&other),
+    }
+}
+
+/// The update of a `for`, or its next turn where it has none.
+fn for_update(p: &Source, at: &Part) -> Next
+    ensures row { DoesPurely p.now at.now result
+        (for_update_by p.now at.now (child_at p.now at.now.node 2)) }
+{
+    match p.child_at(at.node, 2) {
+        Some(update) => turn(at.inner(update), OwnWait::ForUpdate),
+        None => for_turn(p, at),
+    }
+}
+
+pub fn after_for_update(p: &Source, at: &Part, c: &Completion) -> Next
+    ensures row { DoesPurely p.now at.now result
+        (own_rest p.now at.now OwnWait.ForUpdate [] c.now) }
+{
+    match value_of(c) {
+        Some(_) => for_turn(p, at),
+        None => end(c),
+    }
+}
+
+// DECLARATIONS
+
+fn is_bindings(form: Form) -> bool
+    ensures { result ≡ is_bindings form }
+{
+    matches!(form, Form::Bindings)
+}
+
+/// The node whose children are the declarators.
+fn declarators_in(p: &Source, at: &Part) -> u32
+    ensures { result ≡ declarators_in p.now at.now }
+{
+    if is_for(p.form(at.node)) {
+        p.child(at.node, 0)
+    } else {
+        at.node
+    }
+}
+
+/// What follows the declarators.
+fn declared(p: &Source, at: &Part) -> Next
+    ensures row { DoesPurely p.now at.now result (declared p.now at.now) }
+{
+    if is_for(p.form(at.node)) {
+        for_turn(p, at)
+    } else {
+        give(Value::Undefined)
+    }
+}
+
+/// The initialisers from this place on.
+#[tactic(auto, using(rip_language::proofs::Children::children_some, rip_language::proofs::Children::children_none))]
+fn declarations(p: &Source, at: &Part, from: u32) -> Next
+    ensures row { DoesPurely p.now at.now result
+        (declarations p.now at.now (children_from p.now (declarators_in p.now at.now) from)) }
+{
+    let list = declarators_in(p, at);
+    let mut place = from;
+    while let Some(d) = p.child_at(list, place) {
+        if let Some(e) = p.child_at(d, 0) {
+            return ask(at.inner(e), OwnWait::Initialiser { place });
+        }
+        place += 1;
+    }
+    declared(p, at)
+}
+
+pub fn begin_var(p: &Source, at: &Part) -> Next
+    ensures row { DoesPurely p.now at.now result (var_row p.now at.now) }
+{
+    declarations(p, at, 0)
+}
+
+pub fn after_initialiser(p: &Source, heap: &mut Heap, at: &Part, place: u32, c: &Completion) -> Next
+    ensures row { Does p.now at.now result heap.new
+        (own_rest p.now at.now (OwnWait.Initialiser place) [] c.now heap.old) }
+    ensures grows { Grows heap.old heap.new }
+{
+    match value_of(c) {
+        Some(v) => {
+            let name = p.scoping(p.child(declarators_in(p, at), place));
+            match write(heap, at.scope, name, v) {
+                Ok(()) => declarations(p, at, p.behind(place, 1)),
+                Err(class) => throw(p.alloc(), heap, class),
+            }
+        },
+        None => end(c),
+    }
+}
+
+pub fn begin_for(p: &Source, at: &Part) -> Next
+    ensures row { DoesPurely p.now at.now result (for_row p.now at.now) }
+{
+    match p.child_at(at.node, 0) {
+        Some(start) => {
+            if is_bindings(p.form(start)) {
+                begin_var(p, at)
+            } else {
+                ask(at.inner(start), OwnWait::ForStart)
+            }
+        },
+        None => for_turn(p, at),
+    }
+}
+
+pub fn after_for_start(p: &Source, at: &Part, c: &Completion) -> Next
+    ensures row { DoesPurely p.now at.now result (own_rest p.now at.now OwnWait.ForStart [] c.now) }
+{
+    match value_of(c) {
+        Some(_) => for_turn(p, at),
+        None => end(c),
+    }
+}
