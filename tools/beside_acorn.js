@@ -3,8 +3,8 @@
 // trial finds no list of tokens that goes on; where the two differ the script is left out.
 //
 //   git clone . /tmp/beside
-//   node --expose-internals tools/beside_acorn.js 1 400 /tmp/beside/crates/rip_parser/src/tests.rt
-//   cd /tmp/beside/crates/rip_parser && rt try --test
+//   node --expose-internals tools/beside_acorn.js 1 400 /tmp/beside/crates/tests_syntax/src/parser.rt
+//   cd /tmp/beside/crates/tests_syntax && rt try --test
 //
 // It puts what it finds in the place of the tables TREES and REFUSED of the tests, and prints how many there are of each.
 //

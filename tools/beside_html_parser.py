@@ -2,8 +2,8 @@
 # that html.parser's events give when void elements have no content.
 #
 #   git clone . /tmp/beside
-#   python3 tools/beside_html_parser.py 1 300 /tmp/beside/crates/rip_html/src/tests.rt
-#   cd /tmp/beside/crates/rip_html && rt try --test
+#   python3 tools/beside_html_parser.py 1 300 /tmp/beside/crates/tests_syntax/src/html.rt
+#   cd /tmp/beside/crates/tests_syntax && rt try --test
 #
 # It puts what it finds in the place of the table PAGES of the tests, and prints how many there are.
 #

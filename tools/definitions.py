@@ -5,7 +5,8 @@
     definitions.py --check    tells whether the page is what would be written (the gate runs this)
 
 A row is a public definition: its name with its type, its file, the section of a standard that its comment names,
-and the comment directly above it.
+and the comment directly above it. A section with which a comment begins stands in its own column alone.
+The page begins with its crates in the parts of docs/CRATES.md.
 """
 
 import os
@@ -14,12 +15,19 @@ import sys
 
 TOP = os.path.dirname(os.path.dirname(os.path.abspath(__file__)))
 PAGE = os.path.join(TOP, "docs", "DEFINITIONS.md")
+PARTS = os.path.join(TOP, "docs", "CRATES.md")
 HEAD = re.compile(r"^(?:abbrev |unfoldable |lazy )*pub (?!use|mod)(?:(data|record) )?([^\s:({]+)(.*)$")
 SECTION = re.compile(r"\(((?:[^()]|\([^()]*\))*)\)")
 STANDARD = re.compile(
     r"((?:ECMA-262|RFC \d+|DOM Level 2(?: \w+)?|HTML(?: living standard)?|JSON|Unicode)?,? ?(?:section )?"
     r"(?:annex )?[A-Z]?\.?\d+(?:\.\d+)+(?:\([a-z]\))?(?:(?:,| and| to) \d+(?:\.\d+)+)*|RFC \d+(?: section \d+)?)"
 )
+FIRST = re.compile(
+    r"((?:(?:ECMA-262|RFC \d+|DOM Level 2(?: \w+)?|HTML) (?:section )?)?[A-Z]?\.?\d+(?:\.\d+)+"
+    r"(?:(?:,| and| to) \d+(?:\.\d+)+)*)(?:[:,] (.*))?"
+)
+# sections alone; without a point only the chapters of ECMA-262 on the grammar, since a code of a unit may stand so too
+NUMBERS = re.compile(r"(?:\d+(?:\.\d+)+|1[1-4])(?:(?: and|,| to) (?:\d+(?:\.\d+)+|1[1-4]))*")
 LINE = 160
 
 
@@ -81,13 +89,23 @@ def rows(crate):
                 says = f"a part of `{last}`" if last else ""
             else:
                 last = name
-            yield name, type_of(kind, rest, lines[n + 1 :]), file, section(says), says
+            where, says = first_section(says)
+            yield name, type_of(kind, rest, lines[n + 1 :]), file, where, says
+
+
+def first_section(says):
+    """The sections of a comment, and the comment without the one that it begins with."""
+    first = FIRST.fullmatch(says)
+    if not first:
+        return section(says), says
+    where, rest = first.group(1), first.group(2) or "what the section says"
+    return ", ".join(filter(None, (where, section(rest)))), rest
 
 
 def section(says):
     found = []
     for inside in SECTION.findall(says):
-        if re.fullmatch(r"\d+(\.\d+)*(( and|,| to) \d+(\.\d+)*)*", inside):
+        if NUMBERS.fullmatch(inside):
             found.append(inside)
             continue
         found += [m.group(0).strip(" ,") for m in STANDARD.finditer(inside)]
@@ -98,18 +116,40 @@ def cell(text):
     return text.replace("|", "\\|")
 
 
+def contents(counts):
+    """A row for each part of docs/CRATES.md: its crates that have definitions, linked, and how many each has."""
+    part, parts = None, {}
+    with open(PARTS, encoding="utf-8") as f:
+        for line in f:
+            if line.startswith("## "):
+                part = line[3:].strip()
+            elif line.startswith("| `"):
+                for crate in re.findall(r"`(\w+)`", line.split(" | ")[0]):
+                    parts.setdefault(crate, part)
+    listed = {part: [] for part in parts.values()}
+    for crate, count in counts.items():
+        listed.setdefault(parts.get(crate, "Others"), []).append(f"[{crate}](#{crate}) {count}")
+    yield from ("", "| part | crates, with how many definitions each has |", "|---|---|")
+    for part, links in listed.items():
+        if links:
+            yield f"| {part} | {', '.join(links)} |"
+
+
 def page():
+    tables = {crate: list(rows(crate)) for crate in crates()}
+    tables = {crate: table for crate, table in tables.items() if table}
     out = [
         "# Definitions",
         "",
         "Each public definition of `specs/`, crate by crate, lowest first: its name and type, its file, the section of the",
-        "standard that it states (where there is one), and what it says. The rules without a section are Ripley's own.",
+        "standard that it states (where there is one), and what it says. The rules without a section are Ripley's own; a",
+        "section without a standard is one of ECMA-262 5.1, and in `rip_dom` and `rip_nodes` of DOM Level 2 Core.",
         "This page is written by `tools/definitions.py` from the comments of the definitions, and the gate compares it.",
+        "What each crate is for and what is proved of it stands in [CRATES.md](CRATES.md); which clause cites a definition,",
+        "in [PROMISES.md](PROMISES.md); why something is defined as it is, in [DECISIONS.md](DECISIONS.md).",
     ]
-    for crate in crates():
-        table = list(rows(crate))
-        if not table:
-            continue
+    out += contents({crate: len(table) for crate, table in tables.items()})
+    for crate, table in tables.items():
         out += ["", f"## {crate}", "", "| definition | file | standard | what it says |", "|---|---|---|---|"]
         for name, kind, file, where, says in table:
             shown = f"`{name}`" + (f" : `{kind}`" if kind else "")
