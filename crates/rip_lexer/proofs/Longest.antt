@@ -10,7 +10,7 @@ use Rattle.rip_values.specs.Units.{is_one_of, is_hex_digit, begins}
 use Rattle.rip_grammar.specs.declared.word.Word.{Word}
 use Rattle.rip_grammar.specs.declared.word.Word.TheVariants as W
 use Rattle.rip_lexer.specs.Units.{class_of, is_digit, is_digit_class, is_name_unit, is_name_class, is_name_start, is_name_start_class, is_quote_class, is_mark, is_mark_class}
-use Rattle.rip_lexer.specs.Words.{Entry, is_word, is_among, look_up, reserved_words, punctuators, word_in}
+use Rattle.rip_lexer.specs.Words.{Entry, is_word, is_among, look_up, reserved_words, punctuators, long_punctuators, double_punctuators, single_punctuators, word_in}
 use Rattle.rip_lexer.specs.Numeral.{is_decimal, has_prefix, is_hexadecimal, is_numeral}
 use Rattle.rip_lexer.specs.Text.{spell, spell_all, AreCharacters, character_value, refused_in, ends_text, ReadsText, StandsFor, text_fault}
 use Rattle.rip_lexer.specs.Gap.{begins_comment}
@@ -60,7 +60,7 @@ mark_starts [] mark = absurd (false≢true mark)
 mark_starts (c ∷ cs) mark = record { first = c; rest = cs; splits = refl; class-is = class_from_mark _ mark }
 
 punctuator_is_mark : (s : List ℕ) → is_among punctuators s ≡ true → begins is_mark s ≡ true
-unfolding punctuators class_of
+unfolding punctuators class_of long_punctuators double_punctuators single_punctuators
 punctuator_is_mark s among = among_all punctuators (begins is_mark) s among refl
 
 decimal_digit : (c : ℕ) (cs : List ℕ) → is_decimal (c ∷ cs) ≡ true → is_digit c ≡ true
@@ -357,11 +357,11 @@ pub mark_word : (units : List ℕ) (n : ℕ) (word : Word) → n ≡ first_count
 mark_word units n word n-is word-is = word-is ∙ first_word-looked_up punctuators units ∙ ap (λ m. look_up W.Unused punctuators (take m units)) (sym n-is)
 
 sorted_punctuators : falls punctuators ≡ true
-unfolding punctuators
+unfolding punctuators long_punctuators double_punctuators single_punctuators
 sorted_punctuators = refl
 
 mark_is_punctuator : (c : ℕ) → class_of c ≡ Mark → is_among punctuators (c ∷ []) ≡ true
-unfolding punctuators
+unfolding punctuators long_punctuators double_punctuators single_punctuators
 mark_is_punctuator c mark = one_of_all marks (λ u. is_among punctuators (u ∷ [])) c (mark_is c mark) refl
 
 pub begins_punctuator : (units : List ℕ) (n : ℕ) → n ≡ first_count punctuators units → n ≤ length units → begins is_mark units ≡ true → begins_comment units ≡ false → Begins Punctuator (take n units) (drop n units)
@@ -457,3 +457,76 @@ begins_text units quote characters rest tail n reads rest-is right count-is =
           omega (arith, ap length e, length-append other more))
           (text_no_comment units quote (spell_all characters rest) reads.is_quote reads.spelled),
     )
+
+-- each spelling has a unit
+abbrev are_spelled : List Entry → Bool
+are_spelled entries = list_all (λ (e : Entry). nat_le 1 (length e.spelling)) entries
+
+-- what the units begin with is told by the first of two tables that has it
+pub in_front : (front back : List Entry) (units : List ℕ) → first_count front units ≢ 0
+    → (first_count (front ++ back) units ≡ first_count front units) × (first_word (front ++ back) units ≡ first_word front units)
+in_front [] back units some = absurd (some refl)
+in_front (e ∷ front) back units some = by (begins_with e.spelling units) some (λ below. in_front front back units below)
+  where
+    by : (b : Bool) → cond b (length e.spelling) (first_count front units) ≢ 0
+        → (first_count front units ≢ 0 → (first_count (front ++ back) units ≡ first_count front units) × (first_word (front ++ back) units ≡ first_word front units))
+        → (cond b (length e.spelling) (first_count (front ++ back) units) ≡ cond b (length e.spelling) (first_count front units))
+        × (cond b e.word (first_word (front ++ back) units) ≡ cond b e.word (first_word front units))
+    by true some below = (refl, refl)
+    by false some below = below some
+
+-- and by the second where the first has none
+pub behind : (front back : List Entry) (units : List ℕ) → are_spelled front ≡ true → first_count front units ≡ 0
+    → (first_count (front ++ back) units ≡ first_count back units) × (first_word (front ++ back) units ≡ first_word back units)
+behind [] back units spelled none = (refl, refl)
+behind (e ∷ front) back units spelled none =
+    let parts = and_parts (nat_le 1 (length e.spelling)) _ spelled in
+    by (begins_with e.spelling units) (leb-true 1 (length e.spelling) parts.0) none (λ below. behind front back units parts.1 below)
+  where
+    by : (b : Bool) → 1 ≤ length e.spelling → cond b (length e.spelling) (first_count front units) ≡ 0
+        → (first_count front units ≡ 0 → (first_count (front ++ back) units ≡ first_count back units) × (first_word (front ++ back) units ≡ first_word back units))
+        → (cond b (length e.spelling) (first_count (front ++ back) units) ≡ first_count back units)
+        × (cond b e.word (first_word (front ++ back) units) ≡ first_word back units)
+    by true some none below = absurd (omega arith)
+    by false some none below = below none
+
+-- the tables of punctuators, joined
+joined_punctuators : punctuators ≡ long_punctuators ++ (double_punctuators ++ single_punctuators)
+unfolding punctuators
+joined_punctuators = refl
+
+long_are_spelled : are_spelled long_punctuators ≡ true
+unfolding long_punctuators
+long_are_spelled = refl
+
+doubles_are_spelled : are_spelled double_punctuators ≡ true
+unfolding double_punctuators
+doubles_are_spelled = refl
+
+-- a punctuator is told by the first of the three tables that has it
+abbrev IsMark : List Entry → List ℕ → ℕ → Word → Type 0
+IsMark entries units count word = (count ≡ first_count entries units) × (word ≡ first_word entries units)
+
+pub long_mark_is_longest : (units : List ℕ) (count : ℕ) (word : Word) → IsMark long_punctuators units count word → 0 < count
+    → IsMark punctuators units count word
+long_mark_is_longest units count word is some =
+    let joined = in_front long_punctuators (double_punctuators ++ single_punctuators) units (λ none. (let e = is.0 ∙ none in absurd (omega arith))) in
+    (is.0 ∙ sym joined.0 ∙ ap (λ t. first_count t units) (sym joined_punctuators), is.1 ∙ sym joined.1 ∙ ap (λ t. first_word t units) (sym joined_punctuators))
+
+pub later_mark_is_longest : (units : List ℕ) (count : ℕ) (word : Word) → first_count long_punctuators units ≡ 0
+    → IsMark (double_punctuators ++ single_punctuators) units count word → IsMark punctuators units count word
+later_mark_is_longest units count word none is =
+    let joined = behind long_punctuators (double_punctuators ++ single_punctuators) units long_are_spelled none in
+    (is.0 ∙ sym joined.0 ∙ ap (λ t. first_count t units) (sym joined_punctuators), is.1 ∙ sym joined.1 ∙ ap (λ t. first_word t units) (sym joined_punctuators))
+
+pub double_mark_is_longest : (units : List ℕ) (count : ℕ) (word : Word) → 0 ≡ first_count long_punctuators units
+    → IsMark double_punctuators units count word → 0 < count → IsMark punctuators units count word
+double_mark_is_longest units count word none is some =
+    let joined = in_front double_punctuators single_punctuators units (λ zero. (let e = is.0 ∙ zero in absurd (omega arith))) in
+    later_mark_is_longest units count word (sym none) (is.0 ∙ sym joined.0, is.1 ∙ sym joined.1)
+
+pub single_mark_is_longest : (units : List ℕ) (count : ℕ) (word : Word) → 0 ≡ first_count long_punctuators units
+    → 0 ≡ first_count double_punctuators units → IsMark single_punctuators units count word → IsMark punctuators units count word
+single_mark_is_longest units count word none none_either is =
+    let joined = behind double_punctuators single_punctuators units doubles_are_spelled (sym none_either) in
+    later_mark_is_longest units count word (sym none) (is.0 ∙ sym joined.0, is.1 ∙ sym joined.1)

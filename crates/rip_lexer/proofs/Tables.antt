@@ -8,7 +8,7 @@ use Rattle.rip_values.specs.declared.operator.LogicalOperator.TheVariants as L
 use Rattle.rip_values.specs.declared.operator.StepOperator.TheVariants as S
 use Rattle.rip_values.specs.declared.operator.UnaryOperator.TheVariants as U
 use Rattle.rip_lexer.specs.declared.token.TokenKind.TheVariants as K
-use Rattle.rip_lexer.specs.Words.{is_among, look_up, punctuators, reserved_words, word_in}
+use Rattle.rip_lexer.specs.Words.{is_among, look_up, punctuators, long_punctuators, double_punctuators, single_punctuators, reserved_words, word_in}
 use Rattle.rip_lexer.proofs.Spellings.{among_all}
 use Rattle.rip_grammar.specs.declared.word.Word.{Word}
 use Rattle.rip_grammar.specs.declared.word.Word.TheVariants as W
@@ -110,7 +110,7 @@ unfolding reserved_words
 reserved_are_names s among = among_all reserved_words (λ w. is_identifier_name (look_up W.Unused reserved_words w)) s among refl
 
 marks_are_no_names : (s : List ℕ) → is_among punctuators s ≡ true → not (is_identifier_name (look_up W.Unused punctuators s)) ≡ true
-unfolding punctuators
+unfolding punctuators long_punctuators double_punctuators single_punctuators
 marks_are_no_names s among = among_all punctuators (λ w. not (is_identifier_name (look_up W.Unused punctuators w))) s among refl
 
 pub names_are_identifiers : NamesAreIdentifiers
@@ -121,7 +121,7 @@ names_are_identifiers K.Text s is = refl
 names_are_identifiers K.Punctuator s is = opposite _ (marks_are_no_names s is)
 
 mark_spelled : (s : List ℕ) → is_among punctuators s ≡ true → bytes_eq (spelling_of (look_up W.Unused punctuators s)) s ≡ true
-unfolding punctuators
+unfolding punctuators long_punctuators double_punctuators single_punctuators
 mark_spelled s among = among_all punctuators (λ w. bytes_eq (spelling_of (look_up W.Unused punctuators w)) w) s among refl
 
 pub marks_are_apart : MarksAreApart

@@ -1,6 +1,6 @@
 -- Names, reserved words and punctuators, as whole spellings, and the words that they are to the grammar (ECMA-262 7.6,
 -- 7.6.1, 7.7).
-use Rattle.std.specs.Prelude.{ℕ, Bool, false, ◌&&◌, if◌then◌else◌, List, [], ◌∷◌, codes}
+use Rattle.std.specs.Prelude.{ℕ, Bool, false, ◌&&◌, if◌then◌else◌, List, [], ◌∷◌, ◌++◌, codes}
 use Rattle.std.specs.Str.{bytes_eq}
 use Rattle.std.specs.List.{list_any, list_all}
 use Rattle.rip_values.specs.declared.operator.BinaryOperator.TheVariants as B
@@ -59,14 +59,18 @@ reserved_words =
     ∷ entry (codes "interface") W.Unused ∷ entry (codes "protected") W.Unused
     ∷ entry (codes "instanceof") (W.Infix B.InstanceOf) ∷ entry (codes "implements") W.Unused ∷ []
 
--- the punctuators (7.7), the longest first
-unfoldable pub punctuators : List Entry
-punctuators =
+-- the punctuators of four and three units
+unfoldable pub long_punctuators : List Entry
+long_punctuators =
     entry (codes ">>>=") (W.Compound B.ShiftRightUnsigned)
     ∷ entry (codes "===") (W.Infix B.StrictEqual) ∷ entry (codes "!==") (W.Infix B.StrictNotEqual)
     ∷ entry (codes ">>>") (W.Infix B.ShiftRightUnsigned)
-    ∷ entry (codes "<<=") (W.Compound B.ShiftLeft) ∷ entry (codes ">>=") (W.Compound B.ShiftRight)
-    ∷ entry (codes "<=") (W.Infix B.LessOrEqual) ∷ entry (codes ">=") (W.Infix B.GreaterOrEqual)
+    ∷ entry (codes "<<=") (W.Compound B.ShiftLeft) ∷ entry (codes ">>=") (W.Compound B.ShiftRight) ∷ []
+
+-- those of two units
+unfoldable pub double_punctuators : List Entry
+double_punctuators =
+    entry (codes "<=") (W.Infix B.LessOrEqual) ∷ entry (codes ">=") (W.Infix B.GreaterOrEqual)
     ∷ entry (codes "==") (W.Infix B.Equal) ∷ entry (codes "!=") (W.Infix B.NotEqual)
     ∷ entry (codes "++") (W.Step S.Increment) ∷ entry (codes "--") (W.Step S.Decrement)
     ∷ entry (codes "<<") (W.Infix B.ShiftLeft) ∷ entry (codes ">>") (W.Infix B.ShiftRight)
@@ -74,8 +78,12 @@ punctuators =
     ∷ entry (codes "+=") (W.Compound B.Add) ∷ entry (codes "-=") (W.Compound B.Subtract)
     ∷ entry (codes "*=") (W.Compound B.Multiply) ∷ entry (codes "%=") (W.Compound B.Remainder)
     ∷ entry (codes "/=") (W.Compound B.Divide) ∷ entry (codes "&=") (W.Compound B.BitAnd)
-    ∷ entry (codes "|=") (W.Compound B.BitOr) ∷ entry (codes "^=") (W.Compound B.BitXor)
-    ∷ entry (codes "{") W.OpenBrace ∷ entry (codes "}") W.CloseBrace ∷ entry (codes "(") W.OpenParenthesis
+    ∷ entry (codes "|=") (W.Compound B.BitOr) ∷ entry (codes "^=") (W.Compound B.BitXor) ∷ []
+
+-- those of one unit
+unfoldable pub single_punctuators : List Entry
+single_punctuators =
+    entry (codes "{") W.OpenBrace ∷ entry (codes "}") W.CloseBrace ∷ entry (codes "(") W.OpenParenthesis
     ∷ entry (codes ")") W.CloseParenthesis
     ∷ entry (codes "[") W.OpenBracket ∷ entry (codes "]") W.CloseBracket ∷ entry (codes ".") W.Point
     ∷ entry (codes ";") W.Semicolon ∷ entry (codes ",") W.Comma
@@ -86,6 +94,10 @@ punctuators =
     ∷ entry (codes "&") (W.Infix B.BitAnd) ∷ entry (codes "|") (W.Infix B.BitOr) ∷ entry (codes "^") (W.Infix B.BitXor)
     ∷ entry (codes "!") (W.Prefix U.Not) ∷ entry (codes "~") (W.Prefix U.BitNot) ∷ entry (codes "?") W.Question
     ∷ entry (codes ":") W.Colon ∷ entry (codes "=") W.Assign ∷ []
+
+-- the punctuators (7.7), the longest first
+unfoldable pub punctuators : List Entry
+punctuators = long_punctuators ++ (double_punctuators ++ single_punctuators)
 
 -- the word of a spelling of this kind
 abbrev pub word_in : TokenKind → List ℕ → Word

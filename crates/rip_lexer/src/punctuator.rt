@@ -1,5 +1,10 @@
 ghost use Rattle.std.specs.Prelude.{◌≡◌, ◌≤◌, length};
-ghost use Rattle.rip_lexer.specs.Words.{punctuators};
+ghost use Rattle.rip_lexer.specs.Words.{
+  double_punctuators,
+  long_punctuators,
+  punctuators,
+  single_punctuators,
+};
 ghost use Rattle.rip_lexer.specs.View.{first_count, first_word};
 
 use crate::ascii::{
@@ -12,10 +17,27 @@ use rip_values::{BinaryOperator, LogicalOperator, StepOperator, UnaryOperator};
 
 /// How many units the longest punctuator has that the units begin with (ECMA-262 7.7), and its word; no units where there
 /// is none.
-#[tactic(auto, unfolding(crate::specs::Words::punctuators))]
 pub(crate) fn longest_mark(units: &[u16]) -> (usize, Word)
     ensures count { result.0 ≡ first_count punctuators units.now }
     ensures word { result.1 ≡ first_word punctuators units.now }
+    ensures bound { result.0 ≤ length units.now }
+{
+    let long = long_mark(units);
+    if long.0 > 0 {
+        return long;
+    }
+    let double = double_mark(units);
+    if double.0 > 0 {
+        return double;
+    }
+    single_mark(units)
+}
+
+/// The same of the punctuators of four and three units.
+#[tactic(auto, unfolding(crate::specs::Words::long_punctuators))]
+fn long_mark(units: &[u16]) -> (usize, Word)
+    ensures count { result.0 ≡ first_count long_punctuators units.now }
+    ensures word { result.1 ≡ first_word long_punctuators units.now }
     ensures bound { result.0 ≤ length units.now }
 {
     match units {
@@ -28,6 +50,18 @@ pub(crate) fn longest_mark(units: &[u16]) -> (usize, Word)
         [GREATER, GREATER, GREATER, ..] => (3, Word::Infix(BinaryOperator::ShiftRightUnsigned)),
         [LESS, LESS, EQUALS, ..] => (3, Word::Compound(BinaryOperator::ShiftLeft)),
         [GREATER, GREATER, EQUALS, ..] => (3, Word::Compound(BinaryOperator::ShiftRight)),
+        _ => (0, Word::Unused),
+    }
+}
+
+/// The same of the punctuators of two units.
+#[tactic(auto, unfolding(crate::specs::Words::double_punctuators))]
+fn double_mark(units: &[u16]) -> (usize, Word)
+    ensures count { result.0 ≡ first_count double_punctuators units.now }
+    ensures word { result.1 ≡ first_word double_punctuators units.now }
+    ensures bound { result.0 ≤ length units.now }
+{
+    match units {
         [LESS, EQUALS, ..] => (2, Word::Infix(BinaryOperator::LessOrEqual)),
         [GREATER, EQUALS, ..] => (2, Word::Infix(BinaryOperator::GreaterOrEqual)),
         [EQUALS, EQUALS, ..] => (2, Word::Infix(BinaryOperator::Equal)),
@@ -46,6 +80,18 @@ pub(crate) fn longest_mark(units: &[u16]) -> (usize, Word)
         [AMPERSAND, EQUALS, ..] => (2, Word::Compound(BinaryOperator::BitAnd)),
         [BAR, EQUALS, ..] => (2, Word::Compound(BinaryOperator::BitOr)),
         [CARET, EQUALS, ..] => (2, Word::Compound(BinaryOperator::BitXor)),
+        _ => (0, Word::Unused),
+    }
+}
+
+/// The same of the punctuators of one unit.
+#[tactic(auto, unfolding(crate::specs::Words::single_punctuators))]
+fn single_mark(units: &[u16]) -> (usize, Word)
+    ensures count { result.0 ≡ first_count single_punctuators units.now }
+    ensures word { result.1 ≡ first_word single_punctuators units.now }
+    ensures bound { result.0 ≤ length units.now }
+{
+    match units {
         [OPEN_BRACE, ..] => (1, Word::OpenBrace),
         [CLOSE_BRACE, ..] => (1, Word::CloseBrace),
         [OPEN_PARENTHESIS, ..] => (1, Word::OpenParenthesis),

@@ -2,7 +2,7 @@
 use Rattle.std.proofs.Common.{◌≡◌, ℕ, zero, suc, ◌+◌, ◌<◌, ◌≤◌, Bool, true, false, List, [], ◌∷◌, ◌++◌, length, map, All, cond, bytes_eq, refl, sym, ap, ◌∙◌, subst, arith, get_or, append_assoc}
 use Rattle.std.specs.List.{list_all}
 use Rattle.std.proofs.lemmas.Bool.{and_parts}
-use Rattle.rip_lexer.specs.Words.{Entry, look_up, punctuators, reserved_words, word_in}
+use Rattle.rip_lexer.specs.Words.{Entry, double_punctuators, long_punctuators, look_up, punctuators, reserved_words, single_punctuators, word_in}
 use Rattle.rip_lexer.specs.Tokens.{Outcome, Lexes, IsTokens, IsTokenOf, units_of}
 use Rattle.rip_lexer.proofs.Lexing.{tokens_stand}
 use Rattle.rip_lexer.proofs.Longest.{not_empty}
@@ -59,7 +59,7 @@ unfolding reserved_words
 reserved-valueless s = look_up-valueless reserved_words s refl
 
 marks-valueless : (s : List ℕ) → is_valueless (look_up W.Unused punctuators s) ≡ true
-unfolding punctuators
+unfolding punctuators long_punctuators double_punctuators single_punctuators
 marks-valueless s = look_up-valueless punctuators s refl
 
 valueless-readable : (text : List ℕ) (tokens : List Token) (t : Lexeme) (w : Word) → is_valueless w ≡ true → IsReadable text tokens t w
