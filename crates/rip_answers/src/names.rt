@@ -37,6 +37,7 @@ pub fn abrupt(alloc: Global, heap: &mut Heap, cause: Abrupt) -> Next
     }
 }
 
+/// A name has the value that it is bound to; as a target it is not read (11.1.2).
 pub fn begin_name(p: &Source, heap: &mut Heap, at: &Part) -> Next
     ensures row { Does p.now at.now result heap.new (name_row p.now at.now at.now.role heap.old) }
     ensures grows { Grows heap.old heap.new }

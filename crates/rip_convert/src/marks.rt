@@ -5,8 +5,8 @@ use rip_values::{FIRST_HEAP_OBJECT, NoMemory};
 use std::alloc::Global;
 use std::marker::Model;
 
-/// Marks of objects, a byte for each number below those that a heap may give: with how few levels left an object was
-/// walked without a fault, or 0. The room for all is taken at once; an object past it has no mark.
+/// Marks of objects, a byte for each by its number: with how few levels left it was walked without a fault, or 0. The
+/// room for as many objects as a heap has cells is taken at once; an object past it has no mark.
 #[derive(Drop)]
 pub(crate) struct Marks {
     levels: Vec<u8>,

@@ -31,12 +31,14 @@ impl Model for KeptReply {
 }
 
 impl KeptReply {
+    /// A reply that is kept, of this datum.
     pub fn new(datum: Datum) -> KeptReply
         ensures { result ≡ tree_of datum }
     {
         KeptReply { datum }
     }
 
+    /// Its datum.
     pub fn datum(&self) -> &Datum
         ensures { tree_of result.now ≡ self.now }
     {

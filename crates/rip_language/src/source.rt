@@ -28,6 +28,7 @@ impl<'a> Model for Source<'a> {
 }
 
 impl Source<'_> {
+    /// The allocator of the session.
     pub fn alloc(&self) -> Global {
         self.alloc
     }
@@ -134,30 +135,35 @@ impl Source<'_> {
         self.worths[id as usize]
     }
 
+    /// The operator of a node of two operands, or of a compound assignment.
     pub fn operator(&self, id: u32) -> BinaryOperator
         ensures { result ≡ operator self.now id }
     {
         operator_in(self.form(id))
     }
 
+    /// The operator of a node of `&&` or `||`.
     pub fn logical_operator(&self, id: u32) -> LogicalOperator
         ensures { result ≡ logical_operator self.now id }
     {
         logical_in(self.form(id))
     }
 
+    /// The operator of a node of one operand.
     pub fn unary_operator(&self, id: u32) -> UnaryOperator
         ensures { result ≡ unary_operator self.now id }
     {
         unary_in(self.form(id))
     }
 
+    /// Whether a node is `++` or `--`.
     pub fn step_operator(&self, id: u32) -> StepOperator
         ensures { result ≡ step_operator self.now id }
     {
         step_in(self.form(id))
     }
 
+    /// Whether `++` or `--` stands behind its target.
     pub fn is_postfix(&self, id: u32) -> bool
         ensures { result ≡ is_postfix self.now id }
     {

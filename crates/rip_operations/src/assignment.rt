@@ -69,12 +69,14 @@ fn writes<H: Host>(
     }
 }
 
+/// An assignment begins with its target (11.13.1).
 pub fn begin_assign(p: &Source, at: &Part) -> Next
     ensures row { DoesPurely p.now at.now result (assign_row p.now at.now) }
 {
     ask(p.target_at(at, 0), OwnWait::AssignTarget)
 }
 
+/// Behind the target of an assignment comes its right side.
 pub fn after_assign_target(p: &Source, at: &Part, c: &Completion) -> Next
     ensures row { DoesPurely p.now at.now result
         (own_rest p.now at.now OwnWait.AssignTarget [] c.now) }
@@ -85,6 +87,7 @@ pub fn after_assign_target(p: &Source, at: &Part, c: &Completion) -> Next
     }
 }
 
+/// Behind the right side of an assignment its value is written into the target.
 #[tactic(auto, using(rip_runs::proofs::Settles::settled))]
 pub fn after_assign_value<H: Host>(
     p: &Source,
@@ -107,12 +110,14 @@ pub fn after_assign_value<H: Host>(
     }
 }
 
+/// A compound assignment begins with its target (11.13.2).
 pub fn begin_compound(p: &Source, at: &Part) -> Next
     ensures row { DoesPurely p.now at.now result (compound_row p.now at.now) }
 {
     ask_hosted(p.target_at(at, 0), HostedWait::CompoundTarget)
 }
 
+/// Behind the target of a compound assignment it is read, and then its right side is asked for.
 #[tactic(auto, using(rip_runs::proofs::Settles::settled))]
 pub fn after_compound_target<H: Host>(
     p: &Source,
@@ -145,6 +150,7 @@ fn compound_right(p: &Source, at: &Part, target: Option<Reference>, old: Value) 
     ask_hosted(p.part_at(at, 1), HostedWait::CompoundValue { target, old })
 }
 
+/// Behind the right side of a compound assignment the operator is applied and what it gives is written.
 #[tactic(auto, using(rip_runs::proofs::Settles::settled))]
 pub fn after_compound_value<H: Host>(
     p: &Source,
@@ -172,12 +178,14 @@ pub fn after_compound_value<H: Host>(
     }
 }
 
+/// `++` and `--` begin with their target (11.3, 11.4.4, 11.4.5).
 pub fn begin_step(p: &Source, at: &Part) -> Next
     ensures row { DoesPurely p.now at.now result (step_row p.now at.now) }
 {
     ask_hosted(p.target_at(at, 0), HostedWait::StepTarget)
 }
 
+/// Behind the target of `++` or `--` it is read, counted up or down, and written.
 #[tactic(auto, using(rip_runs::proofs::Settles::settled))]
 pub fn after_step_target<H: Host>(
     p: &Source,

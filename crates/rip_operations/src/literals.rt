@@ -30,6 +30,7 @@ fn elements(p: &Source, at: &Part, array: u32, place: u32) -> Next
     }
 }
 
+/// A literal of an array begins with a new array (11.1.4).
 pub fn begin_array(p: &Source, heap: &mut Heap, at: &Part) -> Next
     ensures row { Does p.now at.now result heap.new (array_row p.now at.now heap.old) }
     ensures grows { Grows heap.old heap.new }
@@ -41,6 +42,7 @@ pub fn begin_array(p: &Source, heap: &mut Heap, at: &Part) -> Next
     }
 }
 
+/// Behind an element it is put into the array, and the next one is asked for.
 pub fn after_element(
     p: &Source,
     heap: &mut Heap,
@@ -80,6 +82,7 @@ fn entries(p: &Source, at: &Part, object: u32, place: u32) -> Next
     }
 }
 
+/// A literal of an object begins with a new object (11.1.5).
 pub fn begin_object(p: &Source, heap: &mut Heap, at: &Part) -> Next
     ensures row { Does p.now at.now result heap.new (object_row p.now at.now heap.old) }
     ensures grows { Grows heap.old heap.new }
@@ -110,6 +113,7 @@ fn put_entry(p: &Source, heap: &mut Heap, object: u32, e: u32, v: Value) -> Resu
     }
 }
 
+/// Behind the value of an entry it is put into the object, and the next one is asked for.
 pub fn after_entry(
     p: &Source,
     heap: &mut Heap,

@@ -195,12 +195,14 @@ fn method_on(base: &Value, function: Value) -> Next
 
 // MEMBERS
 
+/// A member by a name begins with its base (11.2.1).
 pub fn begin_member(p: &Source, at: &Part) -> Next
     ensures row { DoesPurely p.now at.now result (member_row p.now at.now) }
 {
     ask_hosted(p.part_at(at, 0), HostedWait::MemberBase)
 }
 
+/// Behind the base of a member by a name comes what its role asks for.
 #[tactic(auto, using(rip_runs::proofs::Settles::settled))]
 pub fn after_member_base<H: Host>(
     p: &Source,
@@ -248,12 +250,14 @@ fn named_member<H: Host>(
     }
 }
 
+/// A member by an expression begins with its base (11.2.1).
 pub fn begin_index(p: &Source, at: &Part) -> Next
     ensures row { DoesPurely p.now at.now result (index_row p.now at.now) }
 {
     ask(p.part_at(at, 0), OwnWait::IndexBase)
 }
 
+/// Behind the base of a member by an expression comes its subscript.
 pub fn after_index_base(p: &Source, at: &Part, c: &Completion) -> Next
     ensures row { DoesPurely p.now at.now result
         (own_rest p.now at.now OwnWait.IndexBase [] c.now) }
@@ -264,6 +268,7 @@ pub fn after_index_base(p: &Source, at: &Part, c: &Completion) -> Next
     }
 }
 
+/// Behind a subscript comes what the role of the member asks for.
 #[tactic(auto, using(rip_runs::proofs::Settles::settled))]
 pub fn after_subscript<H: Host>(
     p: &Source,

@@ -11,12 +11,14 @@ use rip_ops::binary;
 use rip_runs::{Completion, Next, OwnWait, Part};
 use rip_values::Value;
 
+/// An operator of two operands begins with its left one (11.5 to 11.10).
 pub fn begin_binary(p: &Source, at: &Part) -> Next
     ensures row { DoesPurely p.now at.now result (binary_row p.now at.now) }
 {
     ask(p.part_at(at, 0), OwnWait::Left)
 }
 
+/// Behind the left operand comes the right one.
 pub fn after_left(p: &Source, at: &Part, c: &Completion) -> Next
     ensures row { DoesPurely p.now at.now result (own_rest p.now at.now OwnWait.Left [] c.now) }
 {
@@ -26,6 +28,7 @@ pub fn after_left(p: &Source, at: &Part, c: &Completion) -> Next
     }
 }
 
+/// Behind the right operand the operator is applied.
 pub fn after_right(p: &Source, heap: &mut Heap, at: &Part, left: Value, c: &Completion) -> Next
     ensures row { Does p.now at.now result heap.new
         (own_rest p.now at.now (OwnWait.Right left) [] c.now heap.old) }
@@ -40,12 +43,14 @@ pub fn after_right(p: &Source, heap: &mut Heap, at: &Part, left: Value, c: &Comp
     }
 }
 
+/// `&&` and `||` begin with their left operand (11.11).
 pub fn begin_logical(p: &Source, at: &Part) -> Next
     ensures row { DoesPurely p.now at.now result (logical_row p.now at.now) }
 {
     ask(p.part_at(at, 0), OwnWait::LogicalLeft)
 }
 
+/// Behind the left operand of `&&` or `||` it is the value, or the right one is asked for.
 pub fn after_logical_left(p: &Source, heap: &Heap, at: &Part, c: &Completion) -> Next
     ensures row { Does p.now at.now result heap.now
         (own_rest p.now at.now OwnWait.LogicalLeft [] c.now heap.now) }
@@ -62,12 +67,14 @@ pub fn after_logical_left(p: &Source, heap: &Heap, at: &Part, c: &Completion) ->
     }
 }
 
+/// `?:` begins with its test (11.12).
 pub fn begin_conditional(p: &Source, at: &Part) -> Next
     ensures row { DoesPurely p.now at.now result (conditional_row p.now at.now) }
 {
     ask(p.part_at(at, 0), OwnWait::ConditionalTest)
 }
 
+/// Behind the test of `?:` comes the operand that it chooses.
 pub fn after_conditional_test(p: &Source, heap: &Heap, at: &Part, c: &Completion) -> Next
     ensures row { Does p.now at.now result heap.now
         (own_rest p.now at.now OwnWait.ConditionalTest [] c.now heap.now) }
@@ -81,12 +88,14 @@ pub fn after_conditional_test(p: &Source, heap: &Heap, at: &Part, c: &Completion
     }
 }
 
+/// A comma begins with its left operand (11.14).
 pub fn begin_comma(p: &Source, at: &Part) -> Next
     ensures row { DoesPurely p.now at.now result (comma_row p.now at.now) }
 {
     ask(p.part_at(at, 0), OwnWait::CommaLeft)
 }
 
+/// Behind the left operand of a comma comes the right one.
 pub fn after_comma_left(p: &Source, at: &Part, c: &Completion) -> Next
     ensures row { DoesPurely p.now at.now result
         (own_rest p.now at.now OwnWait.CommaLeft [] c.now) }

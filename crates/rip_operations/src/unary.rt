@@ -18,6 +18,7 @@ use rip_tree::Form;
 use rip_values::{Builtin, FixedText, Span, UnaryOperator, Value};
 use std::alloc::Global;
 
+/// An operator of one operand begins with it; `typeof` of a name and `delete` have rows of their own (11.4).
 pub fn begin_unary(p: &Source, at: &Part) -> Next
     ensures row { DoesPurely p.now at.now result (unary_row p.now at.now) }
 {
@@ -58,6 +59,7 @@ fn is_member(form: Form) -> bool
     matches!(form, Form::Member(_) | Form::Index)
 }
 
+/// Behind the operand the operator is applied.
 pub fn after_operand(p: &Source, heap: &mut Heap, at: &Part, c: &Completion) -> Next
     ensures row { Does p.now at.now result heap.new
         (own_rest p.now at.now OwnWait.Operand [] c.now heap.old) }

@@ -30,6 +30,7 @@ use std::slice;
 
 // WHAT CAN BE CALLED
 
+/// What a value is to a call: a function of the script, one that is built in, or nothing that can be called.
 pub fn callable(heap: &Heap, v: &Value) -> Invocable
     ensures { result ≡ callable heap.now v.now }
 {
@@ -336,6 +337,7 @@ fn callee(p: &Source, at: &Part) -> Inner
     }
 }
 
+/// A call begins with what it calls (11.2.3).
 pub fn begin_call(p: &Source, at: &Part) -> Next
     ensures row { DoesPurely p.now at.now result (call_row p.now at.now) }
 {
@@ -369,6 +371,7 @@ fn method_of(c: &Completion) -> Option<Method>
     }
 }
 
+/// Behind what is called comes its first argument, or the call.
 #[tactic(auto, using(rip_language::proofs::Children::children_some, rip_language::proofs::Children::children_none))]
 pub fn after_callee<H: Host>(
     p: &Source,
@@ -401,6 +404,7 @@ pub fn after_callee<H: Host>(
     }
 }
 
+/// Behind an argument comes the next one, or the call.
 #[tactic(auto, using(rip_language::proofs::Children::children_some, rip_language::proofs::Children::children_none))]
 pub fn after_argument<H: Host>(
     p: &Source,

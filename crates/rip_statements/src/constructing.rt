@@ -111,12 +111,14 @@ fn constructs(p: &Source, heap: &mut Heap, at: &Part, constructor: &Value, args:
     }
 }
 
+/// `new` begins with its constructor (11.2.2).
 pub fn begin_new(p: &Source, at: &Part) -> Next
     ensures row { DoesPurely p.now at.now result (new_row p.now at.now) }
 {
     ask(p.part_at(at, 0), OwnWait::Constructor)
 }
 
+/// Behind the constructor comes its first argument, or the object is made.
 #[tactic(auto, using(rip_language::proofs::Children::children_some, rip_language::proofs::Children::children_none))]
 pub fn after_constructor(p: &Source, heap: &mut Heap, at: &Part, c: &Completion) -> Next
     ensures row { Does p.now at.now result heap.new
@@ -138,6 +140,7 @@ pub fn after_constructor(p: &Source, heap: &mut Heap, at: &Part, c: &Completion)
     }
 }
 
+/// Behind an argument comes the next one, or the object is made.
 #[tactic(auto, using(rip_language::proofs::Children::children_some, rip_language::proofs::Children::children_none))]
 pub fn after_new_argument(
     p: &Source,

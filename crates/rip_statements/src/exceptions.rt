@@ -12,12 +12,14 @@ use rip_values::{Refused, Value};
 
 // THROW
 
+/// `throw` begins with its value (12.13).
 pub fn begin_throw(p: &Source, at: &Part) -> Next
     ensures row { DoesPurely p.now at.now result (throw_row p.now at.now) }
 {
     ask(p.part_at(at, 0), OwnWait::ThrowValue)
 }
 
+/// Behind its value that is thrown.
 pub fn after_throw_value(c: &Completion) -> Next
     ensures row { DoesAlways result (throw_end c.now) }
 {
@@ -29,12 +31,14 @@ pub fn after_throw_value(c: &Completion) -> Next
 
 // TRY
 
+/// `try` begins with its block (12.14).
 pub fn begin_try(p: &Source, at: &Part) -> Next
     ensures row { DoesPurely p.now at.now result (try_row p.now at.now) }
 {
     ask(p.part_at(at, 0), OwnWait::TryBlock)
 }
 
+/// Behind the block comes `catch`, if the block threw and there is one, or else `finally`.
 pub fn after_try_block(p: &Source, heap: &mut Heap, at: &Part, c: &Completion) -> Next
     ensures row { Does p.now at.now result heap.new
         (own_rest p.now at.now OwnWait.TryBlock [] c.now heap.old) }
@@ -91,6 +95,7 @@ pub fn finally(p: &Source, at: &Part, before: &Completion) -> Next
     }
 }
 
+/// Behind `finally` what came before it stands, unless `finally` itself ends otherwise.
 pub fn after_finally_block(before: &Completion, c: &Completion) -> Next
     ensures row { DoesAlways result (finally_end before.now c.now) }
 {

@@ -23,6 +23,7 @@ fn has_name(form: Form) -> bool
     }
 }
 
+/// An expression of a function makes it (13).
 pub fn begin_function(p: &Source, heap: &mut Heap, at: &Part) -> Next
     ensures row { Does p.now at.now result heap.new (function_row p.now at.now heap.old) }
     ensures grows { Grows heap.old heap.new }

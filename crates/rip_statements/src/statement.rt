@@ -105,6 +105,7 @@ pub fn statements(p: &Source, at: &Part, ending: Ending, from: u32) -> Next
     }
 }
 
+/// Behind a statement of a list comes the next one, or the list ends.
 pub fn after_statement(p: &Source, at: &Part, place: u32, ending: Ending, c: &Completion) -> Next
     ensures row { DoesPurely p.now at.now result
         (own_rest p.now at.now (OwnWait.Statement place ending) [] c.now) }
@@ -115,6 +116,7 @@ pub fn after_statement(p: &Source, at: &Part, place: u32, ending: Ending, c: &Co
     }
 }
 
+/// A block begins with its first statement (12.1).
 pub fn begin_block(p: &Source, at: &Part) -> Next
     ensures row { DoesPurely p.now at.now result (block_row p.now at.now) }
 {
@@ -123,12 +125,14 @@ pub fn begin_block(p: &Source, at: &Part) -> Next
 
 // SIMPLE STATEMENTS
 
+/// A statement of an expression begins with that (12.4).
 pub fn begin_expression(p: &Source, at: &Part) -> Next
     ensures row { DoesPurely p.now at.now result (expression_row p.now at.now) }
 {
     ask(p.part_at(at, 0), OwnWait::Expression)
 }
 
+/// Behind the expression its statement is done.
 pub fn after_expression(c: &Completion) -> Next
     ensures row { DoesAlways result (λ w. with_value c.now w (λ _. done w)) }
 {
@@ -138,12 +142,14 @@ pub fn after_expression(c: &Completion) -> Next
     }
 }
 
+/// `if` begins with its test (12.5).
 pub fn begin_if(p: &Source, at: &Part) -> Next
     ensures row { DoesPurely p.now at.now result (if_row p.now at.now) }
 {
     ask(p.part_at(at, 0), OwnWait::IfTest)
 }
 
+/// Behind the test of `if` comes the statement that it chooses, if there is one.
 pub fn after_if_test(p: &Source, heap: &Heap, at: &Part, c: &Completion) -> Next
     ensures row { Does p.now at.now result heap.now
         (own_rest p.now at.now OwnWait.IfTest [] c.now heap.now) }
@@ -162,6 +168,7 @@ pub fn after_if_test(p: &Source, heap: &Heap, at: &Part, c: &Completion) -> Next
     }
 }
 
+/// `return` begins with its value, if it has one (12.9).
 pub fn begin_return(p: &Source, at: &Part) -> Next
     ensures row { DoesPurely p.now at.now result (return_row p.now at.now) }
 {
@@ -171,6 +178,7 @@ pub fn begin_return(p: &Source, at: &Part) -> Next
     }
 }
 
+/// Behind its value that is returned.
 pub fn after_return_value(c: &Completion) -> Next
     ensures row { DoesAlways result (return_end c.now) }
 {
@@ -211,12 +219,14 @@ fn tested(heap: &Heap, c: &Completion) -> Result<(), Completion>
     }
 }
 
+/// `do` begins with its body (12.6.1).
 pub fn begin_do(p: &Source, at: &Part) -> Next
     ensures row { DoesPurely p.now at.now result (do_row p.now at.now) }
 {
     turn(p.part_at(at, 0), OwnWait::DoBody)
 }
 
+/// Behind the body of `do` comes its test, unless the loop ends.
 pub fn after_do_body(p: &Source, at: &Part, c: &Completion) -> Next
     ensures row { DoesPurely p.now at.now result (own_rest p.now at.now OwnWait.DoBody [] c.now) }
 {
@@ -226,6 +236,7 @@ pub fn after_do_body(p: &Source, at: &Part, c: &Completion) -> Next
     }
 }
 
+/// Behind the test of `do` comes the body again, or the loop ends.
 pub fn after_do_test(p: &Source, heap: &Heap, at: &Part, c: &Completion) -> Next
     ensures row { Does p.now at.now result heap.now
         (own_rest p.now at.now OwnWait.DoTest [] c.now heap.now) }
@@ -236,12 +247,14 @@ pub fn after_do_test(p: &Source, heap: &Heap, at: &Part, c: &Completion) -> Next
     }
 }
 
+/// `while` begins with its test (12.6.2).
 pub fn begin_while(p: &Source, at: &Part) -> Next
     ensures row { DoesPurely p.now at.now result (while_row p.now at.now) }
 {
     turn(p.part_at(at, 0), OwnWait::WhileTest)
 }
 
+/// Behind the test of `while` comes its body, or the loop ends.
 pub fn after_while_test(p: &Source, heap: &Heap, at: &Part, c: &Completion) -> Next
     ensures row { Does p.now at.now result heap.now
         (own_rest p.now at.now OwnWait.WhileTest [] c.now heap.now) }
@@ -252,6 +265,7 @@ pub fn after_while_test(p: &Source, heap: &Heap, at: &Part, c: &Completion) -> N
     }
 }
 
+/// Behind the body of `while` comes its test, unless the loop ends.
 pub fn after_while_body(p: &Source, at: &Part, c: &Completion) -> Next
     ensures row { DoesPurely p.now at.now result
         (own_rest p.now at.now OwnWait.WhileBody [] c.now) }
@@ -279,6 +293,7 @@ fn for_turn(p: &Source, at: &Part) -> Next
     }
 }
 
+/// Behind the test of `for` comes its body, or the loop ends (12.6.3).
 pub fn after_for_test(p: &Source, heap: &Heap, at: &Part, c: &Completion) -> Next
     ensures row { Does p.now at.now result heap.now
         (own_rest p.now at.now OwnWait.ForTest [] c.now heap.now) }
@@ -289,6 +304,7 @@ pub fn after_for_test(p: &Source, heap: &Heap, at: &Part, c: &Completion) -> Nex
     }
 }
 
+/// Behind the body of `for` comes its update, unless the loop ends.
 pub fn after_for_body(p: &Source, at: &Part, c: &Completion) -> Next
     ensures row { DoesPurely p.now at.now result (own_rest p.now at.now OwnWait.ForBody [] c.now) }
 {
@@ -309,6 +325,7 @@ fn for_update(p: &Source, at: &Part) -> Next
     }
 }
 
+/// Behind the update of `for` comes its test.
 pub fn after_for_update(p: &Source, at: &Part, c: &Completion) -> Next
     ensures row { DoesPurely p.now at.now result
         (own_rest p.now at.now OwnWait.ForUpdate [] c.now) }
@@ -366,12 +383,14 @@ fn declarations(p: &Source, at: &Part, from: u32) -> Next
     declared(p, at)
 }
 
+/// `var` begins with its first initialiser (12.2).
 pub fn begin_var(p: &Source, at: &Part) -> Next
     ensures row { DoesPurely p.now at.now result (var_row p.now at.now) }
 {
     declarations(p, at, 0)
 }
 
+/// Behind an initialiser it is bound, and the next one is asked for.
 pub fn after_initialiser(p: &Source, heap: &mut Heap, at: &Part, place: u32, c: &Completion) -> Next
     ensures row { Does p.now at.now result heap.new
         (own_rest p.now at.now (OwnWait.Initialiser place) [] c.now heap.old) }
@@ -389,6 +408,7 @@ pub fn after_initialiser(p: &Source, heap: &mut Heap, at: &Part, place: u32, c: 
     }
 }
 
+/// `for` begins with its first part, if it has one (12.6.3).
 pub fn begin_for(p: &Source, at: &Part) -> Next
     ensures row { DoesPurely p.now at.now result (for_row p.now at.now) }
 {
@@ -404,6 +424,7 @@ pub fn begin_for(p: &Source, at: &Part) -> Next
     }
 }
 
+/// Behind the first part of `for` comes its test.
 pub fn after_for_start(p: &Source, at: &Part, c: &Completion) -> Next
     ensures row { DoesPurely p.now at.now result (own_rest p.now at.now OwnWait.ForStart [] c.now) }
 {

@@ -26,12 +26,14 @@ fn place_of_first(p: &Source, clause: u32) -> u32
     if is_default(p.form(clause)) { 0 } else { 1 }
 }
 
+/// `switch` begins with its discriminant (12.11).
 pub fn begin_switch(p: &Source, at: &Part) -> Next
     ensures row { DoesPurely p.now at.now result (switch_row p.now at.now) }
 {
     ask(p.part_at(at, 0), OwnWait::Discriminant)
 }
 
+/// Behind the discriminant comes the first test of a clause.
 pub fn after_discriminant(p: &Source, at: &Part, c: &Completion) -> Next
     ensures row { DoesPurely p.now at.now result
         (own_rest p.now at.now OwnWait.Discriminant [] c.now) }
@@ -68,6 +70,7 @@ fn is_same(heap: &Heap, v: &Value, test: &Value) -> bool
     strictly_equal(heap, *v, *test)
 }
 
+/// Behind a test come the statements of its clause, if it holds, or the next test.
 pub fn after_case_test(
     p: &Source,
     heap: &Heap,
@@ -127,6 +130,7 @@ fn clauses(p: &Source, at: &Part, from: u32) -> Next
     give(Value::Undefined)
 }
 
+/// Behind a statement of a clause comes the next one, of this clause or the one behind it.
 #[tactic(auto, using(rip_language::proofs::Children::children_some, rip_language::proofs::Children::children_none))]
 pub fn after_clause_statement(
     p: &Source,
