@@ -1,8 +1,10 @@
 -- What serving says of what was done for the input.
-use Rattle.std.proofs.Common.{◌≡◌, ℕ, List, Option, Some, None, inl, inr, refl, sym, ap, ◌∙◌, subst, arith}
+use Rattle.std.proofs.Common.{◌≡◌, ℕ, List, [], map, Option, Some, None, inl, inr, refl, sym, ap, ◌∙◌, subst, arith}
 use Rattle.std.specs.Prelude.{Result, Ok, Err, IfOk}
 use Rattle.rip_outer.specs.Moments.{ClockState, WordsState, new_clock, moment_at, new_words, word_at}
+use Rattle.rip_outer.specs.Connections.{knocked}
 use Rattle.rip_outer.specs.Outside.{Rose}
+use Rattle.rip_outer.specs.declared.connections.TraceKnock.{TraceKnock}
 use Rattle.rip_server.specs.Acts.{seen}
 use Rattle.rip_app.specs.App.{Loaded}
 use Rattle.rip_trace.specs.Traces.{Given}
@@ -14,7 +16,7 @@ use Rattle.rip_site.specs.Sites.{ServesApp, site_of_app}
 use Rattle.rip_cli.specs.Service.{IsStop, Replayed, brought}
 use Rattle.rip_cli.specs.Settling.{Settles, Counts, with_sink}
 use Rattle.rip_cli.specs.Steps.{CountsStatus}
-use Rattle.rip_cli.specs.TraceDoor.{Bringing, left_of}
+use Rattle.rip_cli.specs.TraceDoor.{Bringing, left_of, telling_of}
 use Rattle.rip_cli.specs.declared.input.AppInput.{AppInput}
 use Rattle.rip_cli.specs.declared.input.ThreeFiles.{ThreeFiles}
 use Rattle.rip_cli.specs.declared.input.Input.TheVariants.{Replay, Serve}
@@ -89,16 +91,21 @@ if_ok (Ok x) P Q f h = f x h
 if_ok (Err e) P Q f h = h
 
 -- door, clock and words of a trace are what it brings
-pub brought_by : (given : Given) (held : Option (List ℕ)) (faults : ℕ) (door : Bringing) (clock : ClockState) (words : WordsState) → left_of door ≡ given.knocks
-    → clock ≡ new_clock given.moments → words ≡ new_words given.words
-    → outer (seen (λ c. None) (record { told = None; left = Some (left_of door) }) None None held) (source None (λ j. Some (moment_at clock j)))
-    (source None (λ j. Some (word_at words j))) 0 faults ≡ brought given held faults
-brought_by given held faults door clock words one two three =
-    ap (λ l. outer (seen (λ c. None) (record { told = None; left = Some l }) None None held) (source None (λ j. Some (moment_at clock j))) (source None (λ j. Some (word_at words j))) 0 faults) one
-    ∙ ap (λ (k : ClockState). outer (seen (λ c. None) (record { told = None; left = Some given.knocks }) None None held) (source None (λ j. Some (moment_at k j))) (source None (λ j. Some (word_at words j))) 0 faults) two
-    ∙ ap (λ (w : WordsState). outer (seen (λ c. None) (record { told = None; left = Some given.knocks }) None None held) (source None (λ j. Some (moment_at (new_clock given.moments) j))) (source None (λ j. Some (word_at w j))) 0 faults) three
+abbrev pub told_by : Bringing → ClockState → WordsState → Option (List ℕ) → ℕ → Outer
+told_by door clock words held faults =
+    outer (seen (λ c. None) (telling_of door) None None held) (source None (λ j. Some (moment_at clock j))) (source None (λ j. Some (word_at words j))) 0 faults
 
-pub replayed : (app : Loaded) (given : Given) (most : ℕ) (how : Stop) (held : Option (List ℕ)) (faults : ℕ) (old end : Outer) → old ≡ brought given held faults
-    → ServesApp app most how old end → end.door_faults ≡ 0 → Replayed app given most how held end.seen.held faults end.sink_faults
-replayed app given most how held faults old end from served never =
-    record { end = end; served = subst (λ o. ServesApp app most how o end) from served; put = refl; counted = refl; never_fails = never }
+pub brought_by : (given : Given) (held : Option (List ℕ)) (faults : ℕ) (door : Bringing) (clock : ClockState) (words : WordsState)
+    → door.came ≡ [] → left_of door ≡ given.knocks → clock ≡ new_clock given.moments → words ≡ new_words given.words
+    → told_by door clock words held faults ≡ brought given held faults
+brought_by given held faults door clock words none one two three =
+    ap (λ (ks : List TraceKnock). outer (seen (λ c. None) (record { told = Some (map knocked ks); left = Some (left_of door) }) None None held) (source None (λ j. Some (moment_at clock j))) (source None (λ j. Some (word_at words j))) 0 faults) none
+    ∙ ap (λ (ks : List TraceKnock). outer (seen (λ c. None) (record { told = Some []; left = Some ks }) None None held) (source None (λ j. Some (moment_at clock j))) (source None (λ j. Some (word_at words j))) 0 faults) one
+    ∙ ap (λ (k : ClockState). outer (seen (λ c. None) (record { told = Some []; left = Some given.knocks }) None None held) (source None (λ j. Some (moment_at k j))) (source None (λ j. Some (word_at words j))) 0 faults) two
+    ∙ ap (λ (w : WordsState). outer (seen (λ c. None) (record { told = Some []; left = Some given.knocks }) None None held) (source None (λ j. Some (moment_at (new_clock given.moments) j))) (source None (λ j. Some (word_at w j))) 0 faults) three
+
+pub replayed : (app : Loaded) (given : Given) (most : ℕ) (how : Stop) (held : Option (List ℕ)) (faults : ℕ) (old end : Outer) (came : List TraceKnock)
+    → old ≡ brought given held faults → ServesApp app most how old end → end.door_faults ≡ 0 → end.seen.telling.told ≡ Some (map knocked came)
+    → Replayed app given most how held end.seen.held faults end.sink_faults
+replayed app given most how held faults old end came from served never told =
+    record { end = end; served = subst (λ o. ServesApp app most how o end) from served; put = refl; counted = refl; never_fails = never; came = came; never_gone = told }

@@ -1,7 +1,9 @@
 -- What is done for input that is accepted: an application is checked, or served, to a trace or at a door, or driven by gestures.
-use Rattle.std.specs.Prelude.{◌≡◌, ℕ, List, Option, Some, None}
+use Rattle.std.specs.Prelude.{◌≡◌, ℕ, List, [], map, Option, Some, None}
+use Rattle.rip_outer.specs.Connections.{knocked}
 use Rattle.rip_outer.specs.Moments.{new_clock, moment_at, new_words, word_at}
 use Rattle.rip_outer.specs.Outside.{Front, also}
+use Rattle.rip_outer.specs.declared.connections.TraceKnock.{TraceKnock}
 use Rattle.rip_app.specs.App.{Loaded}
 use Rattle.rip_trace.specs.Traces.{Given}
 use Rattle.rip_trace.specs.declared.gestures.LinedGesture.{LinedGesture}
@@ -43,22 +45,25 @@ pub record ServesDoor (i : AppInput) (most : ℕ) (status : Status) (old new : O
 
 -- ---- replay
 
--- what a trace brings to a sink that holds this: its knocks come at a door that tells what is left, and never fails; its moments
--- and words come in turn; the last moment stands, and behind the last word j comes j
+-- what a trace brings to a sink that holds this: its knocks come at a door that tells what came and what is left, and never
+-- fails; its moments and words come in turn; the last moment stands, and behind the last word j comes j
 abbrev pub brought : Given → Option (List ℕ) → ℕ → Outer
 brought given held faults =
-    outer (seen (λ c. None) (record { told = None; left = Some given.knocks }) None None held)
+    outer (seen (λ c. None) (record { told = Some []; left = Some given.knocks }) None None held)
     (source None (λ j. Some (moment_at (new_clock given.moments) j)))
     (source None (λ j. Some (word_at (new_words given.words) j)))
     0 faults
 
--- the application was served to what the trace brings; of all that only the sink is seen, and how often it failed
+-- the application was served to what the trace brings; of all that only the sink is seen, and how often it failed. All that the
+-- door told are knocks: no send found its connection gone
 pub record Replayed (app : Loaded) (given : Given) (most : ℕ) (how : Stop) (held held_new : Option (List ℕ)) (faults faults_new : ℕ) : Type 0 where
   pub end : Outer
   pub served : ServesApp app most how (brought given held faults) end
   pub put : held_new ≡ end.seen.held
   pub counted : faults_new ≡ end.sink_faults
   pub never_fails : end.door_faults ≡ 0
+  pub came : List TraceKnock
+  pub never_gone : end.seen.telling.told ≡ Some (map knocked came)
 
 -- the application of the files was served to what their trace brings
 pub record ServesTrace (i : ThreeFiles) (most : ℕ) (status : Status) (old new : Outer) : Type 0 where

@@ -10,45 +10,48 @@ use std::collections::VecDeque;
 use std::marker::Model;
 
 /// The door at which the knocks of a trace come, a piece or a going of a connection that was shut as a quiet one. Behind the
-/// last it is closed. It tells what is left, and no more: what is sent is let go. None of its calls fails.
+/// last it is closed. It tells what came and what is left, and no more: what is sent is let go. None of its calls fails, and
+/// no send finds its connection gone. The room for what came is taken when it is made.
 #[derive(Debug, Drop)]
 pub struct TraceDoor {
+    came: Vec<TraceKnock>,
     left: VecDeque<TraceKnock>,
     shut: Vec<bool>,
 }
 
 impl Model for TraceDoor {
-    ghost use Rattle.std.specs.Prelude.{length};
-    ghost use Rattle.std.specs.List.{AllByRecursion};
-    ghost use Rattle.rip_cli.specs.TraceDoor.{Bringing, IsWithin};
+    ghost use Rattle.std.specs.Prelude.{vec_capacity};
+    ghost use Rattle.rip_cli.specs.TraceDoor.{Bringing, IsKept};
 
     ghost Value = { Bringing };
 
-    ghost view = { λ d. record { left = d.left.items; shut = d.shut.items } };
+    ghost view = { λ d. record { came = d.came.items; left = d.left.items; shut = d.shut.items } };
 
-    ghost invariant = { λ d. AllByRecursion (IsWithin (length d.shut.items)) d.left.items };
+    ghost invariant = { λ d. IsKept d.came.items (vec_capacity d.came) d.left.items d.shut.items };
 }
 
 impl TraceDoor {
-    ghost use Rattle.std.specs.Prelude.{◌≡◌, IfOk};
+    ghost use Rattle.std.specs.Prelude.{◌≡◌, [], IfOk};
     ghost use Rattle.rip_cli.specs.TraceDoor.{left_of};
 
     /// The door at which these knocks come.
     pub fn make(alloc: Global, knocks: &KnockList) -> Result<TraceDoor, NoMemory>
-        ensures { IfOk result (λ door. left_of door ≡ knocks.now) }
+        ensures left { IfOk result (λ door. left_of door ≡ knocks.now) }
+        ensures came { IfOk result (λ door. door.came ≡ []) }
     {
         let knocks = knocks.as_slice();
         let left = copy_of_knocks(alloc, knocks)?;
         let shut = vec![in alloc; false; knocks.len()]?;
-        Ok(TraceDoor { left, shut })
+        let came = Vec::with_capacity(alloc, knocks.len())?;
+        Ok(TraceDoor { came, left, shut })
     }
 }
 
 impl Door for TraceDoor {
-    ghost use Rattle.std.specs.Prelude.{◌<◌, Some, None, length};
-    ghost use Rattle.rip_cli.specs.TraceDoor.{left_of};
+    ghost use Rattle.std.specs.Prelude.{◌<◌, None, length};
+    ghost use Rattle.rip_cli.specs.TraceDoor.{telling_of};
 
-    ghost knocks = { λ d. record { told = None; left = Some (left_of d) } };
+    ghost knocks = { telling_of };
 
     ghost asked = { λ _. None };
 
@@ -66,7 +69,12 @@ impl Door for TraceDoor {
 
     fn next(&mut self, room: &mut [u8; 4096], _busy: bool) -> Knock {
         match self.left.pop_front() {
-            Some(knock) => answer_of(&hush(&self.shut, knock), room),
+            Some(knock) => {
+                let knock = hush(&self.shut, knock);
+                let answer = answer_of(&knock, room);
+                self.came.push_reserved(knock);
+                answer
+            },
             None => Knock::Closed,
         }
     }

@@ -1,5 +1,7 @@
 -- A trace that is served over memory.
-use Rattle.std.proofs.Common.{◌≡◌, ◌∙◌, ℕ, List, [], Some, None, ap, subst}
+use Rattle.std.proofs.Common.{◌≡◌, ◌∙◌, ℕ, List, [], map, Some, None, ap, subst}
+use Rattle.rip_outer.specs.Connections.{knocked}
+use Rattle.rip_outer.specs.declared.connections.TraceKnock.{TraceKnock}
 use Rattle.rip_outer.specs.Memory.{SinkState, new_sink}
 use Rattle.rip_outer.specs.MemoryDoor.{DoorState, new_door, sent_to, telling_of}
 use Rattle.rip_outer.specs.Moments.{ClockState, WordsState, moment_at, new_clock, new_words, word_at}
@@ -28,12 +30,13 @@ told_same given door clock words sink one two three four =
     ∙ ap (λ (w : WordsState). told_by (new_door given.knocks [] []) (new_clock given.moments) w sink) three
     ∙ ap (λ (s : SinkState). told_by (new_door given.knocks [] []) (new_clock given.moments) (new_words given.words) s) four
 
-pub log_of : (app : Loaded) (given : Given) (door : DoorState) (clock : ClockState) (words : WordsState) (sink : SinkState) (how : Stop) (end : Outer) (log : List ℕ)
+pub log_of : (app : Loaded) (given : Given) (door : DoorState) (clock : ClockState) (words : WordsState) (sink : SinkState) (how : Stop) (end : Outer) (log : List ℕ) (came : List TraceKnock)
     → door ≡ new_door given.knocks [] [] → clock ≡ new_clock given.moments → words ≡ new_words given.words → sink ≡ new_sink [] → how ≡ Idle
-    → ServesApp app TURNS how (told_by door clock words sink) end → end.seen.held ≡ Some log → IsLogOf app given log
-log_of app given door clock words sink how end log is_door is_clock are_words is_sink idle serves put =
+    → ServesApp app TURNS how (told_by door clock words sink) end → end.seen.held ≡ Some log
+    → end.seen.telling.told ≡ Some (map knocked came) → IsLogOf app given log
+log_of app given door clock words sink how end log came is_door is_clock are_words is_sink idle serves put told =
     let old = told_same given door clock words sink is_door is_clock are_words is_sink in
-    record { end = end; serves = subst (λ (o : Outer). ServesApp app TURNS Idle o end) old (subst (λ (h : Stop). ServesApp app TURNS h (told_by door clock words sink) end) idle serves); put = put }
+    record { end = end; serves = subst (λ (o : Outer). ServesApp app TURNS Idle o end) old (subst (λ (h : Stop). ServesApp app TURNS h (told_by door clock words sink) end) idle serves); put = put; came = came; never_gone = told }
 
 pub served_so : (app : Loaded) (text : List ℕ) (given : Given) (log : List ℕ) (history : List Recorded) → IsTrace text given → IsLogOf app given log → log ≡ history_text history → IsHistory history → IsServed app text history
 served_so app text given log history gives is_log is in_range = record { given = given; gives = gives; is_log = subst (λ t. IsLogOf app given t) is is_log; in_range = in_range }

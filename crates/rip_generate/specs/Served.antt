@@ -1,6 +1,8 @@
 -- A trace that is served from its start, over memory.
-use Rattle.std.specs.Prelude.{◌≡◌, ℕ, List, [], Some, None}
+use Rattle.std.specs.Prelude.{◌≡◌, ℕ, List, [], map, Some, None}
+use Rattle.rip_outer.specs.Connections.{knocked}
 use Rattle.rip_outer.specs.MemoryDoor.{new_door, sent_to, telling_of}
+use Rattle.rip_outer.specs.declared.connections.TraceKnock.{TraceKnock}
 use Rattle.rip_outer.specs.Moments.{moment_at, new_clock, new_words, word_at}
 use Rattle.rip_app.specs.App.{Loaded}
 use Rattle.rip_trace.specs.Traces.{Given, IsTrace}
@@ -23,11 +25,14 @@ brought given =
     (source None (λ j. Some (word_at (new_words given.words) j)))
     0 0
 
--- the application was served to what the trace brings until nothing was to be done any more, and this was put
+-- the application was served to what the trace brings until nothing was to be done any more, and this was put; all that the
+-- door told are knocks: no send found its connection gone
 pub record IsLogOf (app : Loaded) (given : Given) (log : List ℕ) : Type 0 where
   pub end : Outer
   pub serves : ServesApp app TURNS Idle (brought given) end
   pub put : end.seen.held ≡ Some log
+  pub came : List TraceKnock
+  pub never_gone : end.seen.telling.told ≡ Some (map knocked came)
 
 -- this is the history of the application, served to a trace
 pub record IsServed (app : Loaded) (text : List ℕ) (history : List Recorded) : Type 0 where

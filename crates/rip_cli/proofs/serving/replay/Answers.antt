@@ -8,7 +8,7 @@ use Rattle.rip_site.specs.Sites.{ServesApp}
 use Rattle.rip_cli.specs.Service.{Replayed}
 use Rattle.rip_cli.specs.TraceDoor.{left_of}
 use Rattle.rip_cli.proofs.MomentLemmas.{moments_below}
-use Rattle.rip_cli.proofs.ServeLemmas.{brought_by, if_ok, replayed}
+use Rattle.rip_cli.proofs.ServeLemmas.{brought_by, if_ok, replayed, told_by}
 use Rattle.rip_cli.proofs.serving.replay.Goals as goal
 
 pub make-requires-2 : goal.make-requires-2
@@ -21,11 +21,11 @@ returns-clause-served g c =
     let a = c.args in
     let held = g.S.Sink.held a.out.now in
     let faults = g.S.Sink.count a.out.now in
-    let from = brought_by a.trace.now held faults c.in_ok-door.door c.in_ok-clock.clock c.in_ok-words.words (c.in_ok-door.ensures ∙ c.knocks.ensures)
+    let from = brought_by a.trace.now held faults c.in_ok-door.door c.in_ok-clock.clock c.in_ok-words.words c.in_ok-door.ensures.came (c.in_ok-door.ensures.left ∙ c.knocks.ensures)
     (c.in_ok-clock.ensures ∙ ap new_clock c.moments.ensures) (c.in_ok-words.ensures ∙ ap new_words c.words.ensures) in
-    let old = outer (seen (λ d. None) (record { told = None; left = Some (left_of c.in_ok-door.door) }) None None held) (source None (λ j. Some (moment_at c.in_ok-clock.clock j))) (source None (λ j. Some (word_at c.in_ok-words.words j))) 0 faults in
+    let old = told_by c.in_ok-door.door c.in_ok-clock.clock c.in_ok-words.words held faults in
     let n = c.serve_app.new in
-    let end = outer (seen (λ d. None) (record { told = None; left = Some (left_of n.door) }) None None (g.S.Sink.held n.out)) (source None (λ j. Some (moment_at n.clock j))) (source None (λ j. Some (word_at n.random j))) 0 (g.S.Sink.count n.out) in
+    let end = told_by n.door n.clock n.random (g.S.Sink.held n.out) (g.S.Sink.count n.out) in
     let P : Stop → Type 0 = λ how. ServesApp a.app.now a.turns how old end in
     let Q : Stop → Type 0 = λ how. Replayed a.app.now a.trace.now a.turns how held (g.S.Sink.held n.out) faults (g.S.Sink.count n.out) in
-    if_ok c.serve_app.result P Q (λ how h. replayed a.app.now a.trace.now a.turns how held faults old end from h refl) c.serve_app.ensures.served
+    if_ok c.serve_app.result P Q (λ how h. replayed a.app.now a.trace.now a.turns how held faults old end n.door.came from h refl refl) c.serve_app.ensures.served

@@ -18,6 +18,6 @@ returns-in-Idle c =
     let none = c.new-none.result in
     let n = c.serve_app.new in
     let is_door = c.in_ok-door.ensures ∙ ap (λ (ks : List TraceKnock). new_door ks none none) c.knocks.ensures ∙ ap (λ (e : List ℕ). new_door c.args.trace.now.knocks e e) c.new-none.ensures in
-    log_of c.args.app.now c.args.trace.now c.in_ok-door.door c.in_ok-clock.clock c.in_ok-words.words c.in_ok-sink.sink c.in_ok-how.how (told_by n.door n.clock n.random n.out) n.out.bytes
+    log_of c.args.app.now c.args.trace.now c.in_ok-door.door c.in_ok-clock.clock c.in_ok-words.words c.in_ok-sink.sink c.in_ok-how.how (told_by n.door n.clock n.random n.out) n.out.bytes n.door.told
     is_door (c.in_ok-clock.ensures ∙ ap new_clock c.moments.ensures) (c.in_ok-words.ensures ∙ ap new_words c.words.ensures) (c.in_ok-sink.ensures ∙ ap new_sink c.new-none.ensures)
-    c.in-Idle.is c.in_ok-how.ensures.served refl
+    c.in-Idle.is c.in_ok-how.ensures.served refl refl
