@@ -1,9 +1,10 @@
 -- The listeners of a session (DOM Level 2 Events 1.3.1), as one list of all that were ever registered.
-use Rattle.std.specs.Prelude.{◌≡◌, ℕ, zero, suc, Bool, true, false, not, ◌-◌, ◌<◌, ◌==◌, ◌&&◌, if◌then◌else◌, Option, None, Some, IsSome, Result, Ok, Err, List, [], ◌∷◌, ◌++◌, length, slice_index_or, slice_set}
+use Rattle.std.specs.Prelude.{◌≡◌, ℕ, zero, suc, Bool, true, false, not, ◌-◌, ◌<◌, ◌==◌, ◌&&◌, if◌then◌else◌, nat_eq, Option, None, Some, IsSome, Result, Ok, Err, List, [], ◌∷◌, ◌++◌, length, slice_index_or, slice_set}
 use Rattle.rip_values.specs.declared.value.Limit.TheVariants.{Cells}
 use Rattle.rip_values.specs.declared.value.Refused.{Refused}
 use Rattle.rip_values.specs.declared.value.Refused.TheVariants.{Limit as At, Memory}
-use Rattle.rip_values.specs.Pool.{Texts}
+use Rattle.std.specs.Cmp.Lexicographic.{pointwise}
+use Rattle.rip_values.specs.Pool.{Texts, text_at}
 use Rattle.rip_heap.specs.World.{World, charging}
 use Rattle.rip_heap.specs.Names.{same_text}
 use Rattle.rip_events.specs.declared.listener.Listener.{Listener}
@@ -56,9 +57,17 @@ same_as l = record { node = l.node; kind = l.kind; function = Some l.function; c
 abbrev pub is_wanted : Texts → Wanted → Listener → Bool
 is_wanted pool w l = (l.node == w.node) && (is_alike w.capture l.capture && (may_be w.function l.function && same_text pool l.kind w.kind))
 
+-- the listener is on this node, of this phase and function, and of a type with the text that is given
+abbrev pub is_typed : Texts → Wanted → List ℕ → Listener → Bool
+is_typed pool w text l = (l.node == w.node) && (is_alike w.capture l.capture && (may_be w.function l.function && pointwise nat_eq (text_at pool l.kind) text))
+
 -- the listener of this number stands, and is one that is wanted
 abbrev pub fits : Texts → Wanted → Listed → ℕ → Bool
 fits pool w l n = stands_at l.standing n && is_wanted pool w (listener_at l.registered n)
+
+-- the listener of this number stands, and is one that is wanted, of a type with the text that is given
+abbrev pub fits_typed : Texts → Wanted → List ℕ → Listed → ℕ → Bool
+fits_typed pool w text l n = stands_at l.standing n && is_typed pool w text (listener_at l.registered n)
 
 -- the first listener that fits, of those from the one number up to the other, without this one
 abbrev pub first_between : Texts → Wanted → ℕ → ℕ → Listed → Option ℕ
@@ -67,6 +76,15 @@ first_between pool w from until l = first_number (until - from) from (fits pool 
 -- the listener of these four that stands, of which there is one at most
 abbrev pub found : Texts → Wanted → Listed → Option ℕ
 found pool w l = first_between pool w 0 (length l.registered) l
+
+-- the first listener that fits and is of a type with the text that is given, of those from the one number up to the other
+abbrev pub first_typed : Texts → Wanted → List ℕ → ℕ → ℕ → Listed → Option ℕ
+first_typed pool w text from until l = first_number (until - from) from (fits_typed pool w text l)
+
+-- the listener of these three that stands and is of a type with this text, wherever the text stands
+abbrev pub typed : Texts → ℕ → List ℕ → ℕ → Bool → Listed → Option ℕ
+typed pool node text f capture l =
+    first_typed pool (record { node = node; kind = record { start = 0; count = 0 }; function = Some f; capture = capture }) text 0 (length l.registered) l
 
 -- one listener more, behind all others
 abbrev pub with_listener : Listener → Listed → Listed

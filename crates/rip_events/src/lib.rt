@@ -9,6 +9,7 @@
 //! | [`Listeners`] | contracts see `Listed.Listed`: all that were ever registered, and which of them stand |
 //! | [`Listeners::add`] | `Listed.registered`, which is charged as `Listed.cost_of_listener`; `Listed.Registers` says what each answer leaves |
 //! | [`Listeners::remove`] | `Listed.without_listener` of the one that is `Listed.found` |
+//! | [`Listeners::has`] | whether there is a `Listed.typed`, found by a text that need be in no pool |
 //! | [`Listeners::first_between`] | `Listed.first_between`, the first that stands and is wanted |
 //! | [`Phase`], [`Phase::number`] | `Flow.number_of` |
 //! | [`Cursor`] | contracts see `Flow.Course`, a flow under way: the station at hand, and those ahead |

@@ -1,7 +1,6 @@
 ghost use Rattle.std.specs.Prelude.{◌≡◌};
-ghost use Rattle.rip_events.specs.Listed.{is_alike, may_be, is_wanted, same_as};
+ghost use Rattle.rip_events.specs.Listed.{is_alike, may_be, is_typed, same_as};
 
-use rip_heap::same_text;
 use rip_values::{Pool, Span};
 
 /// A listener: the node on which it is, the text of its type, its function, and whether it is for the capturing phase
@@ -23,14 +22,14 @@ pub struct Wanted {
     pub capture: bool,
 }
 
-/// Whether the listener is one that is wanted. Types are compared last, by their texts.
-pub(crate) fn is_wanted(pool: &Pool, wanted: Wanted, listener: Listener) -> bool
-    ensures { result ≡ is_wanted pool.now wanted listener }
+/// Whether the listener is one that is wanted, of a type with the text that is given. Types are compared last.
+pub(crate) fn is_typed(pool: &Pool, wanted: Wanted, text: &[u16], listener: Listener) -> bool
+    ensures { result ≡ is_typed pool.now wanted text.now listener }
 {
     listener.node == wanted.node
         && is_alike(wanted.capture, listener.capture)
         && may_be(wanted.function, listener.function)
-        && same_text(pool, listener.kind, wanted.kind)
+        && pool.get(listener.kind) == text
 }
 
 fn may_be(wanted: Option<u32>, function: u32) -> bool

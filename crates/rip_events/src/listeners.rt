@@ -1,9 +1,9 @@
-ghost use Rattle.std.specs.Prelude.{◌≡◌, ◌+◌, ◌<◌, ◌≤◌, ◌↔◌, [], IfOk, IfSome, IsTrue, length, slice_set, vec_capacity};
+ghost use Rattle.std.specs.Prelude.{◌≡◌, ◌+◌, ◌<◌, ◌≤◌, ◌↔◌, [], IfOk, IfSome, IsTrue, is_some, length, slice_set, vec_capacity};
 ghost use Rattle.rip_heap.specs.Growth.{Grows};
-ghost use Rattle.rip_events.specs.Listed.{fits, found, first_between, registered, same_as, with_listener, without_listener, listener_at, stands_at, HasRoom, Registers};
+ghost use Rattle.rip_events.specs.Listed.{fits_typed, found, first_between, first_typed, typed, registered, same_as, with_listener, without_listener, listener_at, stands_at, HasRoom, Registers};
 ghost use Rattle.rip_events.specs.Chained.{ends_at, ends_with, link_at, with_link, first_on, AreSameEnds};
 
-use crate::listener::{Listener, Wanted, is_wanted, same_as};
+use crate::listener::{Listener, Wanted, is_typed, same_as};
 use rip_heap::Heap;
 use rip_values::{Limit, NoMemory, Pool, Refused, Span};
 use std::alloc::Global;
@@ -88,6 +88,36 @@ impl Listeners {
         ensures first { result ≡ first_between pool.now wanted from until self.now }
         ensures within { IfSome result (λ n. n < length self.now.registered) }
     {
+        self.first_typed(pool, wanted, pool.get(wanted.kind), from, until)
+    }
+
+    /// Whether a listener of this node, function and phase stands, of a type with this text, which need be in no pool.
+    /// It takes time in proportion to the listeners of the node.
+    pub fn has(&self, pool: &Pool, node: u32, text: &[u16], function: u32, capture: bool) -> bool
+        ensures { result ≡ is_some (typed pool.now node text.now function capture self.now) }
+    {
+        let wanted = Wanted {
+            node,
+            kind: Span { start: 0, count: 0 },
+            function: Some(function),
+            capture,
+        };
+        self.first_typed(pool, wanted, text, 0, self.count())
+            .is_some()
+    }
+
+    // The first listener that stands and is wanted, and is of a type with this text.
+    fn first_typed(
+        &self,
+        pool: &Pool,
+        wanted: Wanted,
+        text: &[u16],
+        from: u32,
+        until: u32,
+    ) -> Option<u32>
+        ensures first { result ≡ first_typed pool.now wanted text.now from until self.now }
+        ensures within { IfSome result (λ n. n < length self.now.registered) }
+    {
         let mut at = self.first_on(wanted.node, from);
         for _i in 0..self.count() {
             match at {
@@ -95,7 +125,7 @@ impl Listeners {
                     if n >= until {
                         return None;
                     }
-                    if self.fits(pool, wanted, n) {
+                    if self.fits(pool, wanted, text, n) {
                         return Some(n);
                     }
                     at = self.behind(n);
@@ -106,10 +136,10 @@ impl Listeners {
         None
     }
 
-    fn fits(&self, pool: &Pool, wanted: Wanted, n: u32) -> bool
-        ensures { result ≡ fits pool.now wanted self.now n }
+    fn fits(&self, pool: &Pool, wanted: Wanted, text: &[u16], n: u32) -> bool
+        ensures { result ≡ fits_typed pool.now wanted text.now self.now n }
     {
-        self.stands(n) && is_wanted(pool, wanted, self.listener(n))
+        self.stands(n) && is_typed(pool, wanted, text, self.listener(n))
     }
 
     /// Registers the listener at its charge, behind all others. Where one of the same node, text of type, function

@@ -1,5 +1,6 @@
 -- addEventListener and removeEventListener (DOM Level 2 Events 1.3.1).
 use Rattle.std.specs.Prelude.{ℕ, Bool, true, false, ◌&&◌, nat_le, if◌then◌else◌, is_some, Option, None, Some}
+use Rattle.std.specs.Fmt.{signed_decimal}
 use Rattle.rip_values.specs.declared.builtin.Builtin.{Builtin}
 use Rattle.rip_values.specs.declared.value.Fault.{Fault}
 use Rattle.rip_values.specs.declared.value.Fault.TheVariants.{NotInProfile}
@@ -14,7 +15,7 @@ use Rattle.rip_heap.specs.Conversions.{boolean_of, text_fault}
 use Rattle.rip_heap.specs.World.{World, code_of, object_at}
 use Rattle.rip_members.specs.Calls.{builtin_of}
 use Rattle.rip_events.specs.declared.listener.Listener.{Listener}
-use Rattle.rip_events.specs.Listed.{Listed, found, registered, same_as, without_listener}
+use Rattle.rip_events.specs.Listed.{Listed, found, registered, same_as, typed, without_listener}
 use Rattle.rip_nodes.specs.Texts.{are_past, cost_of_text, text_span, world_with}
 use Rattle.rip_host.specs.declared.browser.Browser.{Browser}
 use Rattle.rip_host.specs.declared.listening.Handler.{Handler}
@@ -76,19 +77,31 @@ after_registering w s (Some step) = (host.Value Undefined, step.1, record s { li
 abbrev pub listener : ℕ → Span → ℕ → Bool → Listener
 listener k kind f capture = record { node = k; kind = kind; function = f; capture = capture }
 
--- the listener is registered, once the text of its type is made
-abbrev pub register : World → Browser → ℕ → Value → ℕ → Bool → HostDone × World × Browser
-register w s k t f capture =
-    let kind = text_span w.pool t in
-    let x = world_with w t in
-    if is_number t && is_spent w then (host.Limit Cells, w, s)
-    else if are_past w.pool (cost_of_text t) then (host.Limit Units, w, s)
-    else after_registering w s (registered (found x.pool (same_as (listener k kind f capture)) s.listeners) (listener k kind f capture) s.listeners x)
-
 -- the text of the type is made, and nothing more is done
 abbrev pub ignored : World → Browser → Value → HostDone × World × Browser
 ignored w s t =
     if are_past w.pool (cost_of_text t) then (host.Limit Units, w, s) else (host.Value Undefined, world_with w t, s)
+
+-- the type is a number, and a listener of the same node, function and phase stands whose type has the text of the number
+abbrev pub is_second : World → Browser → ℕ → Value → ℕ → Bool → Bool
+is_second w s k (Num z) f capture = is_some (typed w.pool k (signed_decimal z) f capture s.listeners)
+is_second w s k Undefined f capture = false
+is_second w s k Null f capture = false
+is_second w s k (Boolean b) f capture = false
+is_second w s k NaN f capture = false
+is_second w s k (Text span) f capture = false
+is_second w s k (Object n) f capture = false
+
+-- the listener is registered, once the text of its type is made. A second registration is dropped, and costs no cell;
+-- that of a number is known before the text is made
+abbrev pub register : World → Browser → ℕ → Value → ℕ → Bool → HostDone × World × Browser
+register w s k t f capture =
+    let kind = text_span w.pool t in
+    let x = world_with w t in
+    if is_second w s k t f capture then ignored w s t
+    else if is_number t && is_spent w then (host.Limit Cells, w, s)
+    else if are_past w.pool (cost_of_text t) then (host.Limit Units, w, s)
+    else after_registering w s (registered (found x.pool (same_as (listener k kind f capture)) s.listeners) (listener k kind f capture) s.listeners x)
 
 abbrev pub added_by : World → Browser → ℕ → Value → Handler → Bool → HostDone × World × Browser
 added_by w s k t Ignored capture = ignored w s t

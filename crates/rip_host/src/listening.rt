@@ -1,7 +1,7 @@
 ghost use Rattle.std.specs.Prelude.{◌≡◌, ◌<◌, None, length};
 ghost use Rattle.rip_heap.specs.Conversions.{text_fault};
 ghost use Rattle.rip_members.specs.Calls.{builtin_of};
-ghost use Rattle.rip_host.specs.Listening.{added_by, handler_of, ignored, is_built_in_function, is_function_object, is_number, is_spent, listener_added, listener_removed, register, removed_by, unregister};
+ghost use Rattle.rip_host.specs.Listening.{added_by, handler_of, ignored, is_built_in_function, is_function_object, is_number, is_second, is_spent, listener_added, listener_removed, register, removed_by, unregister};
 ghost use Rattle.rip_host.specs.Visit.{Fits, KeepsBrowser};
 
 use crate::browser::Browser;
@@ -9,7 +9,7 @@ use rip_events::Listener;
 use rip_heap::{Heap, HostDone, to_boolean};
 use rip_members::builtin_of;
 use rip_nodes::{outside, text_arg, text_fault};
-use rip_values::{Builtin, Limit, Refused, Value};
+use rip_values::{Builtin, Limit, Refused, Value, text_of_whole};
 
 /// What a value is as a handler of events.
 #[derive(Clone, Copy, Debug, PartialEq, Eq)]
@@ -128,6 +128,21 @@ impl Browser {
         }
     }
 
+    // Whether the type is a number, and a listener with its text stands on the node, of this function and phase.
+    fn is_second(&self, heap: &Heap, node: u32, kind: &Value, function: u32, capture: bool) -> bool
+        ensures { result ≡ is_second heap.now self.now node kind.now function capture }
+    {
+        match kind {
+            Value::Num(number) => {
+                let mut room = [0; 17];
+                let count = text_of_whole(*number, &mut room);
+                self.listeners
+                    .has(heap.pool(), node, &room[..count], function, capture)
+            }
+            _ => false,
+        }
+    }
+
     fn register(
         &mut self,
         heap: &mut Heap,
@@ -143,6 +158,9 @@ impl Browser {
             register heap.old self.old node kind.now function capture }
         ensures keeps { KeepsBrowser heap.old self.old result heap.new self.new }
     {
+        if self.is_second(heap, node, kind, function, capture) {
+            return self.ignore(heap, kind);
+        }
         let free = heap.free_cells();
         let _made = self.dom.made();
         if is_number(kind) && free == 0 {

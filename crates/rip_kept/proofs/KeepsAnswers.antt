@@ -51,7 +51,7 @@ use Rattle.rip_host.specs.declared.owner.Owner.TheVariants.{Node, Dispatched, Ri
 use Rattle.rip_host.specs.EventMembers.{event_member_of, prevented, stopped}
 use Rattle.rip_host.specs.FormMembers.{attribute_kept, checked_written, disabled_written, form_member_of, form_read, form_written, goes_on_in, has_value, if_part, null_or_empty, option_chosen, place_written, selected_written, text_held, value_written, with_state}
 use Rattle.rip_host.specs.HostCalls.{host_call_of}
-use Rattle.rip_host.specs.Listening.{added_by, after_registering, handler_of, ignored, is_number, is_spent, listener, listener_added, listener_removed, register, removed_by, unless_fault, unregister}
+use Rattle.rip_host.specs.Listening.{added_by, after_registering, handler_of, ignored, is_number, is_second, is_spent, listener, listener_added, listener_removed, register, removed_by, unless_fault, unregister}
 use Rattle.rip_host.specs.Owners.{owner_of}
 use Rattle.rip_host.specs.Visit.{of_nodes}
 use Rattle.rip_kept.proofs.TreeLimits.{call_limit, given_limit, written_limit}
@@ -214,9 +214,12 @@ register_keeps w s k t f capture =
     let kind = text_span w.pool t in
     let x = world_with w t in
     let last : HostDone × World × Browser = after_registering w s (registered (found x.pool (same_as (listener k kind f capture)) s.listeners) (listener k kind f capture) s.listeners x) in
-    if_keeps (is_number t && is_spent w) (host.Limit Cells, w, s) (if are_past w.pool (cost_of_text t) then (host.Limit Units, w, s) else last) (held s) refl
+    let made : HostDone × World × Browser = if are_past w.pool (cost_of_text t) then (host.Limit Units, w, s) else last in
+    let first : HostDone × World × Browser = if is_number t && is_spent w then (host.Limit Cells, w, s) else made in
+    if_keeps (is_second w s k t f capture) (ignored w s t) first (held s) (ignored_keeps w s t)
+    (if_keeps (is_number t && is_spent w) (host.Limit Cells, w, s) made (held s) refl
     (if_keeps (are_past w.pool (cost_of_text t)) (host.Limit Units, w, s) last (held s) refl
-    (registering_keeps w s (registered (found x.pool (same_as (listener k kind f capture)) s.listeners) (listener k kind f capture) s.listeners x)))
+    (registering_keeps w s (registered (found x.pool (same_as (listener k kind f capture)) s.listeners) (listener k kind f capture) s.listeners x))))
 
 unregister_keeps : (w : World) (s : Browser) (k : ℕ) (t : Value) (f : ℕ) (capture : Bool) → kept (unregister w s k t f capture) ≡ held s
 unregister_keeps w s k t f capture =

@@ -365,6 +365,12 @@ fn listeners_are_charged_once_and_told_apart_by_type(rt: HostRuntime) -> Result<
     assert_eq!(rt; past, Err(Refused::Limit(Limit::Cells)));
     assert_eq!(rt; listen(stage, On(2, 19, true), click), Ok(()));
     let all = &stage.all;
+    let text = &[99, 108, 105, 99, 107];
+    for (function, capture, has) in [(19, true, true), (19, false, false), (20, true, false)] {
+        assert_eq!(rt; all.has(stage.heap.pool(), 2, text, function, capture), has);
+    }
+    assert!(rt; !all.has(stage.heap.pool(), 2, &[53], 19, true));
+    assert!(rt; !all.has(stage.heap.pool(), 1, text, 7, false));
     assert_eq!(rt;
         (stage.heap.used_cells(), all.count(), all.function(19)),
         (20, 20, 19)

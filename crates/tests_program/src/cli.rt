@@ -13,6 +13,9 @@ const OTHER_PAGE: &[u8] =
 const CLICKED_PAGE: &[u8] =
     b"<html><head></head><body><button>A</button><script>\"use strict\";document.body.firstChild.addEventListener(\"click\",function(){while(true){}},false);</script></body></html>";
 
+const LISTENING_PAGE: &[u8] =
+    b"<html><head></head><body><button>A</button><script>\"use strict\";var f=function(){document.addEventListener(5,f,false);};document.body.firstChild.addEventListener(\"click\",f,false);document.addEventListener(5,f,false);</script></body></html>";
+
 const APP: &[u8] = b"{\"version\":1,\"functions\":{},\"limits\":{}}\n";
 
 const OTHER_APP: &[u8] = b"{\"version\":2,\"functions\":{},\"limits\":{}}";
@@ -218,6 +221,28 @@ fn charges_a_cell_and_then_bytes_for_a_made_call(rt: HostRuntime) -> Result<(), 
         let (status, put) = run(alloc, &["replay", "p", "a", "t"], &named, &[])?;
         assert_eq!(rt; status, Status::Read, "{limits}");
         assert!(rt; put.as_slice() == log.as_bytes(), "{limits}");
+    }
+    Ok(())
+}
+
+#[test]
+fn charges_no_cell_for_a_second_registration(rt: HostRuntime) -> Result<(), Fail> {
+    let alloc = rt.alloc();
+    for (cells, ending) in [(21, ""), (20, "# ended cells 1\n")] {
+        let app = format!(in alloc;
+            "{{\"version\":1,\"functions\":{{}},\"limits\":{{\"cells\":{cells}}}}}"
+        )?;
+        let text = format!(in alloc;
+            "open 0\nsay 0 get\nsay 0 e 1 {{\"batch\":1,\"items\":[[\"event\",\"click\",4]]}}\n{ending}"
+        )?;
+        let named = [
+            ("p", LISTENING_PAGE),
+            ("a", app.as_bytes()),
+            ("g", b"click 4\n".as_slice()),
+        ];
+        let (status, put) = run(alloc, &["drive", "p", "a", "g"], &named, &[])?;
+        assert_eq!(rt; status, Status::Read, "{cells}");
+        assert!(rt; put.as_slice() == text.as_bytes(), "{cells}");
     }
     Ok(())
 }
