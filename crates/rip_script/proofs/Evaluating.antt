@@ -12,10 +12,10 @@ use Rattle.rip_runs.specs.declared.outcome.Turned.{Turned}
 use Rattle.rip_runs.specs.declared.outcome.Turned.TheVariants.{More, Done}
 use Rattle.rip_machine.specs.Law.{loaded}
 use Rattle.rip_language.specs.Table.{table}
-use Rattle.rip_runs.specs.declared.outcome.Outcome.{Outcome}
 use Rattle.rip_tree.specs.Program.{Code}
-use Rattle.rip_script.specs.Evaluation.{IsEvaluated, empty_host, no_host}
+use Rattle.rip_script.specs.Evaluation.{IsEvaluated, empty_host, no_host, outcome_of}
 use Rattle.rip_script.specs.Steps.{BeginsRun, IsOver}
+use Rattle.rip_script.specs.declared.evaluate.End.{End}
 use Rattle.rip_script.specs.declared.words.RunLimits.{RunLimits}
 
 -- a run whose fuel is spent is not cut
@@ -32,16 +32,16 @@ over h t m w s n m' w' s' More enough law = not_cut _ _ law.0.0 w' s' (le-leb m.
 over h t m w s n m' w' s' (Done outcome) enough law = tt
 
 -- a run that began and is over ran to its end
-pub ran_to_end : (limits : RunLimits) (code : Code) (w w' : World) (m m' : Standing) (turned : Turned) (outcome : Outcome) (spent fuel : ℕ) (began : Result (Unit {0}) Refused) (done : Unit {0})
+pub ran_to_end : (limits : RunLimits) (code : Code) (w w' : World) (m m' : Standing) (turned : Turned) (end : End) (spent fuel : ℕ) (began : Result (Unit {0}) Refused) (done : Unit {0})
     → BeginsRun limits code began w m → began ≡ Ok done → fuel ≡ limits.fuel
-    → Resumes no_host (table (loaded code m)) m w empty_host fuel m' w' empty_host turned → turned ≡ Done outcome → spent ≡ m'.spent
-    → IsEvaluated limits code (record { outcome = outcome; spent = spent; heap = w' })
-ran_to_end limits code w w' m m' turned outcome spent fuel began done begins ok all law over same = inr (inr (inr (record {
+    → Resumes no_host (table (loaded code m)) m w empty_host fuel m' w' empty_host turned → turned ≡ Done (outcome_of end) → spent ≡ m'.spent
+    → IsEvaluated limits code (record { end = end; spent = spent; heap = w' })
+ran_to_end limits code w w' m m' turned end spent fuel began done begins ok all law over same = inr (inr (inr (record {
   w = w;
   begun = m;
   is_started = subst (λ r. BeginsRun limits code r w m) ok begins;
-  end = m';
-  resumes = subst (λ n. Resumes no_host (table (loaded code m)) m w empty_host n m' w' empty_host (Done outcome)) all
+  last = m';
+  resumes = subst (λ n. Resumes no_host (table (loaded code m)) m w empty_host n m' w' empty_host (Done (outcome_of end))) all
       (subst (Resumes no_host (table (loaded code m)) m w empty_host fuel m' w' empty_host) over law);
   spent = same;
 })))

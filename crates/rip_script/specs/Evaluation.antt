@@ -17,9 +17,12 @@ use Rattle.rip_machine.specs.Law.{Resumes, Standing, Starts, loaded}
 use Rattle.rip_machine.specs.Loading.{Loads}
 use Rattle.rip_machine.specs.Starting.{Beginning, begun}
 use Rattle.rip_language.specs.Table.{table}
-use Rattle.rip_runs.specs.declared.outcome.Outcome.TheVariants.{Limit as LimitPassed}
+use Rattle.rip_runs.specs.declared.outcome.Outcome.{Outcome}
+use Rattle.rip_runs.specs.declared.outcome.Outcome.TheVariants as outcome
 use Rattle.rip_machine.specs.declared.outcome.Start.TheVariants.{Script}
 use Rattle.rip_runs.specs.declared.outcome.Turned.TheVariants.{Done}
+use Rattle.rip_script.specs.declared.evaluate.End.{End}
+use Rattle.rip_script.specs.declared.evaluate.End.TheVariants as end
 use Rattle.rip_script.specs.declared.evaluate.Ended.{Ended}
 use Rattle.rip_script.specs.declared.words.RunLimits.{RunLimits}
 
@@ -68,9 +71,16 @@ pub record IsStarted (limits : RunLimits) (code : Code) (w : World) (m : Standin
 
 -- THE RUN
 
+-- an end of a run in the terms of the evaluator, whose want of memory is none
+abbrev pub outcome_of : End → Outcome
+outcome_of (end.Value v) = outcome.Value v
+outcome_of (end.Thrown v) = outcome.Thrown v
+outcome_of (end.Fault fault) = outcome.Fault fault
+outcome_of (end.Limit limit) = outcome.Limit limit
+
 -- how a run ended that a limit stopped before it began: it took no fuel
 abbrev pub stopped : Limit → World → Ended
-stopped limit w = record { outcome = LimitPassed limit; spent = 0; heap = w }
+stopped limit w = record { end = end.Limit limit; spent = 0; heap = w }
 
 -- the cells of the top scope would pass the limit
 pub record LacksScope (limits : RunLimits) (code : Code) (ended : Ended) : Type 0 where
@@ -94,14 +104,14 @@ pub record IsNotStarted (limits : RunLimits) (code : Code) (ended : Ended) : Typ
   pub starts : Starts (table (loaded code idle)) (script_begins code idle w) limits.fuel w w idle idle (Err (At limit))
   pub is : ended ≡ stopped limit w
 
--- the script ran to its end, with nothing behind the objects of the host
+-- the script ran to its end, with nothing behind the objects of the host, and memory was not wanting
 pub record RunsToEnd (limits : RunLimits) (code : Code) (ended : Ended) : Type 0 where
   pub w : World
   pub begun : Standing
   pub is_started : IsStarted limits code w begun
-  pub end : Standing
-  pub resumes : Resumes no_host (table (loaded code begun)) begun w empty_host limits.fuel end ended.heap empty_host (Done ended.outcome)
-  pub spent : ended.spent ≡ end.spent
+  pub last : Standing
+  pub resumes : Resumes no_host (table (loaded code begun)) begun w empty_host limits.fuel last ended.heap empty_host (Done (outcome_of ended.end))
+  pub spent : ended.spent ≡ last.spent
 
 -- a run of the program within these limits comes to this
 abbrev pub IsEvaluated : RunLimits → Code → Ended → Type 0

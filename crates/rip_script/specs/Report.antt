@@ -9,10 +9,10 @@ use Rattle.rip_values.specs.declared.value.Value.{Value}
 use Rattle.rip_tree.specs.Program.{Code}
 use Rattle.rip_heap.specs.Scopes.{binding, bindings_of}
 use Rattle.rip_heap.specs.World.{World, scope_at}
-use Rattle.rip_runs.specs.declared.outcome.Outcome.{Outcome}
-use Rattle.rip_runs.specs.declared.outcome.Outcome.TheVariants as outcome
 use Rattle.rip_script.specs.Lines.{lines_text}
 use Rattle.rip_script.specs.Values.{name_text, value_text}
+use Rattle.rip_script.specs.declared.evaluate.End.{End}
+use Rattle.rip_script.specs.declared.evaluate.End.TheVariants as end
 use Rattle.rip_script.specs.declared.evaluate.Ended.{Ended}
 use Rattle.rip_script.specs.declared.print.TheConstants.{LEVELS}
 
@@ -43,12 +43,11 @@ abbrev pub value_word : World → Code → Value → List ℕ
 value_word w code v = value_text w code LEVELS [] v
 
 -- how the run ended: its kind, and behind it what was given or thrown, or which fault or limit it was
-abbrev pub outcome_words : World → Code → Outcome → List (List ℕ)
-outcome_words w code (outcome.Value v) = codes "value" ∷ value_word w code v ∷ []
-outcome_words w code (outcome.Thrown v) = codes "thrown" ∷ value_word w code v ∷ []
-outcome_words w code (outcome.Fault f) = codes "fault" ∷ fault_word f ∷ []
-outcome_words w code (outcome.Limit l) = codes "limit" ∷ limit_word l ∷ []
-outcome_words w code outcome.Memory = codes "memory" ∷ []
+abbrev pub end_words : World → Code → End → List (List ℕ)
+end_words w code (end.Value v) = codes "value" ∷ value_word w code v ∷ []
+end_words w code (end.Thrown v) = codes "thrown" ∷ value_word w code v ∷ []
+end_words w code (end.Fault f) = codes "fault" ∷ fault_word f ∷ []
+end_words w code (end.Limit l) = codes "limit" ∷ limit_word l ∷ []
 
 -- the name of a binding, or `?` where the program has none
 abbrev pub name_word : Option (List ℕ) → List ℕ
@@ -71,7 +70,7 @@ binding_lines code w = map (binding_line code w) (range_with_len 0 (length (bind
 -- the lines before those: how the run ended, its fuel, and the cells and units that were charged
 abbrev pub head_lines : Code → Ended → List (List (List ℕ))
 head_lines code ended =
-    (codes "outcome" ∷ outcome_words ended.heap code ended.outcome)
+    (codes "outcome" ∷ end_words ended.heap code ended.end)
     ∷ (codes "fuel" ∷ decimal ended.spent ∷ [])
     ∷ (codes "cells" ∷ decimal ended.heap.cells ∷ [])
     ∷ (codes "units" ∷ decimal ended.heap.pool.used ∷ [])

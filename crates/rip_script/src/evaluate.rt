@@ -1,28 +1,40 @@
-ghost use Rattle.std.specs.Prelude.{◌≡◌, IfOk};
-ghost use Rattle.rip_script.specs.Evaluation.{IsEvaluated, machine_at_first, world_at_first};
+ghost use Rattle.std.specs.Prelude.{◌≡◌, IfOk, IfErr};
+ghost use Rattle.rip_script.specs.Evaluation.{IsEvaluated, machine_at_first, outcome_of, world_at_first};
 ghost use Rattle.rip_script.specs.Steps.{BeginsRun, IsOver};
 
 use crate::words::RunLimits;
 use rip_heap::{EmptyHost, Heap, HeapLimits};
 use rip_machine::{Machine, Outcome, Start, Turned};
 use rip_tree::Program;
-use rip_values::{NoMemory, Refused};
+use rip_values::{Fault, Limit, NoMemory, Refused, Value};
 use std::alloc::Global;
 
 /// The longest text that a run may make, in units.
 const TEXT_LIMIT: u32 = 65_535;
 
+/// How a run of a script ended. One that memory was wanting for has no end.
+#[derive(Clone, Copy, Debug)]
+pub enum End {
+    /// The value of the script.
+    Value(Value),
+    /// What was thrown.
+    Thrown(Value),
+    Fault(Fault),
+    Limit(Limit),
+}
+
 /// What a run of a script came to.
 #[derive(Debug, Drop)]
 pub struct Ended {
-    pub outcome: Outcome,
+    pub end: End,
     /// The fuel that it took.
     pub spent: u64,
     /// The heap at its end.
     pub heap: Heap,
 }
 
-/// Runs the only script of a program, with nothing behind the objects of the host.
+/// Runs the only script of a program, with nothing behind the objects of the host. A run that memory is wanting for comes to
+/// nothing.
 pub fn evaluate(alloc: Global, program: &Program, limits: RunLimits) -> Result<Ended, NoMemory>
     ensures { IfOk result (IsEvaluated limits program.now) }
 {
@@ -40,14 +52,15 @@ pub fn evaluate(alloc: Global, program: &Program, limits: RunLimits) -> Result<E
         Ok(()) => {
             let fuel = u64::from(limits.fuel);
             let turned = machine.resume(alloc, program, &mut heap, &mut EmptyHost, fuel);
+            let end = end_of(turned)?;
             Ok(Ended {
-                outcome: outcome_of(turned),
+                end,
                 spent: machine.spent(),
                 heap,
             })
         }
         Err(Refused::Limit(limit)) => Ok(Ended {
-            outcome: Outcome::Limit(limit),
+            end: End::Limit(limit),
             spent: 0,
             heap,
         }),
@@ -75,13 +88,18 @@ fn begin(
     machine.start(alloc, program, heap, script, fuel)
 }
 
-/// How a run ended that had all its fuel.
-fn outcome_of(turned: Turned) -> Outcome
+/// How a run ended that had all its fuel, or want of memory.
+pub fn end_of(turned: Turned) -> Result<End, NoMemory>
     requires { IsOver turned }
-    ensures { turned ≡ Turned.Done result }
+    ensures end { IfOk result (λ end. turned ≡ Turned.Done (outcome_of end)) }
+    ensures memory { IfErr result (λ _. turned ≡ Turned.Done Outcome.Memory) }
 {
     match turned {
-        Turned::Done(outcome) => outcome,
+        Turned::Done(Outcome::Value(v)) => Ok(End::Value(v)),
+        Turned::Done(Outcome::Thrown(v)) => Ok(End::Thrown(v)),
+        Turned::Done(Outcome::Fault(fault)) => Ok(End::Fault(fault)),
+        Turned::Done(Outcome::Limit(limit)) => Ok(End::Limit(limit)),
+        Turned::Done(Outcome::Memory) => Err(NoMemory),
         Turned::More => unreachable!(),
     }
 }

@@ -1,15 +1,14 @@
 ghost use Rattle.std.specs.Prelude.{◌≡◌, ◌∷◌, ◌++◌, [], codes, decimal, option_map, OnOk};
 ghost use Rattle.rip_outer.specs.Writing.{CountsPut};
 ghost use Rattle.rip_script.specs.Lines.{line_text, lines_text};
-ghost use Rattle.rip_script.specs.Report.{binding_line, bound_word, fault_word, head_lines, limit_word, name_word, outcome_words, run_text, value_word};
+ghost use Rattle.rip_script.specs.Report.{binding_line, bound_word, end_words, fault_word, head_lines, limit_word, name_word, run_text, value_word};
 ghost use Rattle.rip_script.specs.Steps.{Puts};
 
 use crate::block::{put_block, put_full_block};
-use crate::evaluate::Ended;
+use crate::evaluate::{End, Ended};
 use crate::named::write_name;
 use crate::print::value_text;
 use rip_heap::Heap;
-use rip_machine::Outcome;
 use rip_outer::{Sink, SinkError};
 use rip_tree::Program;
 use rip_values::{Fault, Limit, NoMemory, Value, Writer};
@@ -43,30 +42,29 @@ fn write_head(
 ) -> Result<(), NoMemory>
     ensures { OnOk result (out.new ≡ out.old ++ lines_text (head_lines program.now ended.now)) }
 {
-    write_outcome(alloc, out, program, &ended.heap, ended.outcome)?;
+    write_end(alloc, out, program, &ended.heap, ended.end)?;
     write_count(out, b"fuel", ended.spent)?;
     write_count(out, b"cells", u64::from(ended.heap.used_cells()))?;
     write_count(out, b"units", u64::from(ended.heap.pool().used()))
 }
 
 /// Writes the line of the outcome.
-fn write_outcome(
+fn write_end(
     alloc: Global,
     out: &mut Writer,
     program: &Program,
     heap: &Heap,
-    outcome: Outcome,
+    end: End,
 ) -> Result<(), NoMemory>
     ensures { OnOk result
         (out.new ≡ out.old ++ line_text
-        (codes "outcome" ∷ outcome_words heap.now program.now outcome)) }
+        (codes "outcome" ∷ end_words heap.now program.now end)) }
 {
-    match outcome {
-        Outcome::Value(v) => write_valued(alloc, out, program, heap, b"value", v),
-        Outcome::Thrown(v) => write_valued(alloc, out, program, heap, b"thrown", v),
-        Outcome::Fault(fault) => write_kind(out, b"fault", fault_word(fault)),
-        Outcome::Limit(limit) => write_kind(out, b"limit", limit_word(limit)),
-        Outcome::Memory => out.text(b"outcome memory\n"),
+    match end {
+        End::Value(v) => write_valued(alloc, out, program, heap, b"value", v),
+        End::Thrown(v) => write_valued(alloc, out, program, heap, b"thrown", v),
+        End::Fault(fault) => write_kind(out, b"fault", fault_word(fault)),
+        End::Limit(limit) => write_kind(out, b"limit", limit_word(limit)),
     }
 }
 

@@ -1,5 +1,5 @@
 use crate::checked::read_program;
-use crate::evaluate::Ended;
+use crate::evaluate::{Ended, end_of};
 use crate::report::put_run;
 use crate::{LEVELS, Status, script, value_text};
 use rip_heap::{Class, EmptyHost, Heap, HeapLimits};
@@ -117,9 +117,9 @@ fn ended_in_slices(alloc: Global, program: &Program, slice: u64) -> Result<Ended
     let (mut heap, mut machine) = begun(alloc, program)?;
     for _ in 0..FUEL {
         let turned = machine.resume(alloc, program, &mut heap, &mut EmptyHost, slice);
-        if let Turned::Done(outcome) = turned {
+        if let Turned::Done(_) = turned {
             return Ok(Ended {
-                outcome,
+                end: end_of(turned)?,
                 spent: machine.spent(),
                 heap,
             });
