@@ -1,5 +1,5 @@
 -- A run that was started and went on to its end is the whole run of its start.
-use Rattle.std.proofs.Common.{◌≡◌, ℕ, ◌+◌, ◌-◌, ◌≤◌, min, Bool, true, false, Some, Ok, ap, sym, ◌∙◌, arith}
+use Rattle.std.proofs.Common.{◌≡◌, ℕ, ◌+◌, ◌-◌, ◌≤◌, min, Bool, true, false, Some, ap, sym, ◌∙◌, arith}
 use Rattle.std.proofs.lemmas.Bool.{le-leb}
 use Rattle.rip_values.specs.declared.value.Limit.{Limit}
 use Rattle.rip_heap.specs.World.{World}
@@ -10,11 +10,12 @@ use Rattle.rip_runs.specs.Started.{Started}
 use Rattle.rip_runs.specs.Law.{end_of, further}
 use Rattle.rip_machine.specs.Law.{Ends, Resumes, Standing, left, open_depth, run}
 use Rattle.rip_language.specs.Reading.{Loaded}
-use Rattle.rip_machine.specs.Run.{IsStarted, Ran, RunsWhole, comes_to, run_begun, run_from}
+use Rattle.rip_machine.specs.Run.{IsStarted, IsWhole, RunsWhole, comes_to, run_begun, run_from}
 use Rattle.rip_machine.specs.Starting.{Runs, Exceeds, begun_by}
 use Rattle.rip_language.specs.Table.{table}
 use Rattle.rip_runs.specs.declared.outcome.Outcome.{Outcome}
 use Rattle.rip_runs.specs.declared.outcome.Outcome.TheVariants.{Value as Gives, Thrown, Fault, Limit as AtLimit, Memory}
+use Rattle.rip_runs.specs.declared.outcome.Turned.{Turned}
 use Rattle.rip_runs.specs.declared.outcome.Turned.TheVariants.{More, Done}
 use Rattle.rip_runs.proofs.Resumes.{begins_whole}
 
@@ -33,7 +34,7 @@ not_cut true (Completes c u x r) room w s e h = cc
 not_cut true (Stops stop there u x r) room w s e h = cc
 not_cut true (Cuts there x r) room w s e h = cc
 
-pub never_more : {S : Type 0} (h : Calling S) (t : Table) (n : Standing) (x : World) (s : S) (fuel : ℕ) (e : Standing) (y : World) (r : S)
+never_more : {S : Type 0} (h : Calling S) (t : Table) (n : Standing) (x : World) (s : S) (fuel : ℕ) (e : Standing) (y : World) (r : S)
     → n.fuel ≤ fuel → Resumes h t n x s fuel e y r More → ⊥
 never_more h t n x s fuel e y r enough law = not_cut _ _ law.0.0 y r (le-leb n.fuel fuel enough) law.0.1
 
@@ -55,13 +56,17 @@ whole_end h p depth start w x y s r fuel n e outcome started ends =
       omega (arith, ends.2, fuel_is, spent),
     )
 
-pub ran : {S : Type 0} (h : Calling S) (p : Loaded) (depth : ℕ) (start : Started) (w x y : World) (s r : S) (fuel : ℕ) (n e : Standing) (outcome : Outcome)
-    → IsStarted p depth start w fuel x n → Resumes h (table p) n x s fuel e y r (Done outcome) → Ran h p depth start w s fuel e y r (Ok outcome)
-ran h p depth start w x y s r fuel n e (Gives v) started ends = whole_end h p depth start w x y s r fuel n e (Gives v) started ends
-ran h p depth start w x y s r fuel n e (Thrown v) started ends = whole_end h p depth start w x y s r fuel n e (Thrown v) started ends
-ran h p depth start w x y s r fuel n e (Fault fault) started ends = whole_end h p depth start w x y s r fuel n e (Fault fault) started ends
-ran h p depth start w x y s r fuel n e (AtLimit limit) started ends = whole_end h p depth start w x y s r fuel n e (AtLimit limit) started ends
-ran h p depth start w x y s r fuel n e Memory started ends = tt
+-- what is left of a run that was started, after as many units as its fuel
+pub goes_whole : {S : Type 0} (h : Calling S) (p : Loaded) (depth : ℕ) (start : Started) (w x y : World) (s r : S) (fuel : ℕ) (n e : Standing) (turned : Turned)
+    → IsStarted p depth start w fuel x n → Resumes h (table p) n x s fuel e y r turned → IsWhole h p depth start w s fuel e y r turned
+goes_whole h p depth start w x y s r fuel n e More started law =
+    let fuel_is : n.fuel ≡ fuel = started.2.1 in
+    never_more h (table p) n x s fuel e y r (omega (arith, fuel_is)) law
+goes_whole h p depth start w x y s r fuel n e (Done (Gives v)) started ends = whole_end h p depth start w x y s r fuel n e (Gives v) started ends
+goes_whole h p depth start w x y s r fuel n e (Done (Thrown v)) started ends = whole_end h p depth start w x y s r fuel n e (Thrown v) started ends
+goes_whole h p depth start w x y s r fuel n e (Done (Fault fault)) started ends = whole_end h p depth start w x y s r fuel n e (Fault fault) started ends
+goes_whole h p depth start w x y s r fuel n e (Done (AtLimit limit)) started ends = whole_end h p depth start w x y s r fuel n e (AtLimit limit) started ends
+goes_whole h p depth start w x y s r fuel n e (Done Memory) started ends = tt
 
 -- a start that would pass a limit
 pub stopped : {S : Type 0} (h : Calling S) (p : Loaded) (depth : ℕ) (start : Started) (w : World) (s : S) (fuel : ℕ) (limit : Limit)

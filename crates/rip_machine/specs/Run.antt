@@ -1,7 +1,6 @@
 -- A whole run: what a start comes to, with so much fuel and so many units.
-use Rattle.std.specs.Prelude.{◌≡◌, ℕ, ◌+◌, min, Option, Some, Result, Ok, Err}
-use Rattle.rip_values.specs.declared.value.Refused.{Refused}
-use Rattle.rip_values.specs.declared.value.Refused.TheVariants.{Limit as At, Memory as NoRoom}
+use Rattle.std.specs.Prelude.{◌≡◌, ℕ, ◌+◌, min, Option, Some}
+use Rattle.rip_values.specs.declared.value.Limit.{Limit as At}
 use Rattle.rip_heap.specs.World.{World}
 use Rattle.rip_runs.specs.declared.completion.Stop.TheVariants.{Limit as AtLimit}
 use Rattle.rip_runs.specs.Cut.{run_of}
@@ -10,8 +9,10 @@ use Rattle.rip_runs.specs.Run.{Answer, Stops, Calling}
 use Rattle.rip_runs.specs.Started.{Started}
 use Rattle.rip_runs.specs.declared.outcome.Outcome.{Outcome}
 use Rattle.rip_runs.specs.declared.outcome.Outcome.TheVariants.{Value as Gives, Thrown, Fault, Limit, Memory}
+use Rattle.rip_runs.specs.declared.outcome.Turned.{Turned}
+use Rattle.rip_runs.specs.declared.outcome.Turned.TheVariants.{More, Done}
 use Rattle.rip_runs.specs.Law.{end_of}
-use Rattle.rip_machine.specs.Law.{Begins, Standing, left, open_depth}
+use Rattle.rip_machine.specs.Law.{Begins, Resumes, Standing, left, open_depth}
 use Rattle.rip_language.specs.Reading.{Loaded}
 use Rattle.rip_machine.specs.Starting.{Beginning, Runs, Exceeds, begun_by}
 use Rattle.rip_language.specs.Table.{table}
@@ -46,14 +47,23 @@ abbrev pub RunsOn : {S : Type 0} → Calling S → Loaded → ℕ → Started �
 RunsOn h p depth start w s fuel x n =
     IsStarted p depth start w fuel x n → (k : ℕ) → left h (table p) n x s k ≡ run_from h p depth start w s fuel k
 
--- what a whole run answers: its end; or the limit that its start would pass, and then all is as it was, as it is where
--- memory is wanting for the start. Of want of memory in the run nothing is said
-abbrev pub Ran : {S : Type 0} → Calling S → Loaded → ℕ → Started → World → S → ℕ → Standing → World → S → Result Outcome Refused → Type 0
-Ran h p depth start w s fuel m' w' s' (Ok (Gives v)) = RunsWhole h p depth start w s fuel m' w' s' (Gives v)
-Ran h p depth start w s fuel m' w' s' (Ok (Thrown v)) = RunsWhole h p depth start w s fuel m' w' s' (Thrown v)
-Ran h p depth start w s fuel m' w' s' (Ok (Fault fault)) = RunsWhole h p depth start w s fuel m' w' s' (Fault fault)
-Ran h p depth start w s fuel m' w' s' (Ok (Limit limit)) = RunsWhole h p depth start w s fuel m' w' s' (Limit limit)
-Ran h p depth start w s fuel m' w' s' (Ok Memory) = Unit {0}
-Ran h p depth start w s fuel m' w' s' (Err (At limit)) =
-    (comes_to h p depth start w s fuel fuel ≡ Some (Limit limit, 0, fuel, w, s)) × (w' ≡ w) × (s' ≡ s)
-Ran h p depth start w s fuel m' w' s' (Err NoRoom) = Unit {0}
+-- what is left of a run that was started has gone on for as many units as its fuel: it is not cut, and its outcome is that of
+-- the whole run of that start. Of want of memory nothing is said
+abbrev pub IsWhole : {S : Type 0} → Calling S → Loaded → ℕ → Started → World → S → ℕ → Standing → World → S → Turned → Type 0
+IsWhole h p depth start w s fuel m' w' s' More = ⊥
+IsWhole h p depth start w s fuel m' w' s' (Done (Gives v)) = RunsWhole h p depth start w s fuel m' w' s' (Gives v)
+IsWhole h p depth start w s fuel m' w' s' (Done (Thrown v)) = RunsWhole h p depth start w s fuel m' w' s' (Thrown v)
+IsWhole h p depth start w s fuel m' w' s' (Done (Fault fault)) = RunsWhole h p depth start w s fuel m' w' s' (Fault fault)
+IsWhole h p depth start w s fuel m' w' s' (Done (Limit limit)) = RunsWhole h p depth start w s fuel m' w' s' (Limit limit)
+IsWhole h p depth start w s fuel m' w' s' (Done Memory) = Unit {0}
+
+-- where the machine stands as this start left it, and goes on for as many units as its fuel, it makes the whole run
+abbrev pub GoesWhole : {S : Type 0} → Calling S → Loaded → ℕ → Started → World → S → ℕ → World → Standing → Type 0
+GoesWhole {S} h p depth start w s fuel x n =
+    IsStarted p depth start w fuel x n → (m' : Standing) (w' : World) (s' : S) (turned : Turned)
+    → Resumes h (table p) n x s fuel m' w' s' turned → IsWhole h p depth start w s fuel m' w' s' turned
+
+-- a start that would pass a limit: its whole run ends with that limit, nothing is open, no unit is needed, and all is as it was
+abbrev pub StopsAtOnce : {S : Type 0} → Calling S → Loaded → ℕ → Started → World → S → ℕ → Type 0
+StopsAtOnce h p depth start w s fuel =
+    (limit : At) → begun_by p depth start w ≡ Exceeds limit → comes_to h p depth start w s fuel fuel ≡ Some (Limit limit, 0, fuel, w, s)

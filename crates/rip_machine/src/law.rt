@@ -4,7 +4,7 @@ ghost use Rattle.rip_runs.specs.Cut.{run_of};
 ghost use Rattle.rip_runs.specs.Row.{Row};
 ghost use Rattle.rip_runs.specs.Started.{Started};
 ghost use Rattle.rip_machine.specs.Law.{Begins, left, loaded};
-ghost use Rattle.rip_machine.specs.Run.{RunsOn};
+ghost use Rattle.rip_machine.specs.Run.{GoesWhole, RunsOn, StopsAtOnce};
 ghost use Rattle.rip_language.specs.Table.{table};
 ghost use Rattle.rip_machine.specs.Turns.{LoopsAreTheirRows};
 
@@ -46,6 +46,29 @@ pub fn started_runs_on<H: Host>(
     ensures { (start : Started) (w : World) (depth : ℕ)
         → RunsOn H.answers (loaded program.now machine.now) depth start w host.now fuel heap.now
         machine.now }
+{
+    let _ = machine;
+    let _ = program;
+    let _ = heap;
+    let _ = host;
+    let _ = fuel;
+}
+
+/// A law, and no work: where a machine stands as [`Machine::start`] left it, with so much fuel, [`Machine::resume`] for as many
+/// units makes the whole run of that start, for every host; and a start that would pass a limit is a run that ends with that
+/// limit before its first unit.
+pub fn started_runs_whole<H: Host>(
+    machine: &Machine,
+    program: &Program,
+    heap: &Heap,
+    host: &H,
+    fuel: u64,
+)
+    ensures goes { (start : Started) (w : World) (depth : ℕ)
+        → GoesWhole H.answers (loaded program.now machine.now) depth start w host.now fuel heap.now
+        machine.now }
+    ensures stops { (start : Started) (w : World) (depth : ℕ)
+        → StopsAtOnce H.answers (loaded program.now machine.now) depth start w host.now fuel }
 {
     let _ = machine;
     let _ = program;

@@ -10,7 +10,7 @@
 //! | [`Machine`] | contracts see `Law.Standing` |
 //! | [`Machine::load`] | `Loading.Loads`; where each text stands then `Loading.TextsStand` |
 //! | [`Machine::start`], [`Machine::resume`] | `Law.Starts`, `Law.Resumes`; what a start comes to `Starting.begun` |
-//! | [`Machine::run`] | `Run.Ran`: the run of a start, with all its fuel, is `Run.run_from` |
+//! | a start, and then a `resume` with all its fuel (`started_runs_whole`) | `Run.GoesWhole`: the whole run of that start, `Run.run_from` |
 //! | [`Machine::depth`] | `Law.open_depth` |
 //! | [`Machine`] as plans see it (`Evaluator`) | `Plans.evaluation` |
 //! | loops, with the completions of their parts | `Turns.antt` |
@@ -26,9 +26,8 @@ mod machine;
 mod outcome;
 mod rows;
 mod starting;
-mod whole;
 
-pub use law::{begun_is_whole, loops_are_their_rows, started_runs_on};
+pub use law::{begun_is_whole, loops_are_their_rows, started_runs_on, started_runs_whole};
 pub use machine::Machine;
 pub use outcome::Start;
 pub use rip_runs::{Outcome, Turned};
