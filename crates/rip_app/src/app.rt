@@ -126,9 +126,6 @@ fn page_of(alloc: Global, bytes: &[u8]) -> Result<Page, AppRefusal>
     ensures found { IfOk result (PageOf bytes.now) }
     ensures refused { IfErr result (RefusesPage bytes.now) }
 {
-    if bytes.len() > u32::MAX as usize {
-        return Err(AppRefusal::Memory);
-    }
     match read_page(alloc, bytes) {
         Ok(page) => Ok(page),
         Err(refusal) => Err(AppRefusal::of_page(refusal)),

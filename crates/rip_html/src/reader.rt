@@ -1,4 +1,4 @@
-ghost use Rattle.std.specs.Prelude.{◌≡◌, ◌<◌, ◌≤◌, ◌+◌, ◌^◌, ◌∷◌, [], ℕ, false, IfOk, IfErr, MatchResult, length};
+ghost use Rattle.std.specs.Prelude.{◌≡◌, ◌<◌, ◌≤◌, ◌+◌, ◌^◌, ◌∷◌, [], ℕ, false, IfOk, IfErr, MatchResult};
 ghost use Rattle.rip_values.specs.Page.{Contents};
 ghost use Rattle.rip_values.specs.declared.page.PageKind.{PageKind};
 ghost use Rattle.rip_markup.specs.Input.{bytes_before};
@@ -15,10 +15,9 @@ use rip_markup::{Fault, PageRefusal, PageText, Placed, byte_place, read_text, to
 use rip_values::{List, NoMemory, Page};
 use std::alloc::Global;
 
-/// The page that these bytes are, or the first construct of them that is refused, with the place in bytes.
+/// The page that these bytes are, or the first construct of them that is refused, with the place in bytes. A page whose
+/// places 32 bits cannot count is answered with want of memory.
 pub fn read_page(alloc: Global, bytes: &[u8]) -> Result<Page, PageRefusal>
-    requires { length bytes.now < 2 ^ 32 }
-
     // What is answered is so.
     ensures found { IfOk result (PageOf bytes.now) }
     ensures refused { IfErr result (IsRefusal bytes.now) }

@@ -20,14 +20,17 @@ pub struct PageText {
     pub units: Units,
 }
 
-/// The text of a page (HTML 13.2.3).
+/// The text of a page (HTML 13.2.3). A page whose places 32 bits cannot count is answered with want of memory.
 pub fn read_text(alloc: Global, bytes: &[u8]) -> Result<PageText, PageRefusal>
-    requires { length bytes.now < 2 ^ 32 }
     ensures found { IfOk result (IsTextOf bytes.now) }
+    ensures counted { OnOk result (length bytes.now < 2 ^ 32) }
     ensures only { (text : PageText) → IsTextOf bytes.now text → IfOk result (λ made. made ≡ text) }
     ensures mark { IfOk result (λ text. text.mark ≤ 3) }
     ensures refused { IfErr result (IsTextRefusal bytes.now) }
 {
+    if bytes.len() > u32::MAX as usize {
+        return Err(PageRefusal::Memory);
+    }
     let mark = mark_count(bytes);
     let (_, spelled) = bytes.split_at(mark);
     match Units::from_utf8(alloc, spelled) {

@@ -1,4 +1,4 @@
-ghost use Rattle.std.specs.Prelude.{◌≡◌, ◌<◌, ◌≤◌, ◌^◌, List as Items, IfOk, length};
+ghost use Rattle.std.specs.Prelude.{◌≡◌, ◌≤◌, List as Items, IfOk, length};
 ghost use Rattle.rip_markup.specs.Tokens.{IsTokens, HasOneList, HasSomeList, dropped};
 ghost use Rattle.rip_markup.specs.Within.{AreWithin};
 
@@ -9,10 +9,8 @@ use rip_values::{List, NoMemory};
 use std::alloc::Global;
 
 /// The tokens of a page's text, whose lines end in LF (HTML 13.2.5). The last one is the end of the page or the first
-/// that is refused for itself.
+/// that is refused for itself. A text whose places 32 bits cannot count is answered with want of memory.
 pub fn tokens(alloc: Global, text: &[u16]) -> Result<List<Placed>, NoMemory>
-    requires { length text.now < 2 ^ 32 }
-
     // What is answered is so.
     ensures found { IfOk result (IsTokens text.now) }
 
@@ -20,6 +18,9 @@ pub fn tokens(alloc: Global, text: &[u16]) -> Result<List<Placed>, NoMemory>
     ensures only { (others : Items Placed) → IsTokens text.now others
         → IfOk result (λ made. made ≡ others) }
 {
+    if text.len() > u32::MAX as usize {
+        return Err(NoMemory);
+    }
     let mut made = Vec::new(alloc);
     let mut content = Content::Markup;
     let mut place: usize = 0;

@@ -297,11 +297,8 @@ fn shown(alloc: Global, page: &Page) -> Result<String, Fail> {
     Ok(out)
 }
 
-/// The page of bytes that are not too many, as the table has it, or its refusal.
+/// The page of these bytes, as the table has it, or its refusal.
 fn read(alloc: Global, bytes: &[u8]) -> Result<String, Fail> {
-    if bytes.len() > 100_000 {
-        return Ok(String::new(alloc));
-    }
     match read_page(alloc, bytes) {
         Ok(page) => shown(alloc, &page),
         Err(refusal) => Ok(format!(in alloc; "{refusal}")?),

@@ -18,24 +18,19 @@ use Rattle.rip_html.proofs.Lasting.{accepted_made, made_accepted}
 use Rattle.rip_html.proofs.Numbering.{built_page}
 use Rattle.rip_html.proofs.reader.read_page.Goals as goal
 
-pub tokens-requires : goal.tokens-requires
-tokens-requires c =
-    let within = page_text_within c.args.bytes.now c.in_ok-text.text c.in_ok-text.ensures.found in
-    omega (arith, within.units, ap length c.as_slice.ensures, c.requires)
-
 pub first_refusal-requires : goal.first_refusal-requires
 first_refusal-requires c =
     let list = c.in_ok-list.list in
     let text = c.in_ok-text.text in
     let within = page_text_within c.args.bytes.now text c.in_ok-text.ensures.found in
     let are : IsTokens text.units list = subst (λ u. IsTokens u list) c.as_slice.ensures c.in_ok-list.ensures.found in
-    let all = further (length text.units) (2 ^ 32) list (omega (arith, within.units, c.requires)) (text_within text.units list are) in
+    let all = further (length text.units) (2 ^ 32) list (omega (arith, within.units, c.in_ok-text.ensures.counted)) (text_within text.units list are) in
     subst (λ (l : List Placed). AllByRecursion (PlacedWithin (2 ^ 32)) l) (sym c.as_slice-2.ensures) all
 
 pub refused_at-requires-clause-within : goal.refused_at-requires-clause-within
 refused_at-requires-clause-within c =
     let within = page_text_within c.args.bytes.now c.in_ok-text.text c.in_ok-text.ensures.found in
-    omega (arith, within.places c.in-Some.fault.offset, c.requires)
+    omega (arith, within.places c.in-Some.fault.offset, c.in_ok-text.ensures.counted)
 
 pub returns-in-Some-clause-only : goal.returns-in-Some-clause-only
 returns-in-Some-clause-only c = λ page is.
