@@ -18,7 +18,7 @@ busy_not_done e doing may at st busy =
     let d : Doing _ _ = doing st.seed st.time in
     let b : ℕ = length st.batches in
     let come : parts_at (meaning_of doing) st ≡ busy.earlier =
-    parts_of_stage doing st (next_number at.place at.begun) busy.earlier (busy.ahead [] []) busy.none (busy.whole [] []) busy.come
+    parts_of_stage doing st (next_number at.place at.begun) busy.earlier (busy.ahead.parts [] []) busy.none (busy.whole [] []) busy.come
     (left_heads e d b (behind_batch d b) at at.place busy.base st.units busy.ahead busy.stands.left [] []) (busy.stands.more [] []) in
     ap (λ ps. finishes_batch b ps) come ∙ busy.busy
 
@@ -29,7 +29,7 @@ busy_lives e doing may at st busy =
     let d : Doing _ _ = doing st.seed st.time in
     let b : ℕ = length st.batches in
     let come : parts_at (meaning_of doing) st ≡ busy.earlier =
-    parts_of_stage doing st (next_number at.place at.begun) busy.earlier (busy.ahead [] []) busy.none (busy.whole [] []) busy.come
+    parts_of_stage doing st (next_number at.place at.begun) busy.earlier (busy.ahead.parts [] []) busy.none (busy.whole [] []) busy.come
     (left_heads e d b (behind_batch d b) at at.place busy.base st.units busy.ahead busy.stands.left [] []) (busy.stands.more [] []) in
     ap has_ended come ∙ busy.lives
 

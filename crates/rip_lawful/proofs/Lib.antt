@@ -1,9 +1,12 @@
 pub mod Admitted
 pub mod Begun
+pub mod Behind
+pub mod Cut
 pub mod Done
 pub mod InTurn
 pub mod Lawful
 pub mod Nested
+pub mod OneCut
 pub mod Resting
 pub mod Rooms
 pub mod Staging

@@ -44,7 +44,7 @@ held_within : {S : Type 0} (most depth : ℕ) (p : Played S) (w : World) (s : S)
 unfolding HoldsWithin
 held_within most depth p w s is h = (let H : Played _ → Type 0 = λ q. HoldsWithin most q in subst H is h)
 
-cut_within : {M A S : Type 0} (e : Evaluation M S) (d : Doing A S) (batch : ℕ) (next : Behind S) (at : Spot M A S) (place : Place) (base limit : ℕ) (later : Ahead) (most : ℕ)
+cut_within : {M A S : Type 0} (e : Evaluation M S) (d : Doing A S) (batch : ℕ) (next : Behind S) (at : Spot M A S) (place : Place) (base limit : ℕ) (later : Ahead S) (most : ℕ)
     → NestsWithin most d.run → IsCut e d batch next at place base limit later → open_at place (depth_in e at.going.evaluator at.going.phase) ≤ most
 cut_within e d batch next at First base limit later most nests h = omega arith
 cut_within e d batch next at Between base limit later most nests h = omega arith
@@ -60,7 +60,7 @@ idle_within place depth most is =
     subst (λ (p : Place). open_at p depth ≤ most) (sym is) none
 
 -- behind a slice
-pub slice_within : {M A S : Type 0} (Roomed : Type 0) (e : Evaluation M S) (d : Doing A S) (may : S → Bool) (batch : ℕ) (next : Behind S) (at : Spot M A S) (from base limit : ℕ) (ahead : Ahead)
+pub slice_within : {M A S : Type 0} (Roomed : Type 0) (e : Evaluation M S) (d : Doing A S) (may : S → Bool) (batch : ℕ) (next : Behind S) (at : Spot M A S) (from base limit : ℕ) (ahead : Ahead S)
     (ps : List Part) (gs : List Given) (progress : Progress) (most : ℕ) → NestsWithin most d.run → Comes Roomed e d may batch next at from base limit ahead ps gs progress → StandsIdleSo progress at.place
     → IsWithinSo progress (open_at at.place (depth_in e at.going.evaluator at.going.phase)) most
 slice_within Roomed e d may batch next at from base limit ahead ps gs Busy most nests comes idle =

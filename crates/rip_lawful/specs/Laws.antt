@@ -1,10 +1,15 @@
 -- What holds of all sessions, whatever their items and pages are.
-use Rattle.std.specs.Prelude.{◌≡◌, ℕ, Bool, false}
+use Rattle.std.specs.Prelude.{◌≡◌, ℕ, Bool, false, List}
+use Rattle.rip_heap.specs.World.{World}
 use Rattle.rip_wire.specs.Batches.{Contents}
 use Rattle.rip_runs.specs.Evaluation.{Evaluation}
-use Rattle.rip_course.specs.Parts.{IsLawful}
+use Rattle.rip_course.specs.Parts.{Given, IsLawful}
 use Rattle.rip_course.specs.Stages.{MayAdmit, Stage, begun, is_done, with_batch}
+use Rattle.rip_runner.specs.Going.{depth_in}
+use Rattle.rip_replica.specs.Cuts.{CutAfter}
+use Rattle.rip_replica.specs.Numbers.{open_at}
 use Rattle.rip_replica.specs.Parts.{Doing, meaning_of}
+use Rattle.rip_replica.specs.Plays.{CountsUnits}
 use Rattle.rip_replica.specs.Sessions.{IsAt, IsBusy}
 use Rattle.rip_replica.specs.Standing.{Spot}
 use Rattle.rip_lawful.specs.Sound.{HaveShapes, IsSound}
@@ -30,3 +35,14 @@ abbrev pub BusyAreNotDone : Type 0 → Type 0 → Type 0 → Type 0
 BusyAreNotDone M A S = (e : Evaluation M S) (doing : ℕ → ℕ → Doing A S) (may : S → Bool) (at : Spot M A S) (st : Stage)
     → (IsAt e doing may at st → is_done (meaning_of doing) st ≡ false → IsBusy e (doing st.seed st.time) may at st)
     × (IsBusy e (doing st.seed st.time) may at st → is_done (meaning_of doing) st ≡ false)
+
+-- and where it is busy, it is cut after the units that its last batch got
+abbrev pub BusyAreCut : Type 0 → Type 0 → Type 0 → Type 0
+BusyAreCut M A S = (e : Evaluation M S) (doing : ℕ → ℕ → Doing A S) (may : S → Bool) (at : Spot M A S) (st : Stage)
+    → IsAt e doing may at st → is_done (meaning_of doing) st ≡ false
+    → CutAfter (doing st.seed st.time) st.batches st.given st.units (open_at at.place (depth_in e at.going.evaluator at.going.phase)) at.world at.page
+
+-- after so many units a batch is cut at one place, where runs count their units
+abbrev pub CutsAreOne : Type 0 → Type 0 → Type 0
+CutsAreOne A S = (d : Doing A S) (batches : List Contents) (given : List Given) (units n m : ℕ) (w x : World) (s r : S)
+    → CountsUnits d.run → CutAfter d batches given units n w s → CutAfter d batches given units m x r → (n ≡ m) × (w ≡ x) × (s ≡ r)

@@ -1,4 +1,4 @@
-ghost use Rattle.rip_lawful.specs.Laws.{AdmittedAreNext, BusyAreNotDone, MeaningsAreLawful, OpenedAreBegun};
+ghost use Rattle.rip_lawful.specs.Laws.{AdmittedAreNext, BusyAreCut, BusyAreNotDone, CutsAreOne, MeaningsAreLawful, OpenedAreBegun};
 
 /// A law, and no work: what sessions do is made in the order of their batches and of what they are given.
 pub fn meanings_are_lawful<A, S>()
@@ -18,4 +18,14 @@ pub fn admitted_are_next<M, A, S>()
 /// A law, and no work: a session is busy exactly where its last batch is not done.
 pub fn busy_are_not_done<M, A, S>()
     ensures { BusyAreNotDone M A S }
+{}
+
+/// A law, and no work: a busy session is cut after the units that its last batch got.
+pub fn busy_are_cut<M, A, S>()
+    ensures { BusyAreCut M A S }
+{}
+
+/// A law, and no work: after so many units a batch is cut at one place.
+pub fn cuts_are_one<A, S>()
+    ensures { CutsAreOne A S }
 {}

@@ -14,10 +14,15 @@
 //! | [`opened_are_begun`] | `Laws.OpenedAreBegun` |
 //! | [`admitted_are_next`] | `Laws.AdmittedAreNext` |
 //! | [`busy_are_not_done`] | `Laws.BusyAreNotDone` |
+//! | [`busy_are_cut`]: where a busy session stands | `Laws.BusyAreCut`, by `Cuts.CutAfter` (`rip_replica`) |
+//! | [`cuts_are_one`] | `Laws.CutsAreOne` |
 #![tactic(auto)]
 
 mod going;
 mod laws;
 
 pub use going::{admit, open, resume};
-pub use laws::{admitted_are_next, busy_are_not_done, meanings_are_lawful, opened_are_begun};
+pub use laws::{
+    admitted_are_next, busy_are_cut, busy_are_not_done, cuts_are_one, meanings_are_lawful,
+    opened_are_begun,
+};

@@ -24,19 +24,19 @@ use Rattle.rip_replica.specs.Standing.{Ahead, Behind, Spot, Turns, next_number, 
 use Rattle.rip_replica.proofs.SliceLemmas.{Went, came_ends, came_short}
 
 -- where the session has ended, nothing is said of where it stands
-elsewhere : {M A S Roomed : Type 0} (e : Evaluation M S) (d : Doing A S) (may : S → Bool) (b : ℕ) (next : Behind S) (from base limit : ℕ) (first : Ahead) (service : Service) (calls : List Called) (slice : Slice) (old made : Made)
+elsewhere : {M A S Roomed : Type 0} (e : Evaluation M S) (d : Doing A S) (may : S → Bool) (b : ℕ) (next : Behind S) (from base limit : ℕ) (first : Ahead S) (service : Service) (calls : List Called) (slice : Slice) (old made : Made)
     (to last : Spot M A S) (Replies : List Called → Type 0) (how : Ending)
     → Sliced Roomed e d may b next to from base limit first service calls slice old made (Finished (Some how)) Replies → Sliced Roomed e d may b next last from base limit first service calls slice old made (Finished (Some how)) Replies
 elsewhere e d may b next from base limit first service calls slice old made to last Replies how h = record { ps = h.ps; gs = h.gs; comes = h.comes; served = h.served }
 
-pub memory_at : {M A S Roomed : Type 0} (e : Evaluation M S) (d : Doing A S) (may : S → Bool) (b : ℕ) (next : Behind S) (from base limit : ℕ) (first : Ahead) (service : Service) (calls : List Called) (slice : Slice) (old made : Made)
+pub memory_at : {M A S Roomed : Type 0} (e : Evaluation M S) (d : Doing A S) (may : S → Bool) (b : ℕ) (next : Behind S) (from base limit : ℕ) (first : Ahead S) (service : Service) (calls : List Called) (slice : Slice) (old made : Made)
     (to last : Spot M A S) (Replies : List Called → Type 0) (progress : Progress) (how : Ending) → progress ≡ Finished (Some how)
     → Sliced Roomed e d may b next to from base limit first service calls slice old made (Finished (Some how)) Replies → Sliced Roomed e d may b next last from base limit first service calls slice old made progress Replies
 memory_at {Roomed = Roomed} e d may b next from base limit first service calls slice old made to last Replies progress how is h =
     let P : Progress → Type 0 = λ p. Sliced Roomed e d may b next last from base limit first service calls slice old made p Replies in
     subst P (sym is) (elsewhere e d may b next from base limit first service calls slice old made to last Replies how h)
 
-pub ended : {M A S Roomed : Type 0} (e : Evaluation M S) (d : Doing A S) (may : S → Bool) (b : ℕ) (next : Behind S) (from base limit : ℕ) (first : Ahead) (service : Service) (calls : List Called) (slice : Slice) (old made : Made)
+pub ended : {M A S Roomed : Type 0} (e : Evaluation M S) (d : Doing A S) (may : S → Bool) (b : ℕ) (next : Behind S) (from base limit : ℕ) (first : Ahead S) (service : Service) (calls : List Called) (slice : Slice) (old made : Made)
     (at to last : Spot M A S) (left : ℕ) (Replies : List Called → Type 0) (close : Close) (went : Went e d may b next from base limit first service calls slice old at left made Replies)
     (ending : List A → Close → S → Ending) → d.ending ≡ ending → at.place ≡ Within → to.begun ≡ at.begun
     → Turns e d may b next to from went.new_base went.spent left went.later (turn.Ends close) → (progress : Progress)

@@ -1,5 +1,5 @@
 -- A slice, turn by turn.
-use Rattle.std.proofs.Common.{◌≡◌, ℕ, ◌+◌, ◌<◌, ◌≤◌, ◌==◌, Bool, true, List, [], ◌∷◌, ◌++◌, drop, map, None, Some, inl, inr, if◌then◌else◌, refl, ap, sym, subst, ◌∙◌, arith, append-nil, append_assoc}
+use Rattle.std.proofs.Common.{◌≡◌, ℕ, ◌+◌, ◌<◌, ◌≤◌, ◌==◌, Bool, true, List, [], ◌∷◌, ◌++◌, drop, length, map, None, Some, inl, inr, if◌then◌else◌, refl, ap, sym, subst, ◌∙◌, arith, append-nil, append_assoc}
 use Rattle.rip_wire.specs.Answers.{served_of}
 use Rattle.rip_wire.specs.Batches.{Contents}
 use Rattle.rip_wire.specs.declared.ending.Ending.TheVariants.{Memory}
@@ -38,29 +38,32 @@ spent_append : (b : ℕ) (ps qs : List Part) (base : ℕ) → parts.spent b (ps 
 spent_append b [] qs base = refl
 spent_append b (p ∷ ps) qs base = spent_append b ps qs (if p.batch == b then p.cost else base)
 
-has_on : (b n m from base limit s : ℕ) (first middle last : Ahead) (base1 base2 : ℕ) (ps qs : List Part) (gs hs : List Given)
-    → HasGone b n from base limit first middle base1 ps gs → ((bs : List Contents) (more : List Given) → middle bs (hs ++ more) ≡ qs ++ last bs more)
+has_on : {S : Type 0} (b n m from base limit s : ℕ) (first middle last : Ahead S) (base1 base2 : ℕ) (ps qs : List Part) (gs hs : List Given)
+    → HasGone b n from base limit first middle base1 ps gs → ((bs : List Contents) (more : List Given) → middle.parts bs (hs ++ more) ≡ qs ++ last.parts bs more)
+    → ((more : List Given) (k : ℕ) → middle.behind (hs ++ more) k ≡ last.behind more k)
     → AreGone b m from s qs → n ≤ m → s ≤ limit → parts.spent b qs base1 ≡ base2 → HasGone b m from base limit first last base2 (ps ++ qs) (gs ++ hs)
-has_on b n m from base limit s first middle last base1 base2 ps qs gs hs has comes gone up on based = record {
-  goes = λ bs more. ap (λ xs. first bs xs) (append_assoc gs hs more) ∙ has.goes bs (hs ++ more) ∙ ap (λ xs. ps ++ xs) (comes bs more) ∙ sym (append_assoc ps qs (last bs more));
+has_on b n m from base limit s first middle last base1 base2 ps qs gs hs has comes behind gone up on based = record {
+  goes = λ bs more. ap (λ xs. first.parts bs xs) (append_assoc gs hs more) ∙ has.goes bs (hs ++ more) ∙ ap (λ xs. ps ++ xs) (comes bs more) ∙ sym (append_assoc ps qs (last.parts bs more));
+  behind = λ more k. ap (λ xs. first.behind xs k) (append_assoc gs hs more) ∙ has.behind (hs ++ more) k ∙ behind more k;
   gone = gone_append b m from limit ps qs (gone_up b n m from limit limit ps up (omega arith) has.gone) (gone_up b m m from s limit qs (omega arith) on gone);
   based = spent_append b ps qs base ∙ ap (λ u. parts.spent b qs u) has.based ∙ based;
 }
 
-has_none : (b n m from base limit : ℕ) (first last : Ahead) (base1 : ℕ) (ps : List Part) (gs : List Given) → n ≤ m → HasGone b n from base limit first last base1 ps gs → HasGone b m from base limit first last base1 ps gs
-has_none b n m from base limit first last base1 ps gs up has = record { goes = has.goes; gone = gone_up b n m from limit limit ps up (omega arith) has.gone; based = has.based }
+has_none : {S : Type 0} (b n m from base limit : ℕ) (first last : Ahead S) (base1 : ℕ) (ps : List Part) (gs : List Given) → n ≤ m → HasGone b n from base limit first last base1 ps gs → HasGone b m from base limit first last base1 ps gs
+has_none b n m from base limit first last base1 ps gs up has = record { goes = has.goes; behind = has.behind; gone = gone_up b n m from limit limit ps up (omega arith) has.gone; based = has.based }
 
-has_as : (b n from base limit : ℕ) (first middle last : Ahead) (base1 : ℕ) (ps : List Part) (gs : List Given) → ((bs : List Contents) (more : List Given) → middle bs more ≡ last bs more)
+has_as : {S : Type 0} (b n from base limit : ℕ) (first middle last : Ahead S) (base1 : ℕ) (ps : List Part) (gs : List Given) → ((bs : List Contents) (more : List Given) → middle.parts bs more ≡ last.parts bs more)
+    → ((more : List Given) (k : ℕ) → middle.behind more k ≡ last.behind more k)
     → HasGone b n from base limit first middle base1 ps gs → HasGone b n from base limit first last base1 ps gs
-has_as b n from base limit first middle last base1 ps gs same has = record { goes = λ bs more. has.goes bs more ∙ ap (λ xs. ps ++ xs) (same bs more); gone = has.gone; based = has.based }
+has_as b n from base limit first middle last base1 ps gs same behind has = record { goes = λ bs more. has.goes bs more ∙ ap (λ xs. ps ++ xs) (same bs more); behind = λ more k. has.behind more k ∙ behind more k; gone = has.gone; based = has.based }
 
 -- IN THE MIDDLE OF A SLICE
 
-pub record Went {M A S : Type 0} (e : Evaluation M S) (d : Doing A S) (may : S → Bool) (b : ℕ) (next : Behind S) (from base limit : ℕ) (first : Ahead) (service : Service) (calls : List Called) (slice : Slice) (old : Made)
+pub record Went {M A S : Type 0} (e : Evaluation M S) (d : Doing A S) (may : S → Bool) (b : ℕ) (next : Behind S) (from base limit : ℕ) (first : Ahead S) (service : Service) (calls : List Called) (slice : Slice) (old : Made)
     (at : Spot M A S) (left : ℕ) (made : Made) (Replies : List Called → Type 0) : Type 0 where
   pub ps : List Part
   pub gs : List Given
-  pub later : Ahead
+  pub later : Ahead S
   pub new_base : ℕ
   pub spent : ℕ
   pub gone : HasGone b (next_number at.place at.begun) from base limit first later new_base ps gs
@@ -68,7 +71,7 @@ pub record Went {M A S : Type 0} (e : Evaluation M S) (d : Doing A S) (may : S �
   pub count : spent + left ≡ limit
   pub served : AreServed service calls slice old made Replies ps gs
 
-pub went_first : {M A S : Type 0} (e : Evaluation M S) (d : Doing A S) (may : S → Bool) (b : ℕ) (next : Behind S) (from base limit n : ℕ) (first : Ahead) (service : Service) (calls : List Called) (slice : Slice) (made : Made)
+pub went_first : {M A S : Type 0} (e : Evaluation M S) (d : Doing A S) (may : S → Bool) (b : ℕ) (next : Behind S) (from base limit n : ℕ) (first : Ahead S) (service : Service) (calls : List Called) (slice : Slice) (made : Made)
     (at : Spot M A S) (Replies : List Called → Type 0) → from + n ≡ limit → Stands e d may b next at from base from first → Replies calls → Went e d may b next from base limit first service calls slice made at n made Replies
 went_first e d may b next from base limit n first service calls slice made at Replies all stands replies = record {
   ps = [];
@@ -76,7 +79,7 @@ went_first e d may b next from base limit n first service calls slice made at Re
   later = first;
   new_base = base;
   spent = from;
-  gone = record { goes = λ bs more. refl; gone = tt; based = refl };
+  gone = record { goes = λ bs more. refl; behind = λ more k. refl; gone = tt; based = refl };
   stands = stands;
   count = all;
   served = record {
@@ -88,7 +91,7 @@ went_first e d may b next from base limit n first service calls slice made at Re
   };
 }
 
-pub went_on : {M A S : Type 0} (e : Evaluation M S) (d : Doing A S) (may : S → Bool) (b : ℕ) (next : Behind S) (from base limit : ℕ) (first : Ahead) (service : Service) (calls : List Called) (slice : Slice) (old made : Made)
+pub went_on : {M A S : Type 0} (e : Evaluation M S) (d : Doing A S) (may : S → Bool) (b : ℕ) (next : Behind S) (from base limit : ℕ) (first : Ahead S) (service : Service) (calls : List Called) (slice : Slice) (old made : Made)
     (at to : Spot M A S) (left u : ℕ) (Replies : List Called → Type 0) (went : Went e d may b next from base limit first service calls slice old at left made Replies)
     → Further e d may b next to from went.new_base went.spent left u went.later → next_number at.place at.begun ≤ next_number to.place to.begun
     → Went e d may b next from base limit first service calls slice old to u made Replies
@@ -102,7 +105,7 @@ went_on e d may b next from base limit first service calls slice old made at to 
       spent = further.units;
       gone = subst H (append-nil went.gs)
           (has_on b (next_number at.place at.begun) (next_number to.place to.begun) from base limit further.units first went.later further.later went.new_base further.new_base went.ps further.passed went.gs []
-          went.gone further.comes further.each up (omega (arith, further.count, went.count)) further.based);
+          went.gone further.comes (λ more k. sym (further.same more k)) further.each up (omega (arith, further.count, went.count)) further.based);
       stands = further.stands;
       count = further.count ∙ went.count;
       served = served_quiet service calls slice old made Replies went.ps further.passed went.gs further.quiet went.served;
@@ -112,7 +115,7 @@ went_on e d may b next from base limit first service calls slice old made at to 
 abbrev pub served_spot : {M A S : Type 0} → Doing A S → ℕ → Given → Spot M A S → Spot M A S
 served_spot d b g at = record { going = at.going; item_plan = at.item_plan; all = at.all; begun = at.begun; place = Between; world = at.world; page = d.serve b g at.page }
 
-pub went_call : {M A S : Type 0} (e : Evaluation M S) (d : Doing A S) (may : S → Bool) (b : ℕ) (next : Behind S) (from base limit : ℕ) (first : Ahead) (service : Service) (calls : List Called) (slice : Slice) (old made new : Made)
+pub went_call : {M A S : Type 0} (e : Evaluation M S) (d : Doing A S) (may : S → Bool) (b : ℕ) (next : Behind S) (from base limit : ℕ) (first : Ahead S) (service : Service) (calls : List Called) (slice : Slice) (old made new : Made)
     (at to : Spot M A S) (left u : ℕ) (Before Replies : List Called → Type 0) (went : Went e d may b next from base limit first service calls slice old at left made Before)
     (waits : Waits e d may b next to from went.new_base went.spent left u went.later) → next_number at.place at.begun ≤ to.begun + 1
     → IsServed slice b waits.number waits.name waits.args (given_to service (calls ++ called_in went.ps) slice.time waits.name waits.args) (calls ++ called_in went.ps) made new Replies
@@ -121,7 +124,10 @@ went_call e d may b next from base limit first service calls slice old made new 
     let g : Given = given_to service (calls ++ called_in went.ps) slice.time waits.name waits.args in
     let c : ℕ = went.new_base + 1 in
     let p : Part = part_of b to.begun c (serves waits.number waits.name waits.args) in
-    let later : Ahead = λ bs gs. items_parts d b to.all (to.begun + 1) c (drop to.begun to.all) gs to.world (d.serve b g to.page) (next bs) in
+    let later : Ahead _ = record {
+      parts = λ bs gs. items_parts d b to.all (to.begun + 1) c (drop to.begun to.all) gs to.world (d.serve b g to.page) (next bs);
+      behind = λ gs k. went.later.behind (g ∷ gs) k;
+    } in
     let above : from < c = omega (arith, waits.from_base) in
     record {
       ps = went.ps ++ p ∷ [];
@@ -130,11 +136,12 @@ went_call e d may b next from base limit first service calls slice old made new 
       new_base = c;
       spent = c;
       gone = has_on b (next_number at.place at.begun) (to.begun + 1) from base limit c first went.later later went.new_base c went.ps (p ∷ []) went.gs (g ∷ [])
-          went.gone (λ bs more. waits.goes bs g more) (refl, omega arith, refl, above, omega arith, tt) up (omega (arith, waits.count, went.count)) (if_same b c went.new_base);
+          went.gone (λ bs more. waits.goes bs g more) (λ more k. refl) (refl, omega arith, refl, above, omega arith, tt) up (omega (arith, waits.count, went.count)) (if_same b c went.new_base);
       stands = record {
         keeps = record { run = waits.keeps.run; full = waits.keeps.full; plan = waits.keeps.plan; counts = waits.keeps.counts; shapes = waits.keeps.shapes };
-        left = (refl, omega arith, waits.few, λ bs gs. refl);
+        left = (refl, omega arith, waits.few, λ bs gs. refl, λ gs. waits.behind g gs);
         more = λ bs gs. items_cost d b to.all (to.begun + 1) c (drop to.begun to.all) gs to.world (d.serve b g to.page) (next bs) from above;
+        follows = λ k a gs before is behind. waits.follows k a (g ∷ gs) before is behind;
       };
       count = waits.count ∙ went.count;
       served = served_call service calls slice old made new Before Replies went.ps went.gs p waits.number waits.name waits.args refl served went.served;
@@ -142,7 +149,7 @@ went_call e d may b next from base limit first service calls slice old made new 
 
 -- THE END OF A SLICE
 
-pub came_busy : {M A S Roomed : Type 0} (e : Evaluation M S) (d : Doing A S) (may : S → Bool) (b : ℕ) (next : Behind S) (from base limit : ℕ) (first : Ahead) (service : Service) (calls : List Called) (slice : Slice) (old made : Made)
+pub came_busy : {M A S Roomed : Type 0} (e : Evaluation M S) (d : Doing A S) (may : S → Bool) (b : ℕ) (next : Behind S) (from base limit : ℕ) (first : Ahead S) (service : Service) (calls : List Called) (slice : Slice) (old made : Made)
     (at to : Spot M A S) (left : ℕ) (Replies : List Called → Type 0) (went : Went e d may b next from base limit first service calls slice old at left made Replies)
     → Turns e d may b next to from went.new_base went.spent left went.later turn.Busy → to.place ≡ at.place → to.begun ≡ at.begun
     → Sliced Roomed e d may b next to from base limit first service calls slice old made Busy Replies
@@ -164,7 +171,7 @@ came_busy e d may b next from base limit first service calls slice old made at t
       served = went.served;
     }
 
-pub came_done : {M A S Roomed : Type 0} (e : Evaluation M S) (d : Doing A S) (may : S → Bool) (b : ℕ) (next : Behind S) (from base limit : ℕ) (first : Ahead) (service : Service) (calls : List Called) (slice : Slice) (old made : Made)
+pub came_done : {M A S Roomed : Type 0} (e : Evaluation M S) (d : Doing A S) (may : S → Bool) (b : ℕ) (next : Behind S) (from base limit : ℕ) (first : Ahead S) (service : Service) (calls : List Called) (slice : Slice) (old made : Made)
     (at to : Spot M A S) (left : ℕ) (Replies : List Called → Type 0) (went : Went e d may b next from base limit first service calls slice old at left made Replies)
     → Turns e d may b next to from went.new_base went.spent left went.later turn.Done
     → Sliced Roomed e d may b next to from base limit first service calls slice old made (Finished None) Replies
@@ -182,20 +189,21 @@ came_done e d may b next from base limit first service calls slice old made at t
         above = above;
         keeps = done.2;
         new_base = went.new_base;
-        gone = has_as b (next_number at.place at.begun) from base limit first went.later (λ bs hs. part_of b done.0 went.new_base (finishes None) ∷ next bs hs to.world to.page) went.new_base went.ps went.gs done.3 went.gone;
+        gone = has_as b (next_number at.place at.begun) from base limit first went.later (record { parts = λ bs hs. part_of b done.0 went.new_base (finishes None) ∷ next bs hs to.world to.page; behind = λ hs k. first.behind (went.gs ++ hs) k }) went.new_base went.ps went.gs done.3 (λ more k. sym (went.gone.behind more k)) went.gone;
+        behind = λ hs. went.gone.behind hs (length to.all) ∙ done.4 hs;
       };
       served = went.served;
     }
 
 -- the parts behind are of items below the one under way
-under_way : (b from base limit : ℕ) (first later : Ahead) (new-base : ℕ) (ps : List Part) (gs : List Given) (place : Place) (begun number : ℕ) → place ≡ Within → number ≡ begun
+under_way : {S : Type 0} (b from base limit : ℕ) (first later : Ahead S) (new-base : ℕ) (ps : List Part) (gs : List Given) (place : Place) (begun number : ℕ) → place ≡ Within → number ≡ begun
     → HasGone b (next_number place begun) from base limit first later new-base ps gs → HasGone b number from base limit first later new-base ps gs
 under_way b from base limit first later new-base ps gs place begun number is same has =
     let P : Place → Type 0 = λ p. HasGone b (next_number p begun) from base limit first later new-base ps gs in
     let N : ℕ → Type 0 = λ n. HasGone b n from base limit first later new-base ps gs in
     subst N (sym same) (subst P is has)
 
-pub came_ends : {M A S Roomed : Type 0} (e : Evaluation M S) (d : Doing A S) (may : S → Bool) (b : ℕ) (next : Behind S) (from base limit : ℕ) (first : Ahead) (service : Service) (calls : List Called) (slice : Slice) (old made : Made)
+pub came_ends : {M A S Roomed : Type 0} (e : Evaluation M S) (d : Doing A S) (may : S → Bool) (b : ℕ) (next : Behind S) (from base limit : ℕ) (first : Ahead S) (service : Service) (calls : List Called) (slice : Slice) (old made : Made)
     (at to : Spot M A S) (left : ℕ) (Replies : List Called → Type 0) (close : Close) (went : Went e d may b next from base limit first service calls slice old at left made Replies)
     → Turns e d may b next to from went.new_base went.spent left went.later (turn.Ends close)
     → Sliced Roomed e d may b next to from base limit first service calls slice old made (Finished (Some (d.ending to.all close to.page))) Replies
@@ -212,16 +220,16 @@ came_ends e d may b next from base limit first service calls slice old made at t
         within = omega (arith, ends.1, went.count);
         above = above;
         new_base = went.new_base;
-        gone = has_as b (next_number at.place at.begun) from base limit first went.later (λ bs hs. part_of b to.begun ends.0 (finishes (Some (d.ending to.all close to.page))) ∷ []) went.new_base went.ps went.gs ends.3 went.gone;
+        gone = has_as b (next_number at.place at.begun) from base limit first went.later (record { parts = λ bs hs. part_of b to.begun ends.0 (finishes (Some (d.ending to.all close to.page))) ∷ []; behind = λ hs k. first.behind (went.gs ++ hs) k }) went.new_base went.ps went.gs ends.3 (λ more k. sym (went.gone.behind more k)) went.gone;
       });
       served = went.served;
     }
 
 -- memory is wanting
-short : {M A S Roomed : Type 0} (e : Evaluation M S) (d : Doing A S) (may : S → Bool) (b : ℕ) (next : Behind S) (from base limit : ℕ) (first : Ahead) (service : Service) (calls : List Called) (slice : Slice) (old made : Made)
+short : {M A S Roomed : Type 0} (e : Evaluation M S) (d : Doing A S) (may : S → Bool) (b : ℕ) (next : Behind S) (from base limit : ℕ) (first : Ahead S) (service : Service) (calls : List Called) (slice : Slice) (old made : Made)
     (at to : Spot M A S) (left : ℕ) (Replies : List Called → Type 0) (went : Went e d may b next from base limit first service calls slice old at left made Replies)
-    → at.place ≡ Within → to.begun ≡ at.begun → went.new_base < limit → ((bs : List Contents) (hs : List Given) → StartsItem b to.begun went.new_base (went.later bs hs))
-    → (Roomed → (bs : List Contents) (hs : List Given) → HeadsCall (went.later bs hs))
+    → at.place ≡ Within → to.begun ≡ at.begun → went.new_base < limit → ((bs : List Contents) (hs : List Given) → StartsItem b to.begun went.new_base (went.later.parts bs hs))
+    → (Roomed → (bs : List Contents) (hs : List Given) → HeadsCall (went.later.parts bs hs))
     → LacksSo Roomed b from base limit first went.ps went.gs (Memory to.begun)
 short e d may b next from base limit first service calls slice old made at to left Replies went within same taken starts call = record {
   number = to.begun;
@@ -235,7 +243,7 @@ short e d may b next from base limit first service calls slice old made at to le
   more = went.stands.more;
 }
 
-pub came_lacks : {M A S Roomed : Type 0} (e : Evaluation M S) (d : Doing A S) (may : S → Bool) (b : ℕ) (next : Behind S) (from base limit : ℕ) (first : Ahead) (service : Service) (calls : List Called) (slice : Slice) (old made : Made)
+pub came_lacks : {M A S Roomed : Type 0} (e : Evaluation M S) (d : Doing A S) (may : S → Bool) (b : ℕ) (next : Behind S) (from base limit : ℕ) (first : Ahead S) (service : Service) (calls : List Called) (slice : Slice) (old made : Made)
     (at to : Spot M A S) (left : ℕ) (Replies : List Called → Type 0) (went : Went e d may b next from base limit first service calls slice old at left made Replies)
     → at.place ≡ Within → to.begun ≡ at.begun → Turns e d may b next to from went.new_base went.spent left went.later turn.Lacks → (Roomed → ⊥)
     → Sliced Roomed e d may b next to from base limit first service calls slice old made (Finished (Some (Memory to.begun))) Replies
@@ -246,13 +254,13 @@ came_lacks e d may b next from base limit first service calls slice old made at 
   served = went.served;
 }
 
-pub came_short : {M A S Roomed : Type 0} (e : Evaluation M S) (d : Doing A S) (may : S → Bool) (b : ℕ) (next : Behind S) (from base limit : ℕ) (first : Ahead) (service : Service) (calls : List Called) (slice : Slice) (old made : Made)
+pub came_short : {M A S Roomed : Type 0} (e : Evaluation M S) (d : Doing A S) (may : S → Bool) (b : ℕ) (next : Behind S) (from base limit : ℕ) (first : Ahead S) (service : Service) (calls : List Called) (slice : Slice) (old made : Made)
     (at to : Spot M A S) (left : ℕ) (Replies : List Called → Type 0) (close : Close) (went : Went e d may b next from base limit first service calls slice old at left made Replies)
     → at.place ≡ Within → to.begun ≡ at.begun → Turns e d may b next to from went.new_base went.spent left went.later (turn.Ends close)
     → ends_at_mismatch (Some (d.ending to.all close to.page)) ≡ true
     → Sliced Roomed e d may b next to from base limit first service calls slice old made (Finished (Some (Memory to.begun))) Replies
 came_short e d may b next from base limit first service calls slice old made at to left Replies close went within same ends tells =
-    let start : (bs : List Contents) (hs : List Given) → StartsItem b to.begun went.new_base (went.later bs hs) = λ bs hs.
+    let start : (bs : List Contents) (hs : List Given) → StartsItem b to.begun went.new_base (went.later.parts bs hs) = λ bs hs.
     (let T : List Part → Type 0 = λ ps. StartsItem b to.begun went.new_base ps in subst T (sym (ends.3 bs hs)) (refl, refl, ends.2)) in
     record {
       ps = went.ps;
@@ -261,7 +269,7 @@ came_short e d may b next from base limit first service calls slice old made at 
       served = went.served;
     }
 
-pub came_unserved : {M A S Roomed : Type 0} (e : Evaluation M S) (d : Doing A S) (may : S → Bool) (b : ℕ) (next : Behind S) (from base limit : ℕ) (first : Ahead) (service : Service) (calls : List Called) (slice : Slice) (old made new : Made)
+pub came_unserved : {M A S Roomed : Type 0} (e : Evaluation M S) (d : Doing A S) (may : S → Bool) (b : ℕ) (next : Behind S) (from base limit : ℕ) (first : Ahead S) (service : Service) (calls : List Called) (slice : Slice) (old made new : Made)
     (at to : Spot M A S) (left u : ℕ) (Before Replies : List Called → Type 0) (went : Went e d may b next from base limit first service calls slice old at left made Before)
     → at.place ≡ Within → to.begun ≡ at.begun → Turns e d may b next to from went.new_base went.spent left went.later (turn.Calls u)
     → IsUnserved (calls ++ called_in went.ps) made new Replies

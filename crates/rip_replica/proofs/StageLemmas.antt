@@ -18,7 +18,7 @@ use Rattle.rip_course.specs.declared.sessions.Progress.TheVariants.{Busy, Finish
 use Rattle.rip_course.specs.declared.sessions.Slice.{Slice}
 use Rattle.rip_replica.specs.declared.replica.Place.{Place}
 use Rattle.rip_replica.specs.declared.replica.Place.TheVariants.{First, Between, Within, Idle}
-use Rattle.rip_replica.specs.Parts.{Doing, after_item, first_given, is_fine, items_parts, meaning_of, part_of, session_parts, whole_item}
+use Rattle.rip_replica.specs.Parts.{Doing, after_item, first_given, is_fine, items_parts, last_items, meaning_of, part_of, session_behind, session_parts, whole_item}
 use Rattle.rip_replica.specs.Plays.{CountsUnits, IsItemPlan}
 use Rattle.rip_replica.specs.Rooms.{HeadsCall}
 use Rattle.rip_replica.specs.Sessions.{AreBehind, IsAt, IsBusy, behind_batch}
@@ -71,8 +71,8 @@ unfolding HeadsBatch
 items_head d batch all n cost [] gs w s next = refl
 items_head d batch all n cost (a ∷ items) gs w s next = after_heads d batch all n cost a (whole_item d batch a n w s (first_given gs)) _
 
-pub left_heads : {M A S : Type 0} (e : Evaluation M S) (d : Doing A S) (batch : ℕ) (next : Behind S) (at : Spot M A S) (place : Place) (base spent : ℕ) (ahead : Ahead) → Left e d batch next at place base spent ahead
-    → (bs : List Contents) (gs : List Given) → HeadsBatch batch (ahead bs gs)
+pub left_heads : {M A S : Type 0} (e : Evaluation M S) (d : Doing A S) (batch : ℕ) (next : Behind S) (at : Spot M A S) (place : Place) (base spent : ℕ) (ahead : Ahead S) → Left e d batch next at place base spent ahead
+    → (bs : List Contents) (gs : List Given) → HeadsBatch batch (ahead.parts bs gs)
 left_heads e d batch next at First base spent ahead left bs gs =
     let H : List Part → Type 0 = λ ps. HeadsBatch batch ps in
     subst H (sym (left.3 bs gs)) (items_head d batch at.all 1 1 at.all gs at.world at.page (next bs))
@@ -183,7 +183,7 @@ abbrev pub went_to : Stage → List Given → ℕ → Stage
 went_to st gs n = record { seed = st.seed; time = st.time; batches = st.batches; given = st.given ++ gs; units = st.units + n; lacking = st.lacking }
 
 -- all of a session, where these were given in the slice
-whole_on : {A S : Type 0} (d : Doing A S) (st : Stage) (earlier ps : List Part) (ahead later : Ahead) (gs : List Given)
+whole_on : {A S : Type 0} (d : Doing A S) (st : Stage) (earlier ps : List Part) (ahead later : List Contents → List Given → List Part) (gs : List Given)
     → ((bs : List Contents) (hs : List Given) → session_parts d (st.batches ++ bs) (st.given ++ hs) ≡ earlier ++ ahead bs hs)
     → ((bs : List Contents) (hs : List Given) → ahead bs (gs ++ hs) ≡ ps ++ later bs hs)
     → (bs : List Contents) (hs : List Given) → session_parts d (st.batches ++ bs) ((st.given ++ gs) ++ hs) ≡ (earlier ++ ps) ++ later bs hs
@@ -193,16 +193,16 @@ whole_on d st earlier ps ahead later gs whole goes bs hs =
 pub resumed_busy : {M A S Roomed : Type 0} (e : Evaluation M S) (doing : ℕ → ℕ → Doing A S) (may : S → Bool) (at to : Spot M A S) (st : Stage) (service : Service) (calls : List Called) (slice : Slice) (old new : Made) (Replies : List Called → Type 0)
     (busy : IsBusy e (doing st.seed st.time) may at st)
     → Sliced Roomed e (doing st.seed st.time) may (length st.batches) (behind_batch (doing st.seed st.time) (length st.batches)) to st.units busy.base (st.units + slice.units) busy.ahead service calls slice old new Busy Replies
-    → next_number at.place at.begun ≤ next_number to.place to.begun
+    → next_number at.place at.begun ≤ next_number to.place to.begun → to.all ≡ at.all
     → Resumed (meaning_of doing) st service calls slice old new Busy (IsAt e doing may to) Replies
-resumed_busy e doing may at to st service calls slice old new Replies busy sliced up =
+resumed_busy e doing may at to st service calls slice old new Replies busy sliced up same =
     let d : Doing _ _ = doing st.seed st.time in
     let b : ℕ = length st.batches in
     let comes : BusySo _ _ _ _ _ _ _ _ _ _ _ _ = sliced.comes in
     let st' : Stage = went_to st sliced.gs slice.units in
     let earlier : List Part = busy.earlier ++ sliced.ps in
-    let whole : (bs : List Contents) (hs : List Given) → session_parts d (st.batches ++ bs) ((st.given ++ sliced.gs) ++ hs) ≡ earlier ++ comes.later bs hs =
-    whole_on d st busy.earlier sliced.ps busy.ahead comes.later sliced.gs busy.whole comes.gone.goes in
+    let whole : (bs : List Contents) (hs : List Given) → session_parts d (st.batches ++ bs) ((st.given ++ sliced.gs) ++ hs) ≡ earlier ++ comes.later.parts bs hs =
+    whole_on d st busy.earlier sliced.ps busy.ahead.parts comes.later.parts sliced.gs busy.whole comes.gone.goes in
     let behind : AreBehind b (next_number to.place to.begun) (st.units + slice.units) earlier =
     behind_append b (next_number to.place to.begun) (st.units + slice.units) busy.earlier sliced.ps
     (behind_up b (next_number at.place at.begun) (next_number to.place to.begun) st.units (st.units + slice.units) busy.earlier up (omega arith) busy.come)
@@ -219,9 +219,9 @@ resumed_busy e doing may at to st service calls slice old new Replies busy slice
         units = refl;
         lacking = inl refl;
         come =
-            parts_of_stage doing st' (next_number to.place to.begun) earlier (comes.later [] []) busy.none (whole [] []) behind
+            parts_of_stage doing st' (next_number to.place to.begun) earlier (comes.later.parts [] []) busy.none (whole [] []) behind
             (left_heads e d b (behind_batch d b) to to.place comes.new_base (st.units + slice.units) comes.later comes.stands.left [] []) (comes.stands.more [] [])
-            ∙ ap (λ xs. xs ++ sliced.ps) (sym (parts_of_stage doing st (next_number at.place at.begun) busy.earlier (busy.ahead [] []) busy.none (busy.whole [] []) busy.come
+            ∙ ap (λ xs. xs ++ sliced.ps) (sym (parts_of_stage doing st (next_number at.place at.begun) busy.earlier (busy.ahead.parts [] []) busy.none (busy.whole [] []) busy.come
             (left_heads e d b (behind_batch d b) at at.place busy.base st.units busy.ahead busy.stands.left [] []) (busy.stands.more [] [])));
         now = gone_now st (next_number to.place to.begun) (st.units + slice.units) sliced.ps comes.gone.gone;
         each = sliced.served.each;
@@ -231,12 +231,15 @@ resumed_busy e doing may at to st service calls slice old new Replies busy slice
         ahead = comes.later;
         base = comes.new_base;
         whole = whole;
+        behind = λ hs k. ap (λ xs. session_behind d st.batches xs k) (append_assoc st.given sliced.gs hs) ∙ busy.behind (sliced.gs ++ hs) k ∙ comes.gone.behind hs k;
+        all = same ∙ busy.all;
         come = behind;
         busy = any_append _ busy.earlier sliced.ps ∙ ap (λ x. x || finishes_batch b sliced.ps) busy.busy ∙ gone_unfinished b (next_number to.place to.begun) st.units (st.units + slice.units) b sliced.ps comes.gone.gone;
         lives = any_append _ busy.earlier sliced.ps ∙ ap (λ x. x || has_ended sliced.ps) busy.lives ∙ gone_lives b (next_number to.place to.begun) st.units (st.units + slice.units) sliced.ps comes.gone.gone;
         based = spent_append b busy.earlier sliced.ps 1 ∙ ap (λ u. parts.spent b sliced.ps u) busy.based ∙ comes.gone.based;
         none = busy.none;
         stands = comes.stands;
+        cut = comes.cut;
       });
       replied = sliced.served.replied;
       replies = sliced.served.replies;
@@ -279,10 +282,10 @@ behind_last b n u ps item cost how h less le = behind_append b n u ps (part_of b
 
 pub resumed_done : {M A S Roomed : Type 0} (e : Evaluation M S) (doing : ℕ → ℕ → Doing A S) (may : S → Bool) (at to : Spot M A S) (st : Stage) (service : Service) (calls : List Called) (slice : Slice) (old new : Made) (Replies : List Called → Type 0)
     (busy : IsBusy e (doing st.seed st.time) may at st)
-    → Sliced Roomed e (doing st.seed st.time) may (length st.batches) (behind_batch (doing st.seed st.time) (length st.batches)) to st.units busy.base (st.units + slice.units) busy.ahead service calls slice old new (Finished None) Replies
+    → Sliced Roomed e (doing st.seed st.time) may (length st.batches) (behind_batch (doing st.seed st.time) (length st.batches)) to st.units busy.base (st.units + slice.units) busy.ahead service calls slice old new (Finished None) Replies → to.all ≡ at.all
     → Resumed (meaning_of doing) st service calls slice old new (Finished None) (IsAt e doing may to) Replies
 unfolding HeadsBatch
-resumed_done e doing may at to st service calls slice old new Replies busy sliced =
+resumed_done e doing may at to st service calls slice old new Replies busy sliced same =
     let d : Doing _ _ = doing st.seed st.time in
     let b : ℕ = length st.batches in
     let comes : DoneSo _ _ _ _ _ _ _ _ _ _ _ _ = sliced.comes in
@@ -293,7 +296,7 @@ resumed_done e doing may at to st service calls slice old new Replies busy slice
     let limit : ℕ = st.units + slice.units in
     let earlier : List Part = busy.earlier ++ ps in
     let whole : (bs : List Contents) (hs : List Given) → session_parts d (st.batches ++ bs) ((st.given ++ sliced.gs) ++ hs) ≡ earlier ++ behind_batch d b bs hs to.world to.page = λ bs hs.
-    whole_on d st busy.earlier sliced.ps busy.ahead (λ bs hs. last ∷ behind_batch d b bs hs to.world to.page) sliced.gs busy.whole comes.gone.goes bs hs
+    whole_on d st busy.earlier sliced.ps busy.ahead.parts (λ bs hs. last ∷ behind_batch d b bs hs to.world to.page) sliced.gs busy.whole comes.gone.goes bs hs
     ∙ list_last busy.earlier sliced.ps last (behind_batch d b bs hs to.world to.page) in
     let behind : AreBehind b n limit earlier =
     behind_append b n limit busy.earlier ps
@@ -314,7 +317,7 @@ resumed_done e doing may at to st service calls slice old new Replies busy slice
         lacking = inl refl;
         come =
             parts_of_stage doing st' n earlier [] busy.none (whole [] []) behind tt tt
-            ∙ ap (λ xs. xs ++ ps) (sym (parts_of_stage doing st (next_number at.place at.begun) busy.earlier (busy.ahead [] []) busy.none (busy.whole [] []) busy.come
+            ∙ ap (λ xs. xs ++ ps) (sym (parts_of_stage doing st (next_number at.place at.begun) busy.earlier (busy.ahead.parts [] []) busy.none (busy.whole [] []) busy.come
             (left_heads e d b (behind_batch d b) at at.place busy.base st.units busy.ahead busy.stands.left [] []) (busy.stands.more [] [])));
         now = now_append st sliced.ps (last ∷ []) (gone_now st comes.number limit sliced.ps comes.gone.gone) (record { batch = refl; above = comes.above }, tt);
         each = served.each;
@@ -323,6 +326,11 @@ resumed_done e doing may at to st service calls slice old new Replies busy slice
         earlier = earlier;
         number = n;
         whole = whole;
+        cost = comes.new_base;
+        behind = λ hs.
+            ap (λ xs. session_behind d st.batches xs (length (last_items d st.batches))) (append_assoc st.given sliced.gs hs)
+            ∙ busy.behind (sliced.gs ++ hs) (length (last_items d st.batches))
+            ∙ ap (λ xs. busy.ahead.behind (sliced.gs ++ hs) (length xs)) (sym (same ∙ busy.all)) ∙ comes.behind hs;
         come = behind;
         done = any_append (λ (q : Part). q.batch == b && ends_batch q.fact) busy.earlier ps ∙ or_last (finishes_batch b busy.earlier) (finishes_batch b ps) done;
         lives = any_append (λ (q : Part). ends_session q.fact) busy.earlier ps ∙ ap (λ x. x || has_ended ps) busy.lives
@@ -352,7 +360,7 @@ resumed_ends e doing may at to st service calls slice old new Replies how busy q
     let limit : ℕ = st.units + slice.units in
     let earlier : List Part = busy.earlier ++ ps in
     let whole : (bs : List Contents) (hs : List Given) → session_parts d (st.batches ++ bs) ((st.given ++ gs) ++ hs) ≡ earlier ++ [] = λ bs hs.
-    whole_on d st busy.earlier qs busy.ahead (λ bs hs. last ∷ []) gs busy.whole comes.gone.goes bs hs ∙ list_last busy.earlier qs last [] in
+    whole_on d st busy.earlier qs busy.ahead.parts (λ bs hs. last ∷ []) gs busy.whole comes.gone.goes bs hs ∙ list_last busy.earlier qs last [] in
     let behind : AreBehind b n limit earlier =
     behind_append b n limit busy.earlier ps
     (behind_up b (next_number at.place at.begun) n st.units limit busy.earlier (omega arith) (omega arith) busy.come)
@@ -373,7 +381,7 @@ resumed_ends e doing may at to st service calls slice old new Replies how busy q
         units = refl;
         lacking = inl refl;
         come = now
-            ∙ ap (λ xs. xs ++ ps) (sym (parts_of_stage doing st (next_number at.place at.begun) busy.earlier (busy.ahead [] []) busy.none (busy.whole [] []) busy.come
+            ∙ ap (λ xs. xs ++ ps) (sym (parts_of_stage doing st (next_number at.place at.begun) busy.earlier (busy.ahead.parts [] []) busy.none (busy.whole [] []) busy.come
             (left_heads e d b (behind_batch d b) at at.place busy.base st.units busy.ahead busy.stands.left [] []) (busy.stands.more [] [])));
         now = now_append st qs (last ∷ []) (gone_now st comes.number limit qs comes.gone.gone) (record { batch = refl; above = comes.above }, tt);
         each = served.each;
@@ -435,8 +443,8 @@ resumed_lacks e doing may at to st service calls slice old new Replies how busy 
     let last : Part = part_of b comes.number l.cost (finishes (Some (Memory comes.number))) in
     let ps : List Part = qs ++ last ∷ [] in
     let front : List Part = busy.earlier ++ qs in
-    let head : (p : Part) × (rest : List Part) × (comes.later [] [] ≡ p ∷ rest) × (p.batch ≡ b) × (p.item ≡ comes.number) × (comes.new_base < p.cost) × (st.units < p.cost) =
-    split b comes.number comes.new_base st.units (comes.later [] []) (comes.starts [] []) (comes.more [] []) in
+    let head : (p : Part) × (rest : List Part) × (comes.later.parts [] [] ≡ p ∷ rest) × (p.batch ≡ b) × (p.item ≡ comes.number) × (comes.new_base < p.cost) × (st.units < p.cost) =
+    split b comes.number comes.new_base st.units (comes.later.parts [] []) (comes.starts [] []) (comes.more [] []) in
     let behind : AreBehind b comes.number limit front =
     behind_append b comes.number limit busy.earlier qs
     (behind_up b (next_number at.place at.begun) comes.number st.units limit busy.earlier up (omega arith) busy.come)
@@ -445,7 +453,7 @@ resumed_lacks e doing may at to st service calls slice old new Replies how busy 
     let whole : all ≡ front ++ (head.0 ∷ head.1) =
     ap (λ bs. session_parts d bs (st.given ++ gs)) (sym (append-nil st.batches))
     ∙ ap (λ xs. session_parts d (st.batches ++ []) xs) (sym (append-nil (st.given ++ gs)))
-    ∙ whole_on d st busy.earlier qs busy.ahead comes.later gs busy.whole comes.gone.goes [] []
+    ∙ whole_on d st busy.earlier qs busy.ahead.parts comes.later.parts gs busy.whole comes.gone.goes [] []
     ∙ ap (λ xs. front ++ xs) head.2 in
     let before : parts.before l all ≡ front = ap (λ xs. parts.before l xs) whole ∙ before_all l comes.number limit front head.0 head.1 (omega arith) behind head.3 head.4 in
     let lives : has_ended front ≡ false = any_append (λ (q : Part). ends_session q.fact) busy.earlier qs ∙ ap (λ x. x || has_ended qs) busy.lives ∙ gone_lives b comes.number st.units limit qs comes.gone.gone in
@@ -490,7 +498,7 @@ resumed_lacks e doing may at to st service calls slice old new Replies how busy 
           ends = ended;
         });
         come = now
-            ∙ ap (λ xs. xs ++ ps) (sym (parts_of_stage doing st (next_number at.place at.begun) busy.earlier (busy.ahead [] []) busy.none (busy.whole [] []) busy.come
+            ∙ ap (λ xs. xs ++ ps) (sym (parts_of_stage doing st (next_number at.place at.begun) busy.earlier (busy.ahead.parts [] []) busy.none (busy.whole [] []) busy.come
             (left_heads e d b (behind_batch d b) at at.place busy.base st.units busy.ahead busy.stands.left [] []) (busy.stands.more [] [])));
         now = now_append st qs (last ∷ []) (gone_now st comes.number limit qs comes.gone.gone) (record { batch = refl; above = omega arith }, tt);
         each = served.each;
@@ -526,9 +534,9 @@ items_has d may batch all n cost (a ∷ items) gs w s next counts shapes =
     (after_starts d batch all n cost a (whole_item d batch a n w s (first_given gs)) _
     (item_closes d.run d.full may counts (d.fact a) (d.plan batch a n w s) (d.serve batch (first_given gs)) (shapes a n w s)))
 
-left_has : {M A S : Type 0} (e : Evaluation M S) (d : Doing A S) (may : S → Bool) (batch : ℕ) (next : Behind S) (at : Spot M A S) (place : Place) (base spent : ℕ) (ahead : Ahead)
+left_has : {M A S : Type 0} (e : Evaluation M S) (d : Doing A S) (may : S → Bool) (batch : ℕ) (next : Behind S) (at : Spot M A S) (place : Place) (base spent : ℕ) (ahead : Ahead S)
     → CountsUnits d.run → ((a : A) (k : ℕ) (x : World) (t : S) → IsItemPlan may (d.fact a) (d.plan batch a k x t))
-    → Left e d batch next at place base spent ahead → (bs : List Contents) (gs : List Given) → HasHead (next_number place at.begun) (ahead bs gs)
+    → Left e d batch next at place base spent ahead → (bs : List Contents) (gs : List Given) → HasHead (next_number place at.begun) (ahead.parts bs gs)
 left_has e d may batch next at First base spent ahead counts shapes left bs gs =
     let H : List Part → Type 0 = λ ps. HasHead (at.begun + 1) ps in
     let same : 1 ≡ at.begun + 1 = omega (arith, left.2) in
@@ -567,24 +575,24 @@ ended_so e doing may at to st service calls slice old new Replies how busy qs gs
     let d : Doing _ _ = doing st.seed st.time in
     let b : ℕ = length st.batches in
     resumed_lacks e doing may at to st service calls slice old new Replies how busy qs gs lacks was some
-    (up_of (next_number at.place at.begun) lacks.number b st.units (st.units + slice.units) (busy.ahead [] (gs ++ [])) qs (lacks.later [] []) (lacks.gone.goes [] [])
+    (up_of (next_number at.place at.begun) lacks.number b st.units (st.units + slice.units) (busy.ahead.parts [] (gs ++ [])) qs (lacks.later.parts [] []) (lacks.gone.goes [] [])
     (left_has e d may b (behind_batch d b) at at.place busy.base st.units busy.ahead busy.stands.keeps.counts busy.stands.keeps.shapes busy.stands.left [] (gs ++ []))
-    lacks.gone.gone (starts_head b lacks.number lacks.new_base (lacks.later [] []) (lacks.starts [] []))) roomed
+    lacks.gone.gone (starts_head b lacks.number lacks.new_base (lacks.later.parts [] []) (lacks.starts [] []))) roomed
 
 pub resumed : {M A S Roomed : Type 0} (e : Evaluation M S) (doing : ℕ → ℕ → Doing A S) (may : S → Bool) (at to : Spot M A S) (st : Stage) (service : Service) (calls : List Called) (slice : Slice) (old new : Made) (progress : Progress) (Replies : List Called → Type 0)
     (busy : IsBusy e (doing st.seed st.time) may at st)
     → Sliced Roomed e (doing st.seed st.time) may (length st.batches) (behind_batch (doing st.seed st.time) (length st.batches)) to st.units busy.base (st.units + slice.units) busy.ahead service calls slice old new progress Replies
-    → 1 ≤ slice.units → Roomed
+    → 1 ≤ slice.units → Roomed → to.all ≡ at.all
     → Resumed (meaning_of doing) st service calls slice old new progress (IsAt e doing may to) Replies
-resumed e doing may at to st service calls slice old new Busy Replies busy sliced some roomed =
+resumed e doing may at to st service calls slice old new Busy Replies busy sliced some roomed same =
     let d : Doing _ _ = doing st.seed st.time in
     let b : ℕ = length st.batches in
     let comes : BusySo _ _ _ _ _ _ _ _ _ _ _ _ = sliced.comes in
     resumed_busy e doing may at to st service calls slice old new Replies busy sliced
-    (up_of (next_number at.place at.begun) (next_number to.place to.begun) b st.units (st.units + slice.units) (busy.ahead [] (sliced.gs ++ [])) sliced.ps (comes.later [] []) (comes.gone.goes [] [])
+    (up_of (next_number at.place at.begun) (next_number to.place to.begun) b st.units (st.units + slice.units) (busy.ahead.parts [] (sliced.gs ++ [])) sliced.ps (comes.later.parts [] []) (comes.gone.goes [] [])
     (left_has e d may b (behind_batch d b) at at.place busy.base st.units busy.ahead busy.stands.keeps.counts busy.stands.keeps.shapes busy.stands.left [] (sliced.gs ++ []))
     comes.gone.gone
-    (left_has e d may b (behind_batch d b) to to.place comes.new_base (st.units + slice.units) comes.later comes.stands.keeps.counts comes.stands.keeps.shapes comes.stands.left [] []))
-resumed e doing may at to st service calls slice old new (Finished None) Replies busy sliced some roomed = resumed_done e doing may at to st service calls slice old new Replies busy sliced
-resumed e doing may at to st service calls slice old new (Finished (Some how)) Replies busy sliced some roomed =
+    (left_has e d may b (behind_batch d b) to to.place comes.new_base (st.units + slice.units) comes.later comes.stands.keeps.counts comes.stands.keeps.shapes comes.stands.left [] [])) same
+resumed e doing may at to st service calls slice old new (Finished None) Replies busy sliced some roomed same = resumed_done e doing may at to st service calls slice old new Replies busy sliced same
+resumed e doing may at to st service calls slice old new (Finished (Some how)) Replies busy sliced some roomed same =
     ended_so e doing may at to st service calls slice old new Replies how busy sliced.ps sliced.gs sliced.comes sliced.served some roomed

@@ -10,7 +10,7 @@ use Rattle.rip_course.specs.Parts.{finishes, Part, Given}
 use Rattle.rip_replica.specs.declared.replica.Place.{Place}
 use Rattle.rip_replica.specs.declared.replica.Place.TheVariants.{First, Between, Idle}
 use Rattle.rip_replica.specs.declared.replica.Turn.TheVariants.{On, Busy, Done}
-use Rattle.rip_replica.specs.Parts.{Doing, after_item, first_given, is_fine, items_parts, part_of, whole_item}
+use Rattle.rip_replica.specs.Parts.{Doing, after_item, first_given, is_fine, items_parts, part_of, stand_at, whole_item}
 use Rattle.rip_replica.specs.Standing.{Ahead, Behind, CostsMore, IsCut, Left, Spot, Stands, StartsItem, Turns}
 
 -- LISTS
@@ -94,7 +94,7 @@ pub stands_from : (from m : ℕ) (ps : List Part) → m ≡ from → CostsMore f
 stands_from from m ps e h = (let C : ℕ → Type 0 = λ k. CostsMore k ps in subst C (sym e) h)
 
 -- before the first unit
-pub first_busy : {M A S : Type 0} (e : Evaluation M S) (d : Doing A S) (may : S → Bool) (batch : ℕ) (next : Behind S) (at : Spot M A S) (n from base spent : ℕ) (ahead : Ahead)
+pub first_busy : {M A S : Type 0} (e : Evaluation M S) (d : Doing A S) (may : S → Bool) (batch : ℕ) (next : Behind S) (at : Spot M A S) (n from base spent : ℕ) (ahead : Ahead S)
     → at.place ≡ First → n ≡ 0 → Stands e d may batch next at from base spent ahead → Turns e d may batch next at from base spent n ahead Busy
 first_busy e d may batch next at n from base spent ahead is none stands =
     let L : Place → Type 0 = λ p. Left e d batch next at p base spent ahead in
@@ -108,11 +108,12 @@ first_busy e d may batch next at n from base spent ahead is none stands =
         left = subst K same stands.left;
         more = λ bs gs. (let C : List Part → Type 0 = λ ps. CostsMore (spent + n) ps in
             subst C (sym (left.3 bs gs)) (items_cost d batch at.all 1 1 at.all gs at.world at.page (next bs) (spent + n) (omega (arith, none, zero_spent))));
+        follows = stands.follows;
       },
       subst U (sym is) tt,
     )
 
-pub first_on : {M A S : Type 0} (e : Evaluation M S) (d : Doing A S) (may : S → Bool) (batch : ℕ) (next : Behind S) (at : Spot M A S) (n from base spent : ℕ) (ahead : Ahead)
+pub first_on : {M A S : Type 0} (e : Evaluation M S) (d : Doing A S) (may : S → Bool) (batch : ℕ) (next : Behind S) (at : Spot M A S) (n from base spent : ℕ) (ahead : Ahead S)
     → at.place ≡ First → 1 ≤ n → Stands e d may batch next at from base spent ahead → Turns e d may batch next (placed at Between) from base spent n ahead (On (n - 1))
 first_on e d may batch next at n from base spent ahead is some stands =
     let L : Place → Type 0 = λ p. Left e d batch next at p base spent ahead in
@@ -127,6 +128,7 @@ first_on e d may batch next at n from base spent ahead is some stands =
       new_base = base;
       units = base;
       comes = λ bs gs. refl;
+      same = λ gs k. refl;
       each = tt;
       quiet = tt;
       based = refl;
@@ -139,13 +141,15 @@ first_on e d may batch next at n from base spent ahead is some stands =
           few,
           λ bs gs. left.3 bs gs ∙ ap (λ b. items_parts d batch at.all 1 b at.all gs at.world at.page (next bs)) one
               ∙ ap (λ k. items_parts d batch at.all (k + 1) base (drop k at.all) gs at.world at.page (next bs)) none,
+          λ gs. (let B : ℕ → Type 0 = λ k. ahead.behind gs k ≡ Some (stand_at base gs at.world at.page) in subst B none (left.4 gs)),
         );
         more = stands.more;
+        follows = stands.follows;
       };
     }
 
 -- between two items
-pub between_done : {M A S : Type 0} (e : Evaluation M S) (d : Doing A S) (may : S → Bool) (batch : ℕ) (next : Behind S) (at : Spot M A S) (n from base spent : ℕ) (ahead : Ahead)
+pub between_done : {M A S : Type 0} (e : Evaluation M S) (d : Doing A S) (may : S → Bool) (batch : ℕ) (next : Behind S) (at : Spot M A S) (n from base spent : ℕ) (ahead : Ahead S)
     → at.place ≡ Between → length at.all ≤ at.begun → Stands e d may batch next at from base spent ahead → Turns e d may batch next (placed at Idle) from base spent n ahead Done
 between_done e d may batch next at n from base spent ahead is all stands =
     let L : Place → Type 0 = λ p. Left e d batch next at p base spent ahead in
@@ -154,9 +158,13 @@ between_done e d may batch next at n from base spent ahead is all stands =
       omega (arith, left.0),
       record { run = stands.keeps.run; full = stands.keeps.full; plan = stands.keeps.plan; counts = stands.keeps.counts; shapes = stands.keeps.shapes },
       λ bs gs. left.3 bs gs ∙ ap (λ xs. items_parts d batch at.all (at.begun + 1) base xs gs at.world at.page (next bs)) (drop_all at.all at.begun all),
+      λ gs.
+          (let B : ℕ → Type 0 = λ k. ahead.behind gs k ≡ Some (stand_at base gs at.world at.page) in
+          let same : at.begun ≡ length at.all = omega (arith, all, left.2) in
+          subst B same (left.4 gs)),
     )
 
-pub between_busy : {M A S : Type 0} (e : Evaluation M S) (d : Doing A S) (may : S → Bool) (batch : ℕ) (next : Behind S) (at : Spot M A S) (n from base spent : ℕ) (ahead : Ahead)
+pub between_busy : {M A S : Type 0} (e : Evaluation M S) (d : Doing A S) (may : S → Bool) (batch : ℕ) (next : Behind S) (at : Spot M A S) (n from base spent : ℕ) (ahead : Ahead S)
     → at.place ≡ Between → at.begun < length at.all → n ≡ 0 → Stands e d may batch next at from base spent ahead → Turns e d may batch next at from base spent n ahead Busy
 between_busy e d may batch next at n from base spent ahead is less none stands =
     let L : Place → Type 0 = λ p. Left e d batch next at p base spent ahead in
@@ -169,10 +177,11 @@ between_busy e d may batch next at n from base spent ahead is less none stands =
       record {
         keeps = stands.keeps;
         left = subst K same stands.left;
-        more = λ bs gs. stands_from base (spent + n) (ahead bs gs) based
+        more = λ bs gs. stands_from base (spent + n) (ahead.parts bs gs) based
             (let C : List Part → Type 0 = λ ps. CostsMore base ps in
             subst C (sym (left.3 bs gs ∙ ap (λ xs. items_parts d batch at.all (at.begun + 1) base xs gs at.world at.page (next bs)) item.2))
             (more_cost d batch at.all (at.begun + 1) base item.0 (drop (at.begun + 1) at.all) gs at.world at.page (next bs)));
+        follows = stands.follows;
       },
       subst U (sym is) tt,
     )

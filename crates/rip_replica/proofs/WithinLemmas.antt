@@ -1,5 +1,5 @@
 -- The turns of a session within an item.
-use Rattle.std.proofs.Common.{◌≡◌, ℕ, ◌+◌, ◌-◌, ◌<◌, ◌≤◌, ◌==◌, Bool, true, false, List, [], ◌∷◌, drop, length, slice_get, Some, if◌then◌else◌, refl, ap, sym, subst, ◌∙◌, arith, eq-eqb}
+use Rattle.std.proofs.Common.{◌≡◌, ℕ, suc, ◌+◌, ◌-◌, ◌<◌, ◌≤◌, ◌==◌, Bool, true, false, List, [], ◌∷◌, drop, length, slice_get, Some, if◌then◌else◌, refl, ap, sym, subst, ◌∙◌, arith, eq-eqb}
 use Rattle.rip_heap.specs.World.{World}
 use Rattle.rip_wire.specs.Batches.{Contents}
 use Rattle.rip_runs.specs.declared.close.Close.{Close}
@@ -16,10 +16,10 @@ use Rattle.rip_course.specs.Parts.{Fact, passes, serves, finishes, Part, Given, 
 use Rattle.rip_replica.specs.declared.replica.Place.{Place}
 use Rattle.rip_replica.specs.declared.replica.Place.TheVariants.{Between, Within, Idle}
 use Rattle.rip_replica.specs.declared.replica.Turn.TheVariants.{On, Busy, Calls, Ends, Lacks}
-use Rattle.rip_replica.specs.Parts.{Doing, first_given, given_behind, is_fine, items_parts, part_of, whole_item}
+use Rattle.rip_replica.specs.Parts.{Doing, behind_item, behind_played, first_given, given_behind, is_fine, items_parts, part_of, stand_at, whole_item}
 use Rattle.rip_replica.specs.Plays.{CountsUnits, IsItemPlan}
 use Rattle.rip_replica.specs.Rooms.{HeadsCall}
-use Rattle.rip_replica.specs.Standing.{Ahead, Behind, CostsMore, IsCut, IsWithin, Keeps, Left, Spot, Stands, StartsItem, Turns, Waits, item_play, place_behind, plan_of, turn_behind}
+use Rattle.rip_replica.specs.Standing.{Ahead, Behind, CostsMore, IsCut, IsWithin, ItemsFollow, Keeps, Left, Spot, Stands, StartsItem, Turns, Waits, item_play, place_behind, plan_of, turn_behind}
 use Rattle.rip_replica.proofs.PlayLemmas.{AtMost, play_at_most}
 use Rattle.rip_replica.proofs.ItemLemmas.{IsWaiting, cut, fine_passes, finished, item_closes, mismatch_serves, waiting}
 use Rattle.rip_replica.proofs.TurnLemmas.{after_ended, after_fine, after_starts, cut_costs, drop_more, items_cost, stands_from}
@@ -48,7 +48,7 @@ keeps_moved e d may batch at r place w s kept keeps = record {
 }
 
 -- the next item begins
-pub item_begun : {M A S : Type 0} (e : Evaluation M S) (d : Doing A S) (may : S → Bool) (batch : ℕ) (next : Behind S) (at : Spot M A S) (n from base spent : ℕ) (ahead : Ahead)
+pub item_begun : {M A S : Type 0} (e : Evaluation M S) (d : Doing A S) (may : S → Bool) (batch : ℕ) (next : Behind S) (at : Spot M A S) (n from base spent : ℕ) (ahead : Ahead S)
     (ip under : A → ℕ → World → S → Plan S)
     → at.place ≡ Between → at.begun < length at.all → 1 ≤ n → ip ≡ at.item_plan → under ≡ at.item_plan → Stands e d may batch next at from base spent ahead
     → Turns e d may batch next (record {
@@ -76,6 +76,7 @@ item_begun e d may batch next at n from base spent ahead ip under is less some s
       new_base = base;
       units = spent + 1;
       comes = λ bs gs. refl;
+      same = λ gs k. refl;
       each = tt;
       quiet = tt;
       based = refl;
@@ -99,8 +100,10 @@ item_begun e d may batch next at n from base spent ahead ip under is less some s
               ∙ ap (λ i. play d.run d.full (i item.0 (at.begun + 1) w s) gs d.full k) (same-under ∙ stands.keeps.plan)
               ∙ ap (λ u. play d.run d.full (d.plan batch item.0 (at.begun + 1) w s) gs d.full u) none);
           parts = λ bs gs. left.3 bs gs ∙ ap (λ xs. items_parts d batch at.all (at.begun + 1) base xs gs w s (next bs)) item.2;
+          began = λ gs. (let B : ℕ → Type 0 = λ k. ahead.behind gs k ≡ Some (stand_at base gs w s) in subst B (sym place) (left.4 gs));
         };
         more = stands.more;
+        follows = stands.follows;
       };
     }
 
@@ -110,7 +113,7 @@ leads_play : {M A S : Type 0} (e : Evaluation M S) (d : Doing A S) (batch : ℕ)
     → (gs : List (S → S)) (k : ℕ) → rest e r' x t gs (u + k) ≡ item_play d batch item begun world page gs (q + (n + k))
 leads_play e d batch item begun world w x page s t q n u r r' stands leads gs k = leads gs k ∙ stands gs (n + k)
 
-pub within_busy : {M A S : Type 0} (e : Evaluation M S) (d : Doing A S) (may : S → Bool) (batch : ℕ) (next : Behind S) (at : Spot M A S) (n from base spent : ℕ) (ahead : Ahead)
+pub within_busy : {M A S : Type 0} (e : Evaluation M S) (d : Doing A S) (may : S → Bool) (batch : ℕ) (next : Behind S) (at : Spot M A S) (n from base spent : ℕ) (ahead : Ahead S)
     (r : Going M S) (x : World) (t : S) → at.place ≡ Within → runner.Keeps e at.going r → Rests e [] at.going at.world at.page n r x t rested.Busy
     → Stands e d may batch next at from base spent ahead → Turns e d may batch next (moved at r at.place x t) from base spent n ahead Busy
 within_busy e d may batch next at n from base spent ahead r x t is kept rests stands =
@@ -139,16 +142,18 @@ within_busy e d may batch next at n from base spent ahead r x t is kept rests st
               ∙ leads_play e d batch left.item at.begun left.world at.world x left.page at.page t left.units n 0 at.going r left.stands rests.1 gs k
               ∙ ap (λ u. P gs u) all);
           parts = left.parts;
+          began = left.began;
         });
         more = λ bs gs.
             (let C : List Part → Type 0 = λ ps. CostsMore (base + 1 + (left.units + n)) ps in
             let change : _ → _ = d.serve batch (first_given gs) in
-            stands_from (base + 1 + (left.units + n)) (spent + n) (ahead bs gs) count
+            stands_from (base + 1 + (left.units + n)) (spent + n) (ahead.parts bs gs) count
             (subst C (sym (left.parts bs gs))
             (cut_costs d batch at.all at.begun base left.item (whole_item d batch left.item at.begun left.world left.page (first_given gs)) _ (left.units + n)
             (λ close hs fuel v y z whole.
             cut d.run d.full stands.keeps.counts (d.plan batch left.item at.begun left.world left.page) (change ∷ []) hs close fuel (left.units + n) v (runner.depth_in e r.evaluator r.phase) x y t z
             (sym (left.stands (change ∷ []) n) ∙ rests.0 (change ∷ [])) whole))));
+        follows = stands.follows;
       },
       subst U (sym is) (record {
         item = left.item;
@@ -156,14 +161,30 @@ within_busy e d may batch next at n from base spent ahead r x t is kept rests st
         page = left.page;
         units = left.units + n;
         is = left.is;
+        one = left.one;
         count = count;
         parts = left.parts;
+        began = left.began;
         held = λ gs. sym (left.stands gs n) ∙ rests.0 gs;
       }),
     )
 
+-- where a session stands behind the item under way, if that is over and fine
+behind_one : {A S : Type 0} (d : Doing A S) (batch base begun : ℕ) (all : List A) (ahead : Ahead S) (item : A) (gs rest : List Given) (world x : World) (page t : S) (hs : List (S → S)) (fuel v c : ℕ)
+    → ItemsFollow d batch all ahead → slice_get all (begun - 1) ≡ Some item → 1 ≤ begun → ahead.behind gs (begun - 1) ≡ Some (stand_at base gs world page)
+    → whole_item d batch item begun world page (first_given gs) ≡ Closes Fine hs fuel v x t → base + 1 + (d.full - v) ≡ c → given_behind (d.fact item) gs ≡ rest
+    → ahead.behind gs begun ≡ Some (stand_at c rest x t)
+behind_one d batch base begun all ahead item gs rest world x page t hs fuel v c follows is one began closes counted left =
+    let up : suc (begun - 1) ≡ begun = omega (arith, one) in
+    ap (λ k. ahead.behind gs k) (sym up)
+    ∙ follows (begun - 1) item gs (stand_at base gs world page) is began
+    ∙ ap (λ k. behind_item d batch k item (stand_at base gs world page)) up
+    ∙ ap (λ p. behind_played d base item gs p) closes
+    ∙ ap (λ k. Some (stand_at k (given_behind (d.fact item) gs) x t)) counted
+    ∙ ap (λ r. Some (stand_at c r x t)) left
+
 -- a call that waits
-waits_by : {M A S : Type 0} (e : Evaluation M S) (d : Doing A S) (may : S → Bool) (batch : ℕ) (next : Behind S) (at : Spot M A S) (n u from base spent : ℕ) (ahead : Ahead)
+waits_by : {M A S : Type 0} (e : Evaluation M S) (d : Doing A S) (may : S → Bool) (batch : ℕ) (next : Behind S) (at : Spot M A S) (n u from base spent : ℕ) (ahead : Ahead S)
     (r : Going M S) (x : World) (t : S) (left : IsWithin e d batch next at base spent ahead) (fact : Fact)
     → runner.Keeps e at.going r → Stands e d may batch next at from base spent ahead → d.fact left.item ≡ fact
     → IsWaiting d.run d.full may fact (d.plan batch left.item at.begun left.world left.page) left.units n u x t
@@ -173,7 +194,7 @@ waits_by e d may batch next at n u from base spent ahead r x t left passes kept 
 waits_by e d may batch next at n u from base spent ahead r x t left (serves number name args) kept stands fact h =
     let run : _ = d.run in
     let plan : Plan _ = d.plan batch left.item at.begun left.world left.page in
-    let goes : (bs : List Contents) (g : Given) (gs : List Given) → ahead bs (g ∷ gs) ≡ part_of batch at.begun (base + 1) (serves number name args)
+    let goes : (bs : List Contents) (g : Given) (gs : List Given) → ahead.parts bs (g ∷ gs) ≡ part_of batch at.begun (base + 1) (serves number name args)
     ∷ items_parts d batch at.all (at.begun + 1) (base + 1) (drop at.begun at.all) gs x (d.serve batch g t) (next bs) =
     λ bs g gs.
     (let counted : base + 1 + (d.full - d.full) ≡ base + 1 = omega arith in
@@ -182,7 +203,7 @@ waits_by e d may batch next at n u from base spent ahead r x t left (serves numb
     (λ c y z. items_parts d batch at.all (at.begun + 1) c (drop at.begun at.all) (given_behind (d.fact left.item) (g ∷ gs)) y z (next bs))
     [] d.full d.full (base + 1) x (d.serve batch g t) (h.3 (d.serve batch g)) counted
     ∙ ap (λ f. part_of batch at.begun (base + 1) f ∷ items_parts d batch at.all (at.begun + 1) (base + 1) (drop at.begun at.all) (given_behind f (g ∷ gs)) x (d.serve batch g t) (next bs)) fact) in
-    let told : (bs : List Contents) (gs : List Given) → ahead bs gs ≡ part_of batch at.begun (base + 1) (d.fact left.item)
+    let told : (bs : List Contents) (gs : List Given) → ahead.parts bs gs ≡ part_of batch at.begun (base + 1) (d.fact left.item)
     ∷ items_parts d batch at.all (at.begun + 1) (base + 1) (drop at.begun at.all) (given_behind (d.fact left.item) gs) x (d.serve batch (first_given gs) t) (next bs) =
     λ bs gs.
     (let counted : base + 1 + (d.full - d.full) ≡ base + 1 = omega arith in
@@ -206,6 +227,11 @@ waits_by e d may batch next at n u from base spent ahead r x t left (serves numb
       count = omega (arith, left.count, h.1, h.2);
       from_base = omega (arith, above);
       goes = goes;
+      behind = λ g gs.
+          (let counted : base + 1 + (d.full - d.full) ≡ base + 1 = omega arith in
+          behind_one d batch base at.begun at.all ahead left.item (g ∷ gs) gs left.world x left.page (d.serve batch g t) [] d.full d.full (base + 1)
+          stands.follows left.is left.one (left.began (g ∷ gs)) (h.3 (d.serve batch g)) counted (ap (λ f. given_behind f (g ∷ gs)) fact));
+      follows = stands.follows;
       starts = λ bs gs.
           (let T : List Part → Type 0 = λ ps. StartsItem batch at.begun base ps in
           subst T (sym (left.parts bs gs))
@@ -215,7 +241,7 @@ waits_by e d may batch next at n u from base spent ahead r x t left (serves numb
     }
 waits_by e d may batch next at n u from base spent ahead r x t left (finishes how) kept stands fact h = absurd h
 
-pub within_awaits : {M A S : Type 0} (e : Evaluation M S) (d : Doing A S) (may : S → Bool) (batch : ℕ) (next : Behind S) (at : Spot M A S) (n u from base spent : ℕ) (ahead : Ahead)
+pub within_awaits : {M A S : Type 0} (e : Evaluation M S) (d : Doing A S) (may : S → Bool) (batch : ℕ) (next : Behind S) (at : Spot M A S) (n u from base spent : ℕ) (ahead : Ahead S)
     (r : Going M S) (x : World) (t : S) → at.place ≡ Within → runner.Keeps e at.going r → Rests e [] at.going at.world at.page n r x t (rested.Awaits u) → u ≤ n
     → Stands e d may batch next at from base spent ahead → Turns e d may batch next (moved at r at.place x t) from base spent n ahead (Calls u)
 within_awaits e d may batch next at n u from base spent ahead r x t is kept rests within stands =
@@ -243,7 +269,7 @@ over_play e d batch item begun world w x page s t q n u r r' close stands rests 
 pub if_same : (n : ℕ) (a b : ℕ) → (if n == n then a else b) ≡ a
 if_same n a b = (let h : (n == n) ≡ true = eq-eqb n n refl in ap (λ c. if c then a else b) h)
 
-pub within_fine : {M A S : Type 0} (e : Evaluation M S) (d : Doing A S) (may : S → Bool) (batch : ℕ) (next : Behind S) (at : Spot M A S) (n u from base spent : ℕ) (ahead : Ahead)
+pub within_fine : {M A S : Type 0} (e : Evaluation M S) (d : Doing A S) (may : S → Bool) (batch : ℕ) (next : Behind S) (at : Spot M A S) (n u from base spent : ℕ) (ahead : Ahead S)
     (r : Going M S) (x : World) (t : S) → at.place ≡ Within → runner.Keeps e at.going r → Rests e [] at.going at.world at.page n r x t (rested.Finished Fine u) → u ≤ n
     → Stands e d may batch next at from base spent ahead → Turns e d may batch next (moved at r Between x t) from base spent n ahead (On u)
 within_fine e d may batch next at n u from base spent ahead r x t is kept rests within stands =
@@ -255,12 +281,14 @@ within_fine e d may batch next at n u from base spent ahead r x t is kept rests 
     over_play e d batch left.item at.begun left.world at.world x left.page at.page t left.units n u at.going r Fine left.stands rests in
     let passing : d.fact left.item ≡ passes = fine_passes d.run d.full may (d.fact left.item) plan d.full (left.units + (n + 0)) (u + 0) r.fuel [] x t shape (over [] 0) in
     let c : ℕ = base + 1 + (left.units + n - u) in
-    let later : Ahead = λ bs gs. items_parts d batch at.all (at.begun + 1) c (drop at.begun at.all) gs x t (next bs) in
-    let comes : (bs : List Contents) (gs : List Given) → ahead bs gs ≡ part_of batch at.begun c passes ∷ later bs gs = λ bs gs.
+    let later : Ahead _ = record { parts = λ bs gs. items_parts d batch at.all (at.begun + 1) c (drop at.begun at.all) gs x t (next bs); behind = ahead.behind } in
+    let wholes : (gs : List Given) → (v : ℕ) × (whole_item d batch left.item at.begun left.world left.page (first_given gs) ≡ Closes Fine (d.serve batch (first_given gs) ∷ []) r.fuel v x t) × (d.full - v ≡ left.units + n - u) = λ gs.
     (let change : _ → _ = d.serve batch (first_given gs) in
-    let whole : (v : ℕ) × (play d.run d.full plan (change ∷ []) d.full d.full ≡ Closes Fine (change ∷ []) r.fuel v x t) × (d.full - v ≡ left.units + n - u) =
     finished d.run d.full stands.keeps.counts plan (change ∷ []) (change ∷ []) Fine r.fuel left.units n u x t
-    (item_closes d.run d.full may stands.keeps.counts (d.fact left.item) plan change shape) within (over (change ∷ []) d.full) in
+    (item_closes d.run d.full may stands.keeps.counts (d.fact left.item) plan change shape) within (over (change ∷ []) d.full)) in
+    let comes : (bs : List Contents) (gs : List Given) → ahead.parts bs gs ≡ part_of batch at.begun c passes ∷ later.parts bs gs = λ bs gs.
+    (let change : _ → _ = d.serve batch (first_given gs) in
+    let whole : (v : ℕ) × (whole_item d batch left.item at.begun left.world left.page (first_given gs) ≡ Closes Fine (change ∷ []) r.fuel v x t) × (d.full - v ≡ left.units + n - u) = wholes gs in
     left.parts bs gs
     ∙ after_fine d batch at.all at.begun base left.item (whole_item d batch left.item at.begun left.world left.page (first_given gs))
     (λ k y z. items_parts d batch at.all (at.begun + 1) k (drop at.begun at.all) (given_behind (d.fact left.item) gs) y z (next bs))
@@ -274,18 +302,29 @@ within_fine e d may batch next at n u from base spent ahead r x t is kept rests 
       new_base = c;
       units = c;
       comes = comes;
+      same = λ gs k. refl;
       each = (refl, omega arith, refl, above, omega arith, tt);
       quiet = (refl, tt);
       based = if_same batch c base;
       count = omega (arith, left.count, within);
       stands = record {
         keeps = keeps_moved e d may batch at r Between x t kept stands.keeps;
-        left = (refl, omega arith, left.few, λ bs gs. refl);
+        left = (
+          refl,
+          omega arith,
+          left.few,
+          λ bs gs. refl,
+          λ gs.
+              (let whole : (v : ℕ) × (whole_item d batch left.item at.begun left.world left.page (first_given gs) ≡ Closes Fine (d.serve batch (first_given gs) ∷ []) r.fuel v x t) × (d.full - v ≡ left.units + n - u) = wholes gs in
+              behind_one d batch base at.begun at.all ahead left.item gs gs left.world x left.page t (d.serve batch (first_given gs) ∷ []) r.fuel whole.0 c
+              stands.follows left.is left.one (left.began gs) whole.1 (ap (λ m. base + 1 + m) whole.2) (ap (λ f. given_behind f gs) passing)),
+        );
         more = λ bs gs. items_cost d batch at.all (at.begun + 1) c (drop at.begun at.all) gs x t (next bs) from above;
+        follows = stands.follows;
       };
     }
 
-pub within_ended : {M A S : Type 0} (e : Evaluation M S) (d : Doing A S) (may : S → Bool) (batch : ℕ) (next : Behind S) (at : Spot M A S) (n u from base spent : ℕ) (ahead : Ahead)
+pub within_ended : {M A S : Type 0} (e : Evaluation M S) (d : Doing A S) (may : S → Bool) (batch : ℕ) (next : Behind S) (at : Spot M A S) (n u from base spent : ℕ) (ahead : Ahead S)
     (r : Going M S) (x : World) (t : S) (close : Close) (place : Place) → at.place ≡ Within → runner.Keeps e at.going r → Rests e [] at.going at.world at.page n r x t (rested.Finished close u) → u ≤ n → is_fine close ≡ false
     → Stands e d may batch next at from base spent ahead → Turns e d may batch next (moved at r place x t) from base spent n ahead (Ends close)
 within_ended e d may batch next at n u from base spent ahead r x t close place is kept rests within ends stands =
@@ -311,7 +350,7 @@ within_ended e d may batch next at n u from base spent ahead r x t close place i
       λ mismatch. (left.one, left.item, left.is, mismatch_serves d.run d.full may (d.fact left.item) plan [] [] d.full r.fuel (left.units + (n + 0)) (u + 0) x t close shape (over [] 0) mismatch),
     )
 
-pub within_lacks : {M A S : Type 0} (e : Evaluation M S) (d : Doing A S) (may : S → Bool) (batch : ℕ) (next : Behind S) (at : Spot M A S) (n from base spent : ℕ) (ahead : Ahead)
+pub within_lacks : {M A S : Type 0} (e : Evaluation M S) (d : Doing A S) (may : S → Bool) (batch : ℕ) (next : Behind S) (at : Spot M A S) (n from base spent : ℕ) (ahead : Ahead S)
     (r : Going M S) (x : World) (t : S) (place : Place) → at.place ≡ Within
     → Stands e d may batch next at from base spent ahead → Turns e d may batch next (moved at r place x t) from base spent n ahead Lacks
 within_lacks e d may batch next at n from base spent ahead r x t place is stands =
@@ -326,7 +365,7 @@ within_lacks e d may batch next at n from base spent ahead r x t place is stands
           (item_closes d.run d.full may stands.keeps.counts (d.fact left.item) plan (d.serve batch (first_given gs)) (stands.keeps.shapes left.item at.begun left.world left.page)))),
     )
 
-pub within_closed : {M A S : Type 0} (e : Evaluation M S) (d : Doing A S) (may : S → Bool) (batch : ℕ) (next : Behind S) (at : Spot M A S) (n u from base spent : ℕ) (ahead : Ahead)
+pub within_closed : {M A S : Type 0} (e : Evaluation M S) (d : Doing A S) (may : S → Bool) (batch : ℕ) (next : Behind S) (at : Spot M A S) (n u from base spent : ℕ) (ahead : Ahead S)
     (r : Going M S) (x : World) (t : S) (close : Close) → at.place ≡ Within → runner.Keeps e at.going r → Rests e [] at.going at.world at.page n r x t (rested.Finished close u) → u ≤ n
     → Stands e d may batch next at from base spent ahead → Turns e d may batch next (moved at r (place_behind close) x t) from base spent n ahead (turn_behind close u)
 within_closed e d may batch next at n u from base spent ahead r x t Fine is kept rests within stands = within_fine e d may batch next at n u from base spent ahead r x t is kept rests within stands

@@ -1,5 +1,5 @@
 -- What a session does, item by item: each item is played whole, from the world and the page that those before it left.
-use Rattle.std.specs.Prelude.{ℕ, ◌+◌, ◌-◌, Bool, true, false, List, [], ◌∷◌, drop, Some, None, if◌then◌else◌}
+use Rattle.std.specs.Prelude.{ℕ, zero, suc, ◌+◌, ◌-◌, Bool, true, false, List, [], ◌∷◌, drop, length, slice_get, Option, Some, None, if◌then◌else◌}
 use Rattle.rip_heap.specs.World.{World}
 use Rattle.rip_data.specs.Datum as datum
 use Rattle.rip_wire.specs.Batches.{Contents}
@@ -75,6 +75,60 @@ batch_parts d batch all gs w s next = items_parts d batch all 1 1 all gs w s nex
 abbrev pub later_parts : {A S : Type 0} → Doing A S → ℕ → List Contents → List Given → World → S → List Part
 later_parts d batch [] gs w s = []
 later_parts d batch (b ∷ bs) gs w s = batch_parts d batch (d.items b) gs w s (λ hs x r. later_parts d (batch + 1) bs hs x r)
+
+-- where a session stands behind items of a batch that are over: the units of the batch that were spent, what is given from
+-- there on, the world and the page
+pub record Stand (S : Type 0) : Type 0 where
+  pub cost : ℕ
+  pub given : List Given
+  pub world : World
+  pub page : S
+
+abbrev pub stand_at : {S : Type 0} → ℕ → List Given → World → S → Stand S
+stand_at cost gs w s = record { cost = cost; given = gs; world = w; page = s }
+
+-- where it stands behind an item that was played whole, if that is over and fine
+abbrev pub behind_played : {A S : Type 0} → Doing A S → ℕ → A → List Given → Played S → Option (Stand S)
+behind_played d cost a gs (Closes close hs fuel u w s) =
+    if is_fine close then Some (stand_at (cost + 1 + (d.full - u)) (given_behind (d.fact a) gs) w s) else None
+behind_played d cost a gs (Holds open_depth w s) = None
+
+-- where it stands behind the item of this number, from where it stood before it
+abbrev pub behind_item : {A S : Type 0} → Doing A S → ℕ → ℕ → A → Stand S → Option (Stand S)
+behind_item d batch n a l = behind_played d l.cost a l.given (whole_item d batch a n l.world l.page (first_given l.given))
+
+abbrev pub behind_next : {A S : Type 0} → Doing A S → ℕ → ℕ → Option A → Option (Stand S) → Option (Stand S)
+behind_next d batch n None o = None
+behind_next d batch n (Some a) None = None
+behind_next d batch n (Some a) (Some l) = behind_item d batch n a l
+
+-- where it stands behind the first k items of a batch, which began with this given, world and page; the first unit is that of
+-- no item
+abbrev pub behind_items : {A S : Type 0} → Doing A S → ℕ → List A → List Given → World → S → ℕ → Option (Stand S)
+behind_items d batch all gs w s zero = Some (stand_at 1 gs w s)
+behind_items d batch all gs w s (suc k) = behind_next d batch (suc k) (slice_get all k) (behind_items d batch all gs w s k)
+
+-- the same of the last of some batches, behind all items of those before it
+abbrev pub in_batch : {A S : Type 0} → Doing A S → ℕ → List A → ℕ → Option (Stand S) → Option (Stand S)
+in_batch d batch all k None = None
+in_batch d batch all k (Some l) = behind_items d batch all l.given l.world l.page k
+
+abbrev pub in_last : {A S : Type 0} → Doing A S → ℕ → List A → List Contents → ℕ → Option (Stand S) → Option (Stand S)
+in_last d batch all [] k o = in_batch d batch all k o
+in_last d batch all (b ∷ bs) k o = in_last d (batch + 1) (d.items b) bs k (in_batch d batch all (length all) o)
+
+-- the items of the last of these batches, behind these
+abbrev pub items_last : {A S : Type 0} → Doing A S → List A → List Contents → List A
+items_last d all [] = all
+items_last d all (b ∷ bs) = items_last d (d.items b) bs
+
+-- the items of the last batch of a session
+abbrev pub last_items : {A S : Type 0} → Doing A S → List Contents → List A
+last_items d batches = items_last d (d.opening ∷ []) batches
+
+-- where a session stands behind the first k items of its last batch
+abbrev pub session_behind : {A S : Type 0} → Doing A S → List Contents → List Given → ℕ → Option (Stand S)
+session_behind d batches gs k = in_last d 0 (d.opening ∷ []) batches k (Some (stand_at 1 gs d.world d.page))
 
 -- a session: its opening is batch 0, with one item
 abbrev pub session_parts : {A S : Type 0} → Doing A S → List Contents → List Given → List Part

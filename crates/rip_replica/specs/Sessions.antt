@@ -1,12 +1,12 @@
 -- A session at a stage of the server's course.
-use Rattle.std.specs.Prelude.{◌≡◌, ◌⊎◌, ℕ, ◌+◌, ◌<◌, ◌≤◌, Bool, true, false, List, [], ◌∷◌, ◌++◌, length, None}
+use Rattle.std.specs.Prelude.{◌≡◌, ◌⊎◌, ℕ, ◌+◌, ◌<◌, ◌≤◌, Bool, true, false, List, [], ◌∷◌, ◌++◌, length, None, Some}
 use Rattle.rip_wire.specs.Batches.{Contents}
 use Rattle.rip_runs.specs.Evaluation.{Evaluation}
 use Rattle.rip_course.specs.Parts.{Part, Given, Meaning, has_ended}
 use Rattle.rip_course.specs.Parts as parts
 use Rattle.rip_course.specs.Stages.{Stage, finishes_batch, is_done, is_ended}
-use Rattle.rip_replica.specs.Parts.{Doing, later_parts, meaning_of, session_parts}
-use Rattle.rip_replica.specs.Standing.{Ahead, Behind, Keeps, Spot, Stands, next_number}
+use Rattle.rip_replica.specs.Parts.{Doing, last_items, later_parts, meaning_of, session_behind, session_parts, stand_at}
+use Rattle.rip_replica.specs.Standing.{Ahead, Behind, IsCut, Keeps, Spot, Stands, next_number}
 
 -- what is behind the batch of a number
 abbrev pub behind_batch : {A S : Type 0} → Doing A S → ℕ → Behind S
@@ -18,24 +18,30 @@ AreBehind last number units [] = Unit {0}
 AreBehind last number units (p ∷ ps) =
     ((p.batch < last) ⊎ ((p.batch ≡ last) × (p.item < number) × (p.cost ≤ units))) × AreBehind last number units ps
 
--- the session is busy with its last batch: so much has come, and the rest of the batch is ahead
+-- the session is busy with its last batch: so much has come, the rest of the batch is ahead, and it is cut after the units that
+-- the batch got
 pub record IsBusy {M A S : Type 0} (e : Evaluation M S) (d : Doing A S) (may : S → Bool) (at : Spot M A S) (st : Stage) : Type 0 where
   pub earlier : List Part
-  pub ahead : Ahead
+  pub ahead : Ahead S
   pub base : ℕ
-  pub whole : (bs : List Contents) (gs : List Given) → session_parts d (st.batches ++ bs) (st.given ++ gs) ≡ earlier ++ ahead bs gs
+  pub whole : (bs : List Contents) (gs : List Given) → session_parts d (st.batches ++ bs) (st.given ++ gs) ≡ earlier ++ ahead.parts bs gs
+  pub behind : (gs : List Given) (k : ℕ) → session_behind d st.batches (st.given ++ gs) k ≡ ahead.behind gs k
+  pub all : at.all ≡ last_items d st.batches
   pub come : AreBehind (length st.batches) (next_number at.place at.begun) st.units earlier
   pub busy : finishes_batch (length st.batches) earlier ≡ false
   pub lives : has_ended earlier ≡ false
   pub based : parts.spent (length st.batches) earlier 1 ≡ base
   pub none : st.lacking ≡ None
   pub stands : Stands e d may (length st.batches) (behind_batch d (length st.batches)) at st.units base st.units ahead
+  pub cut : IsCut e d (length st.batches) (behind_batch d (length st.batches)) at at.place base st.units ahead
 
 -- its last batch is done, and it waits for the next
 pub record IsIdle {M A S : Type 0} (e : Evaluation M S) (d : Doing A S) (may : S → Bool) (at : Spot M A S) (st : Stage) : Type 0 where
   pub earlier : List Part
   pub number : ℕ
   pub whole : (bs : List Contents) (gs : List Given) → session_parts d (st.batches ++ bs) (st.given ++ gs) ≡ earlier ++ behind_batch d (length st.batches) bs gs at.world at.page
+  pub cost : ℕ
+  pub behind : (gs : List Given) → session_behind d st.batches (st.given ++ gs) (length (last_items d st.batches)) ≡ Some (stand_at cost gs at.world at.page)
   pub come : AreBehind (length st.batches) number st.units earlier
   pub done : finishes_batch (length st.batches) earlier ≡ true
   pub lives : has_ended earlier ≡ false

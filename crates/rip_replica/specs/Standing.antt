@@ -1,5 +1,5 @@
 -- A session in the middle of a batch.
-use Rattle.std.specs.Prelude.{◌≡◌, ℕ, ◌+◌, ◌-◌, ◌<◌, ◌≤◌, List, [], ◌∷◌, ◌++◌, drop, length, slice_get, ◌*◌, Bool, true, false, Option, None, Some}
+use Rattle.std.specs.Prelude.{◌≡◌, ℕ, suc, ◌+◌, ◌-◌, ◌<◌, ◌≤◌, List, [], ◌∷◌, ◌++◌, drop, length, slice_get, ◌*◌, Bool, true, false, Option, None, Some}
 use Rattle.rip_heap.specs.World.{World}
 use Rattle.rip_wire.specs.Batches.{Contents}
 use Rattle.rip_runs.specs.declared.close.Close.{Close}
@@ -18,7 +18,7 @@ use Rattle.rip_replica.specs.declared.replica.Place.TheVariants.{First, Between,
 use Rattle.rip_replica.specs.declared.replica.Replica.{Replica}
 use Rattle.rip_replica.specs.declared.replica.Turn.{Turn}
 use Rattle.rip_replica.specs.declared.replica.Turn.TheVariants.{On, Busy, Calls, Done, Ends, Lacks}
-use Rattle.rip_replica.specs.Parts.{Doing, part_of, batch_parts, items_parts}
+use Rattle.rip_replica.specs.Parts.{Doing, Stand, batch_parts, behind_item, items_parts, part_of, stand_at}
 use Rattle.rip_replica.specs.Plays.{CountsUnits, IsItemPlan}
 use Rattle.rip_replica.specs.Rooms.{HeadsCall, IsCallAt, IsMismatch}
 
@@ -61,9 +61,13 @@ pub record Keeps {M A S : Type 0} (e : Evaluation M S) (d : Doing A S) (may : S 
   pub counts : CountsUnits d.run
   pub shapes : (a : A) (n : ℕ) (w : World) (s : S) → IsItemPlan may (d.fact a) (d.plan batch a n w s)
 
--- parts to come, whatever batches are admitted and whatever is given from now on; and those that come behind a batch
-abbrev pub Ahead : Type 0
-Ahead = List Contents → List Given → List Part
+-- what comes of a batch, whatever is given from now on: the parts to come, whatever batches are admitted; and where the session
+-- stands behind the first items of the batch
+pub record Ahead (S : Type 0) : Type 0 where
+  pub parts : List Contents → List Given → List Part
+  pub behind : List Given → ℕ → Option (Stand S)
+
+-- the parts that come behind a batch
 
 abbrev pub Behind : Type 0 → Type 0
 Behind S = List Contents → List Given → World → S → List Part
@@ -75,7 +79,7 @@ item_play d batch a n w s gs u = play d.run d.full (d.plan batch a n w s) gs d.f
 -- the session stands in an item, which began in this world and page and has needed so many units of fuel; `base` units were
 -- spent before it
 pub record IsWithin {M A S : Type 0} (e : Evaluation M S) (d : Doing A S) (batch : ℕ) (next : Behind S) (at : Spot M A S)
-    (base spent : ℕ) (ahead : Ahead) : Type 0 where
+    (base spent : ℕ) (ahead : Ahead S) : Type 0 where
   pub item : A
   pub world : World
   pub page : S
@@ -85,32 +89,37 @@ pub record IsWithin {M A S : Type 0} (e : Evaluation M S) (d : Doing A S) (batch
   pub few : at.begun ≤ length at.all
   pub count : spent ≡ base + 1 + units
   pub stands : StandsAt e (item_play d batch item at.begun world page) [] units at.going at.world at.page
-  pub parts : (bs : List Contents) (gs : List Given) → ahead bs gs ≡ items_parts d batch at.all at.begun base (item ∷ drop at.begun at.all) gs world page (next bs)
+  pub parts : (bs : List Contents) (gs : List Given) → ahead.parts bs gs ≡ items_parts d batch at.all at.begun base (item ∷ drop at.begun at.all) gs world page (next bs)
+  pub began : (gs : List Given) → ahead.behind gs (at.begun - 1) ≡ Some (stand_at base gs world page)
 
 -- what is left of a batch by the place in it, where the items that are over cost so many units with the first, and so many
 -- were spent: before its first unit, before the unit of the next item, within an item
-abbrev pub Left : {M A S : Type 0} → Evaluation M S → Doing A S → ℕ → Behind S → Spot M A S → Place → ℕ → ℕ → Ahead → Type 0
+abbrev pub Left : {M A S : Type 0} → Evaluation M S → Doing A S → ℕ → Behind S → Spot M A S → Place → ℕ → ℕ → Ahead S → Type 0
 Left e d batch next at First base spent ahead =
-    (spent ≡ 0) × (base ≡ 1) × (at.begun ≡ 0) × ((bs : List Contents) (gs : List Given) → ahead bs gs ≡ batch_parts d batch at.all gs at.world at.page (next bs))
+    (spent ≡ 0) × (base ≡ 1) × (at.begun ≡ 0) × ((bs : List Contents) (gs : List Given) → ahead.parts bs gs ≡ batch_parts d batch at.all gs at.world at.page (next bs))
+    × ((gs : List Given) → ahead.behind gs 0 ≡ Some (stand_at base gs at.world at.page))
 Left e d batch next at Between base spent ahead =
     (spent ≡ base) × (1 ≤ base) × (at.begun ≤ length at.all)
-    × ((bs : List Contents) (gs : List Given) → ahead bs gs ≡ items_parts d batch at.all (at.begun + 1) base (drop at.begun at.all) gs at.world at.page (next bs))
+    × ((bs : List Contents) (gs : List Given) → ahead.parts bs gs ≡ items_parts d batch at.all (at.begun + 1) base (drop at.begun at.all) gs at.world at.page (next bs))
+    × ((gs : List Given) → ahead.behind gs at.begun ≡ Some (stand_at base gs at.world at.page))
 Left e d batch next at Within base spent ahead = IsWithin e d batch next at base spent ahead
 Left e d batch next at Idle base spent ahead = ⊥
 
 -- a session that stands in an item is cut there: the item, played with exactly the units of fuel that were spent in it, holds
 -- in this world and with this page, with so much of the depth open
-pub record IsCutIn {M A S : Type 0} (e : Evaluation M S) (d : Doing A S) (batch : ℕ) (next : Behind S) (at : Spot M A S) (base spent : ℕ) (ahead : Ahead) : Type 0 where
+pub record IsCutIn {M A S : Type 0} (e : Evaluation M S) (d : Doing A S) (batch : ℕ) (next : Behind S) (at : Spot M A S) (base spent : ℕ) (ahead : Ahead S) : Type 0 where
   pub item : A
   pub world : World
   pub page : S
   pub units : ℕ
   pub is : slice_get at.all (at.begun - 1) ≡ Some item
+  pub one : 1 ≤ at.begun
   pub count : spent ≡ base + 1 + units
-  pub parts : (bs : List Contents) (gs : List Given) → ahead bs gs ≡ items_parts d batch at.all at.begun base (item ∷ drop at.begun at.all) gs world page (next bs)
+  pub parts : (bs : List Contents) (gs : List Given) → ahead.parts bs gs ≡ items_parts d batch at.all at.begun base (item ∷ drop at.begun at.all) gs world page (next bs)
+  pub began : (gs : List Given) → ahead.behind gs (at.begun - 1) ≡ Some (stand_at base gs world page)
   pub held : (gs : List (S → S)) → item_play d batch item at.begun world page gs units ≡ Holds (runner.depth_in e at.going.evaluator at.going.phase) at.world at.page
 
-abbrev pub IsCut : {M A S : Type 0} → Evaluation M S → Doing A S → ℕ → Behind S → Spot M A S → Place → ℕ → ℕ → Ahead → Type 0
+abbrev pub IsCut : {M A S : Type 0} → Evaluation M S → Doing A S → ℕ → Behind S → Spot M A S → Place → ℕ → ℕ → Ahead S → Type 0
 IsCut e d batch next at First base spent ahead = Unit {0}
 IsCut e d batch next at Between base spent ahead = Unit {0}
 IsCut e d batch next at Within base spent ahead = IsCutIn e d batch next at base spent ahead
@@ -121,12 +130,18 @@ abbrev pub CostsMore : ℕ → List Part → Type 0
 CostsMore from [] = Unit {0}
 CostsMore from (p ∷ ps) = from < p.cost
 
+-- where the session stands behind an item of these is by where it stands before it
+abbrev pub ItemsFollow : {A S : Type 0} → Doing A S → ℕ → List A → Ahead S → Type 0
+ItemsFollow d batch all ahead = (k : ℕ) (a : _) (gs : List Given) (before : Stand _)
+    → slice_get all k ≡ Some a → ahead.behind gs k ≡ Some before → ahead.behind gs (suc k) ≡ behind_item d batch (suc k) a before
+
 -- the session stands in a batch of this number, and behind the batch there is what is next
 pub record Stands {M A S : Type 0} (e : Evaluation M S) (d : Doing A S) (may : S → Bool) (batch : ℕ) (next : Behind S) (at : Spot M A S)
-    (from base spent : ℕ) (ahead : Ahead) : Type 0 where
+    (from base spent : ℕ) (ahead : Ahead S) : Type 0 where
   pub keeps : Keeps e d may batch at
   pub left : Left e d batch next at at.place base spent ahead
-  pub more : (bs : List Contents) (gs : List Given) → CostsMore from (ahead bs gs)
+  pub more : (bs : List Contents) (gs : List Given) → CostsMore from (ahead.parts bs gs)
+  pub follows : ItemsFollow d batch at.all ahead
 
 -- the number of the item that comes next, or is under way
 abbrev pub next_number : Place → ℕ → ℕ
@@ -149,12 +164,13 @@ ServeNone (p ∷ ps) = (p.fact ≡ passes) × ServeNone ps
 
 -- the session goes on, with these parts behind it, and u units left of n
 pub record Further {M A S : Type 0} (e : Evaluation M S) (d : Doing A S) (may : S → Bool) (batch : ℕ) (next : Behind S) (at : Spot M A S)
-    (from base spent n u : ℕ) (ahead : Ahead) : Type 0 where
+    (from base spent n u : ℕ) (ahead : Ahead S) : Type 0 where
   pub passed : List Part
-  pub later : Ahead
+  pub later : Ahead S
   pub new_base : ℕ
   pub units : ℕ
-  pub comes : (bs : List Contents) (gs : List Given) → ahead bs gs ≡ passed ++ later bs gs
+  pub comes : (bs : List Contents) (gs : List Given) → ahead.parts bs gs ≡ passed ++ later.parts bs gs
+  pub same : (gs : List Given) (k : ℕ) → later.behind gs k ≡ ahead.behind gs k
   pub each : AreGone batch (next_number at.place at.begun) from units passed
   pub quiet : ServeNone passed
   pub based : parts.spent batch passed base ≡ new_base
@@ -168,7 +184,7 @@ StartsItem batch n base (p ∷ ps) = (p.batch ≡ batch) × (p.item ≡ n) × (b
 
 -- a call waits to be served: for what it is given it is a part, and the next items go on behind it
 pub record Waits {M A S : Type 0} (e : Evaluation M S) (d : Doing A S) (may : S → Bool) (batch : ℕ) (next : Behind S) (at : Spot M A S)
-    (from base spent n u : ℕ) (ahead : Ahead) : Type 0 where
+    (from base spent n u : ℕ) (ahead : Ahead S) : Type 0 where
   pub item : A
   pub number : ℕ
   pub name : List ℕ
@@ -181,10 +197,12 @@ pub record Waits {M A S : Type 0} (e : Evaluation M S) (d : Doing A S) (may : S 
   pub may_serve : may at.page ≡ true
   pub count : base + 1 + u ≡ spent + n
   pub from_base : from ≤ base
-  pub goes : (bs : List Contents) (g : Given) (gs : List Given) → ahead bs (g ∷ gs) ≡ part_of batch at.begun (base + 1) (serves number name args)
+  pub goes : (bs : List Contents) (g : Given) (gs : List Given) → ahead.parts bs (g ∷ gs) ≡ part_of batch at.begun (base + 1) (serves number name args)
       ∷ items_parts d batch at.all (at.begun + 1) (base + 1) (drop at.begun at.all) gs at.world (d.serve batch g at.page) (next bs)
-  pub starts : (bs : List Contents) (gs : List Given) → StartsItem batch at.begun base (ahead bs gs)
-  pub tells : (bs : List Contents) (gs : List Given) → HeadsCall (ahead bs gs)
+  pub behind : (g : Given) (gs : List Given) → ahead.behind (g ∷ gs) at.begun ≡ Some (stand_at (base + 1) gs at.world (d.serve batch g at.page))
+  pub follows : ItemsFollow d batch at.all ahead
+  pub starts : (bs : List Contents) (gs : List Given) → StartsItem batch at.begun base (ahead.parts bs gs)
+  pub tells : (bs : List Contents) (gs : List Given) → HeadsCall (ahead.parts bs gs)
 
 -- where a session stands behind an item that closed so, and what the turn comes to
 abbrev pub place_behind : Close → Place
@@ -202,21 +220,22 @@ turn_behind (Stopped item stop) u = Ends (Stopped item stop)
 -- what a turn comes to, where n units are there: the session goes on; or no unit is left and one is wanted; or a call
 -- waits; or the batch is done; or it is closed by an item, which ends the session, and with a mismatch only where it reports
 -- a call; or memory is wanting in an item
-abbrev pub Turns : {M A S : Type 0} → Evaluation M S → Doing A S → (S → Bool) → ℕ → Behind S → Spot M A S → ℕ → ℕ → ℕ → ℕ → Ahead → Turn → Type 0
+abbrev pub Turns : {M A S : Type 0} → Evaluation M S → Doing A S → (S → Bool) → ℕ → Behind S → Spot M A S → ℕ → ℕ → ℕ → ℕ → Ahead S → Turn → Type 0
 Turns e d may batch next at from base spent n ahead (On u) = Further e d may batch next at from base spent n u ahead
 Turns e d may batch next at from base spent n ahead Busy =
     Stands e d may batch next at (spent + n) base (spent + n) ahead × IsCut e d batch next at at.place base (spent + n) ahead
 Turns e d may batch next at from base spent n ahead (Calls u) = Waits e d may batch next at from base spent n u ahead
 Turns e d may batch next at from base spent n ahead Done =
-    (number : ℕ) × (base ≤ spent + n) × Keeps e d may batch at × ((bs : List Contents) (gs : List Given) → ahead bs gs ≡ part_of batch number base (finishes None) ∷ next bs gs at.world at.page)
+    (number : ℕ) × (base ≤ spent + n) × Keeps e d may batch at × ((bs : List Contents) (gs : List Given) → ahead.parts bs gs ≡ part_of batch number base (finishes None) ∷ next bs gs at.world at.page)
+    × ((gs : List Given) → ahead.behind gs (length at.all) ≡ Some (stand_at base gs at.world at.page))
 Turns e d may batch next at from base spent n ahead (Ends close) =
-    (cost : ℕ) × (cost ≤ spent + n) × (base < cost) × ((bs : List Contents) (gs : List Given) → ahead bs gs ≡ part_of batch at.begun cost (finishes (Some (d.ending at.all close at.page))) ∷ [])
+    (cost : ℕ) × (cost ≤ spent + n) × (base < cost) × ((bs : List Contents) (gs : List Given) → ahead.parts bs gs ≡ part_of batch at.begun cost (finishes (Some (d.ending at.all close at.page))) ∷ [])
     × (IsMismatch close → IsCallAt d.fact at.all at.begun)
-Turns e d may batch next at from base spent n ahead Lacks = (base < spent) × ((bs : List Contents) (gs : List Given) → StartsItem batch at.begun base (ahead bs gs))
+Turns e d may batch next at from base spent n ahead Lacks = (base < spent) × ((bs : List Contents) (gs : List Given) → StartsItem batch at.begun base (ahead.parts bs gs))
 
 -- wherever it stood
 abbrev pub TurnsSo : {M A S : Type 0} → Evaluation M S → Spot M A S → Spot M A S → ℕ → Turn → Type 0
-TurnsSo e old new n turn = (d : Doing _ _) (may : _ → Bool) (batch : ℕ) (next : Behind _) (from base spent : ℕ) (ahead : Ahead)
+TurnsSo e old new n turn = (d : Doing _ _) (may : _ → Bool) (batch : ℕ) (next : Behind _) (from base spent : ℕ) (ahead : Ahead _)
     → Stands e d may batch next old from base spent ahead → Turns e d may batch next new from base spent n ahead turn
 
 -- a bound of the turns that are left in a batch of so many items

@@ -132,7 +132,7 @@ impl<E, I, T, H> Replica<E, I, T, H> {
         ensures page { (number : H → ℕ) → KeepsSteps (E.evaluation program.now) I.under_way number
             → KeepsServed I.served number → HasNumberSo result (number self.old.host)
             (number self.new.host) }
-        ensures memory { (d : Doing T H) (next : Behind H) (from base : ℕ) (ahead : Ahead)
+        ensures memory { (d : Doing T H) (next : Behind H) (from base : ℕ) (ahead : Ahead H)
             (meant : Meant) (calls : List Called)
             → Agrees d I.fact I.served I.ending
             → Stands (E.evaluation program.now) d I.may_serve self.old.number next

@@ -1,6 +1,6 @@
 -- What a roll answers of its sessions.
 use Rattle.std.proofs.Common.{◌≡◌, ℕ, zero, suc, ◌+◌, ◌<◌, ◌≤◌, Bool, true, false, cond, nat_eq, leb, List, [], length, map, Option, Some, None, refl, sym, ap, ◌∙◌, subst, arith}
-use Rattle.std.specs.Prelude.{slice_get, option_map, position, is_some, IfSome}
+use Rattle.std.specs.Prelude.{slice_get, option_and_then, option_map, unwrap_or, position, is_none, is_some, IfSome}
 use Rattle.std.proofs.lemmas.Bool.{false≢true, le-leb, lt-leb}
 use Rattle.std.proofs.lemmas.List.{nil_from_length}
 use Rattle.std.proofs.lemmas.Option.{same_Some}
@@ -11,19 +11,29 @@ use Rattle.rip_log.specs.Entries.{Recorded}
 use Rattle.rip_table.specs.Table.{IsTable, ids, ended, most_live, place_of, at_ordinal, live_count as counted_live}
 use Rattle.rip_course.specs.Answering.{opening_told}
 use Rattle.rip_course.specs.Requests.{identifiers_in, session_named, was_opened, served_in, live_count}
+use Rattle.rip_course.specs.Parts.{Meaning}
+use Rattle.rip_course.specs.Run.{stage_of}
+use Rattle.rip_course.specs.Stages.{Stage}
 use Rattle.rip_course.specs.Standings.{is_live, standing_of}
 use Rattle.rip_course.specs.declared.standing.Standing.{Standing}
 use Rattle.rip_roll.specs.Ordinals.{get_at}
-use Rattle.rip_roll.specs.Rolls.{seats, room_in, IsKept}
-use Rattle.rip_roll.specs.Seats.{standing_in, notes_in, IsSeat, IsKeptAt, has_ended}
+use Rattle.rip_roll.specs.Rolls.{seats, room_in, lives_at, IsAtStage, IsKept, IsLiveAt, IsRollOf}
+use Rattle.rip_roll.specs.Seats.{standing_in, notes_in, session_in, IsSeat, IsKeptAt, has_ended}
 use Rattle.rip_roll.specs.Walks.{all_in}
 use Rattle.rip_roll.specs.declared.roll.Roll.{Roll}
 use Rattle.rip_roll.specs.declared.roll.Room.TheVariants.{Free, Full, Spent}
 use Rattle.rip_roll.specs.declared.seat.Notes.{Notes}
 use Rattle.rip_roll.specs.declared.seat.Seat.{Seat}
+use Rattle.rip_roll.specs.declared.seat.Seat.TheVariants.{Live, Ended}
+use Rattle.rip_wire.specs.declared.ending.Reason.{Reason}
+use Rattle.rip_roll.proofs.HeldLemmas.{lent_stands}
 use Rattle.rip_roll.proofs.ListLemmas.{none_some}
 use Rattle.rip_roll.proofs.NameLemmas.{named_place, opened_place}
 use Rattle.rip_roll.proofs.RollLemmas.{ordinal_is, no_standing, kept_live}
+
+none-ended : (o : Option Reason) → true ≡ is_none o → o ≡ None
+none-ended None e = refl
+none-ended (Some reason) e = absurd (false≢true (sym e))
 
 module _ {T : Type 0} where
   -- ---- by identifier
@@ -85,6 +95,35 @@ module _ {T : Type 0} where
   pub served_none : (limit : ℕ) (roll : Roll T) (h : List Recorded) (n : ℕ) (s : Standing)
       → None ≡ at_ordinal (slice_get (seats roll)) n → IsKept limit roll h → standing_of n h ≡ Some s → ⊥
   served_none limit roll h n s e k stands = none_some s (sym (no_standing n h (kept-here limit roll h n None k e)) ∙ stands)
+
+  -- ---- a session that lives
+
+  same-lives : (seat : Seat T) → is_some (session_in seat) ≡ is_some (notes_in seat)
+  same-lives (Live held) = refl
+  same-lives (Ended last reason) = refl
+
+  lives-by : (h : List Recorded) (n : ℕ) (o : Option (Seat T)) → IsKeptAt h n o → is_some (option_and_then session_in o) ≡ lives_at n h
+  lives-by h n None k = ap (λ (o : Option Standing). unwrap_or (option_map is_live o) false) (sym (no_standing n h k))
+  lives-by h n (Some seat) k = same-lives seat ∙ k.lives ∙ ap (λ (o : Option Standing). unwrap_or (option_map is_live o) false) (sym k.standing)
+
+  pub lives_told : (limit : ℕ) (roll : Roll T) (h : List Recorded) (n : ℕ) (o : Option (Seat T)) → o ≡ at_ordinal (slice_get (seats roll)) n
+      → IsKept limit roll h → is_some (option_and_then session_in o) ≡ lives_at n h
+  lives_told limit roll h n o e k = lives-by h n o (kept-here limit roll h n o k e)
+
+  live-there : (stands : T → Stage → Type 0) (m : Meaning) (h : List Recorded) (stages : List Stage) (n : ℕ) (o : Option (Seat T)) (x : Option Stage)
+      → stage_of n stages ≡ x → IsKeptAt h n o → IsAtStage stands m o x → IfSome (option_and_then session_in o) (IsLiveAt stands m n stages)
+  live-there stands m h stages n None x is kept at = tt
+  live-there stands m h stages n (Some (Live held)) None is kept at = absurd at
+  live-there stands m h stages n (Some (Live held)) (Some st) is kept at =
+      let lives = at.lives (none-ended held.value.standing.ended kept.lives) in
+      record { stage = st; is = is; there = lent_stands stands (Live held) held held.value st refl refl lives.there; lives = lives.open_yet }
+  live-there stands m h stages n (Some (Ended last reason)) x is kept at = tt
+
+  pub session_stands : (stands : T → Stage → Type 0) (m : Meaning) (limit : ℕ) (roll : Roll T) (h : List Recorded) (stages : List Stage) (n : ℕ) (o : Option (Seat T))
+      → o ≡ at_ordinal (slice_get (seats roll)) n → IsRollOf stands m limit roll h stages → IfSome (option_and_then session_in o) (IsLiveAt stands m n stages)
+  session_stands stands m limit roll h stages n o e is =
+      live-there stands m h stages n o (stage_of n stages) refl (kept-here limit roll h n o is.kept e)
+      (subst (λ (x : Option (Seat T)). IsAtStage stands m x (stage_of n stages)) (sym (e ∙ ordinal_is (seats roll) n)) (is.each n))
 
   -- ---- room
 

@@ -1,5 +1,5 @@
 -- What a server keeps of its sessions, and that it is what a history tells, and stands at stages.
-use Rattle.std.specs.Prelude.{◌≡◌, ℕ, ◌-◌, Bool, true, false, nat_le, if◌then◌else◌, List, ◌++◌, length, map, slice_set, Option, Some, None}
+use Rattle.std.specs.Prelude.{◌≡◌, ℕ, ◌-◌, Bool, true, false, nat_le, if◌then◌else◌, List, ◌++◌, length, map, slice_set, Option, Some, None, option_and_then, option_map, unwrap_or}
 use Rattle.rip_log.specs.Entries.{Recorded, recorded_of}
 use Rattle.rip_table.specs.declared.table.Table.{Table}
 use Rattle.rip_table.specs.Table.{IsTable, ids, values, ended, most_live}
@@ -8,10 +8,11 @@ use Rattle.rip_course.specs.Requests.{identifiers_in, live_count}
 use Rattle.rip_course.specs.Run.{Advance, advance_entries, busy_in, called_so_far, stage_of, with_stage}
 use Rattle.rip_course.specs.Sequences.{counted, ordinals_in}
 use Rattle.rip_course.specs.Services.{Called, Service, given_by, served_entries}
-use Rattle.rip_course.specs.Stages.{Stage, GoesOn, IsProgress}
+use Rattle.rip_course.specs.Stages.{Stage, GoesOn, IsProgress, is_ended}
+use Rattle.rip_course.specs.Standings.{is_live, standing_of}
 use Rattle.rip_course.specs.declared.sessions.Progress.{Progress}
 use Rattle.rip_roll.specs.Ordinals.{get_at}
-use Rattle.rip_roll.specs.Seats.{IsKeptAt, has_ended, Leaves, StandsAt}
+use Rattle.rip_roll.specs.Seats.{IsKeptAt, has_ended, Leaves, StandsAt, session_in}
 use Rattle.rip_roll.specs.Walks.{all_in, waiting_in, IsWalk, IsResting}
 use Rattle.rip_roll.specs.declared.seat.Advanced.{Advanced}
 use Rattle.rip_roll.specs.declared.roll.Roll.{Roll}
@@ -26,10 +27,18 @@ room_in limit h =
     else if nat_le 1000000 (length (identifiers_in h)) then Spent
     else Free
 
+-- a session that lives has this ordinal
+abbrev pub lives_at : ℕ → List Recorded → Bool
+lives_at n h = unwrap_or (option_map is_live (standing_of n h)) false
+
 module _ {T : Type 0} where
   -- what is kept of each session, in the order of their opening
   abbrev pub seats : Roll T → List (Seat T)
   seats roll = values roll.table
+
+  -- the session of an ordinal, if it lives
+  abbrev pub session_at : Roll T → ℕ → Option T
+  session_at roll n = option_and_then session_in (get_at n (seats roll))
 
   -- the busy sessions that wait for their turn
   abbrev pub waiting : Roll T → List ℕ
@@ -77,6 +86,13 @@ module _ {T : Type 0} where
       pub kept : IsKept limit roll h
       pub count : length stages ≡ length (identifiers_in h)
       pub each : (n : ℕ) → IsAtStage (get_at n (seats roll)) (stage_of n stages)
+
+    -- the session stands at the stage of this ordinal among these, and has not ended there
+    pub record IsLiveAt (n : ℕ) (stages : List Stage) (session : T) : Type 0 where
+      pub stage : Stage
+      pub is : stage_of n stages ≡ Some stage
+      pub there : stands session stage
+      pub lives : is_ended m stage ≡ false
 
 -- ---- a busy session goes on
 

@@ -54,6 +54,11 @@ module _ {T : Type 0} where
   notes_in (Live held) = Some held.value.notes
   notes_in (Ended last reason) = None
 
+  -- the session, if it lives
+  abbrev pub session_in : Seat T → Option T
+  session_in (Live held) = Some held.value.session
+  session_in (Ended last reason) = None
+
 -- ---- what the history tells
 
 -- the notes of the session of an ordinal that stands so: its opening, the calls that its last batch that was done served, and

@@ -8,6 +8,7 @@
 //! | [`Roll::named`], [`Roll::was_opened`] | `rip_course`'s `session_named`, `was_opened` |
 //! | [`Roll::room`] | `Rolls.room_in` |
 //! | [`Roll::standing`], [`Roll::opening`], [`Roll::served`] | `rip_course`'s `standing_of`, `opening_told`, `served_in` |
+//! | [`Roll::session`], a session that lives | `Rolls.lives_at`, and that it stands at its stage `Rolls.IsLiveAt` |
 //! | [`Roll::open`], [`Roll::admit`], [`Roll::close`] | the roll of one entry more, and of the stages after that decision (`rip_course`'s `decided_stages`); want of memory leaves all |
 //! | [`Roll::next_busy`], [`Roll::advance`], [`Roll::end_walk`] | `Rolls.WentOn`, as the machine of `rip_course` advances the session; `Seats.Leaves`, what one leaves that its batch ended |
 //!

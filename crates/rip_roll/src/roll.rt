@@ -1,4 +1,5 @@
-ghost use Rattle.std.specs.Prelude.{◌≡◌, ◌≢◌, ◌<◌, ◌+◌, ◌^◌, ℕ, List, [], ◌∷◌, ◌++◌, length, map, true, false, Some, IfSome, IfNone, IfOk, IfErr, OnOk, OnErr};
+ghost use Rattle.std.specs.Prelude.{◌≡◌, ◌≢◌, ◌<◌, ◌+◌, ◌^◌, ℕ, List, [], ◌∷◌, ◌++◌, length, map, true, false, Some, IfSome, IfNone, IfOk, IfErr, OnOk, OnErr, is_some};
+ghost use Rattle.std.specs.Option.{option_copied};
 ghost use Rattle.std.specs.Bool.{OnTrue, OnFalse};
 ghost use Rattle.rip_log.specs.Entries.{Recorded, opened, admitted, closed};
 ghost use Rattle.rip_wire.specs.Answers.{served_of};
@@ -14,7 +15,7 @@ ghost use Rattle.rip_course.specs.declared.decision.BatchDecision.TheVariants.{A
 ghost use Rattle.rip_course.specs.declared.decision.CloseDecision.TheVariants.{Close};
 ghost use Rattle.rip_course.specs.declared.standing.Standing.{Standing as Stood};
 ghost use Rattle.rip_table.specs.Table.{IsTable, Opens, IsSame, at_ordinal, live_value, ids};
-ghost use Rattle.rip_roll.specs.Rolls.{IsAtRest, IsChanged, IsKept, IsRollOf, IsSound, WentOn, room_in, waiting};
+ghost use Rattle.rip_roll.specs.Rolls.{IsAtRest, IsChanged, IsKept, IsLiveAt, IsRollOf, IsSound, WentOn, lives_at, room_in, session_at, waiting};
 ghost use Rattle.rip_roll.specs.Seats.{IsAdmitted, IsClosed, IsThere, SliceOf, ends_session};
 ghost use Rattle.rip_roll.specs.declared.seat.Seat.{Seat as Kept};
 
@@ -123,6 +124,22 @@ impl<T: Drop> Roll<T> {
         match self.table.any_at(session) {
             Some(seat) => seat.told(),
             None => &[],
+        }
+    }
+
+    /// The session of an ordinal, as it stands at its stage, if one that lives has it.
+    pub fn session<S: Sessions<Session = T>>(&self, ordinal: u32) -> Option<&T>
+        ensures session { option_copied result ≡ session_at self.now ordinal }
+        ensures lives { (limit : ℕ) (h : List Recorded) → IsKept limit self.now h
+            → is_some (option_copied result) ≡ lives_at ordinal h }
+        ensures stands { (sessions : S) (limit : ℕ) (h : List Recorded) (stages : List Stage)
+            → IsRollOf (S.stands sessions) (S.meaning sessions) limit self.now h stages
+            → IfSome (option_copied result)
+            (IsLiveAt (S.stands sessions) (S.meaning sessions) ordinal stages) }
+    {
+        match self.table.any_at(ordinal) {
+            Some(seat) => seat.session(),
+            None => None,
         }
     }
 

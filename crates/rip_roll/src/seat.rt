@@ -1,9 +1,10 @@
 ghost use Rattle.std.specs.Prelude.{◌≡◌, ◌<◌, ◌^◌, List, [], false, None, IfOk, IfErr, IfSome, OnOk, OnErr, option_map};
+ghost use Rattle.std.specs.Option.{option_copied};
 ghost use Rattle.rip_wire.specs.Batches.{contents_of, IsBatch};
 ghost use Rattle.rip_course.specs.Services.{Called, Service as Meant};
 ghost use Rattle.rip_course.specs.Stages.{Stage, begun, with_batch, is_done, MayAdmit};
 ghost use Rattle.rip_course.specs.declared.sessions.Progress.TheVariants.{Busy as Unfinished};
-ghost use Rattle.rip_roll.specs.Seats.{standing_in, notes_in, opening_of, IsThere, IsOpened, IsAdmitted, HasBatch, IsClosed, IsSettled, IsGivenUp, LivingSlice, SeatSlice, SliceOf, ends_session, is_unfinished};
+ghost use Rattle.rip_roll.specs.Seats.{standing_in, notes_in, session_in, opening_of, IsThere, IsOpened, IsAdmitted, HasBatch, IsClosed, IsSettled, IsGivenUp, LivingSlice, SeatSlice, SliceOf, ends_session, is_unfinished};
 ghost use Rattle.rip_roll.specs.declared.seat.Notes.{Notes as Noted};
 
 use rip_course::{Made, Progress, Service, Sessions, Slice, Standing};
@@ -98,6 +99,16 @@ impl<T: Drop> Seat<T> {
         match self {
             Seat::Live(living) => living.notes.told.as_slice(),
             Seat::Ended { .. } => &[],
+        }
+    }
+
+    /// The session, if it lives.
+    pub fn session(&self) -> Option<&T>
+        ensures { option_copied result ≡ session_in self.now }
+    {
+        match self {
+            Seat::Live(living) => Some(&living.session),
+            Seat::Ended { .. } => None,
         }
     }
 }

@@ -3,6 +3,7 @@
 //! | what | its definition in `specs/` |
 //! |---|---|
 //! | [`Server`] | `Standing.IsServer`: it stands as the machine of `rip_course` does; `Standing.IsReady`: what holds of it between two turns |
+//! | [`Server::session`], a session that lives | `rip_roll`'s `Rolls.lives_at`, and that it stands at its stage `Rolls.IsLiveAt` |
 //! | [`Server::turn`] | `Turning.Turned`: a turn of the machine (`rip_course`'s `IsTurn`), all of whose acts were done; `Turning.Halted`: one that broke off, of whose acts a front was done |
 //!
 //! A layer above may rest on this: whatever comes, the server does what the machine does, and door, clock, words and sink

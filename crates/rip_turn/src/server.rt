@@ -1,7 +1,9 @@
-ghost use Rattle.std.specs.Prelude.{◌≡◌, ◌+◌, ◌-◌, ◌<◌, ◌^◌, Option, OnOk, IfOk};
+ghost use Rattle.std.specs.Prelude.{◌≡◌, ◌+◌, ◌-◌, ◌<◌, ◌^◌, ℕ, Option, OnOk, IfOk, IfSome, is_some};
+ghost use Rattle.std.specs.Option.{option_copied};
 ghost use Rattle.rip_course.specs.Run.{State, first_state, called_so_far};
 ghost use Rattle.rip_course.specs.Runs.{IsAsking};
 ghost use Rattle.rip_course.specs.Services.{Service as Meant};
+ghost use Rattle.rip_roll.specs.Rolls.{IsLiveAt, lives_at};
 ghost use Rattle.rip_outer.specs.declared.connections.TraceKnock.{TraceKnock};
 ghost use Rattle.rip_server.specs.Acts.{seen};
 ghost use Rattle.rip_turn.specs.Asking.{IsClosedBy};
@@ -61,6 +63,19 @@ impl<T: Drop> Server<T> {
             roll: Roll::make(alloc, limit)?,
             turns: 0,
         })
+    }
+
+    /// The session of an ordinal, as it stands at its stage, if one that lives has it.
+    pub fn session<S: Sessions<Session = T>>(&self, ordinal: u32) -> Option<&T>
+        ensures lives { (sessions : S) (limit : ℕ) (state : State)
+            → IsServer (S.stands sessions) (S.meaning sessions) limit self.now state
+            → is_some (option_copied result) ≡ lives_at ordinal state.history }
+        ensures stands { (sessions : S) (limit : ℕ) (state : State)
+            → IsServer (S.stands sessions) (S.meaning sessions) limit self.now state
+            → IfSome (option_copied result)
+            (IsLiveAt (S.stands sessions) (S.meaning sessions) ordinal state.stages) }
+    {
+        self.roll.session::<S>(ordinal)
     }
 
     /// One turn: a knock at the door, the moment, each request that is there, and a slice for each busy session.

@@ -2,6 +2,8 @@
 use Rattle.std.specs.Prelude.{◌≡◌, ℕ, ◌≤◌, Some}
 use Rattle.rip_values.specs.declared.limits.Limits.{Limits}
 use Rattle.rip_app.specs.App.{Loaded}
+use Rattle.rip_heap.specs.World.{World}
+use Rattle.rip_host.specs.declared.browser.Browser.{Browser}
 use Rattle.rip_course.specs.Run.{State}
 use Rattle.rip_course.specs.Stages.{Stage}
 use Rattle.rip_roll.specs.Ordinals.{get_at}
@@ -11,9 +13,11 @@ use Rattle.rip_roll.specs.declared.seat.Seat.TheVariants.{Live}
 use Rattle.rip_turn.specs.declared.server.Server.{Server}
 use Rattle.rip_turn.specs.Standing.{IsServer}
 use Rattle.rip_session.specs.declared.application.Session.{Session}
-use Rattle.rip_session.specs.Application.{IsPageWithin, StandsAt, meaning_of_app, runs_of}
+use Rattle.rip_replica.specs.Cuts.{CutAfter}
+use Rattle.rip_session.specs.Application.{IsPageWithin, StandsAt, doing_of, meaning_of_app, runs_of}
 use Rattle.rip_session.specs.Limits.{PassesNoLimit}
 use Rattle.rip_used.specs.declared.counts.Used.{Used}
+use Rattle.rip_used.specs.Within.{used_in}
 
 -- the cells and the units are within these limits
 pub record IsAllowed (limits : Limits) (u : Used) : Type 0 where
@@ -25,6 +29,15 @@ pub record IsPageAllowed (limits : Limits) (u : Used) : Type 0 where
   pub nodes : u.nodes ≤ limits.nodes
   pub depth : u.depth ≤ limits.depth
   pub waiting : u.waiting ≤ limits.queue
+
+-- these are the counts of the world and the page, and of the depth that is open, in which the last batch of a session is cut after
+-- the units that it got
+pub record IsUsedAtCut (app : Loaded) (st : Stage) (u : Used) : Type 0 where
+  pub depth : ℕ
+  pub world : World
+  pub page : Browser
+  pub cut : CutAfter (doing_of app st.seed st.time) st.batches st.given st.units depth world page
+  pub used : u ≡ used_in world depth page
 
 -- in each server of an application, of whose sessions so many may live, that stands as the machine of turns does, the heap, the
 -- page and the runs of each session that lives pass no limit of the manifest

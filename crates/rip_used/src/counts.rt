@@ -1,8 +1,8 @@
 ghost use Rattle.std.specs.Prelude.{◌≡◌, ◌≤◌, false};
 ghost use Rattle.rip_app.specs.App.{Loaded};
-ghost use Rattle.rip_course.specs.Stages.{Stage, is_ended};
+ghost use Rattle.rip_course.specs.Stages.{Stage, is_done, is_ended};
 ghost use Rattle.rip_session.specs.Application.{StandsAt, meaning_of_app};
-ghost use Rattle.rip_used.specs.Sessions.{IsAllowed, IsPageAllowed};
+ghost use Rattle.rip_used.specs.Sessions.{IsAllowed, IsPageAllowed, IsUsedAtCut};
 ghost use Rattle.rip_used.specs.Within.{IsWithin, depth_of, open_in, used_in};
 
 use rip_heap::Heap;
@@ -94,7 +94,7 @@ pub fn used_by<I, T>(replica: &Replica<Machine, I, T, Browser>) -> Used
 }
 
 /// What a session of an application has taken, at whatever stage it stands: no count passes its limit, its heap passes none of
-/// the manifest's, and while it lives its page and its runs pass none.
+/// the manifest's, and while it lives its page and its runs pass none. Of a busy one they are the counts where its batch is cut.
 pub fn used_by_session(session: &Session) -> Used
     ensures used { result ≡ used_in session.now.replica.heap
         (open_in session.now.replica.place session.now.replica.runner.phase session.now.replica.runner.evaluator)
@@ -105,6 +105,8 @@ pub fn used_by_session(session: &Session) -> Used
         → IsAllowed app.manifest.limits result }
     ensures page { (app : Loaded) (st : Stage) → StandsAt app session.now.replica st
         → is_ended (meaning_of_app app) st ≡ false → IsPageAllowed app.manifest.limits result }
+    ensures cut { (app : Loaded) (st : Stage) → StandsAt app session.now.replica st
+        → is_done (meaning_of_app app) st ≡ false → IsUsedAtCut app st result }
 {
     used_by(&session.replica)
 }

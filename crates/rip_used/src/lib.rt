@@ -4,7 +4,7 @@
 //! | what | its definition in `specs/` |
 //! |---|---|
 //! | [`used_by`] | `Within.used_in`, within `Within.IsWithin` |
-//! | [`used_by_session`] | the same, and within `Sessions.IsAllowed`, and while it lives within `Sessions.IsPageAllowed` |
+//! | [`used_by_session`] | the same, and within `Sessions.IsAllowed`, and while it lives within `Sessions.IsPageAllowed`; of a busy one `Sessions.IsUsedAtCut` |
 //!
 //! | law | its definition |
 //! |---|---|

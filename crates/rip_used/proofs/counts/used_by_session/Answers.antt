@@ -1,6 +1,15 @@
 use Rattle.std.proofs.Common.{ℕ, ◌≤◌, sym, subst}
 use Rattle.rip_used.specs.declared.counts.Used.{Used}
 use Rattle.rip_used.specs.Sessions.{IsPageAllowed}
+use Rattle.rip_lawful.proofs.Cut.{busy_cut}
+use Rattle.rip_lawful.proofs.Done.{not_done_busy}
+use Rattle.rip_replica.specs.Cuts.{CutAfter}
+use Rattle.rip_replica.specs.Standing.{spot}
+use Rattle.rip_session.specs.Application.{doing_of, runs_of}
+use Rattle.rip_work.specs.declared.items.PageItems.{PageItems}
+use Rattle.rip_work.specs.Plans.{left_of_work, work_plan}
+use Rattle.rip_work.specs.Serving.{may_serve}
+use Rattle.rip_used.specs.Within.{open_in}
 use Rattle.rip_used.proofs.Opened.{same_open}
 use Rattle.rip_used.proofs.counts.used_by_session.Goals as goal
 
@@ -12,3 +21,18 @@ returns-clause-page c = λ app st at lives.
     let depth = subst (λ (d : ℕ). d ≤ app.manifest.limits.depth) (same_open app r.place n.evaluator n.phase) page.within.depth in
     subst (λ (u : Used). IsPageAllowed app.manifest.limits u) (sym c.used_by.ensures.used)
     (record { nodes = page.within.nodes; depth = depth; waiting = page.within.waiting })
+
+pub returns-clause-cut : goal.returns-clause-cut
+returns-clause-cut c = λ app st at undone.
+    let r = c.args.session.now.replica in
+    let n = r.runner in
+    let to = spot (λ (items : PageItems). work_plan items.batches.batch) left_of_work r in
+    let busy = not_done_busy (runs_of app) (doing_of app) may_serve to st at.stage.stands undone in
+    record {
+      depth = open_in r.place n.phase n.evaluator;
+      world = r.heap;
+      page = r.host;
+      cut = subst (λ (d : ℕ). CutAfter (doing_of app st.seed st.time) st.batches st.given st.units d r.heap r.host) (same_open app r.place n.evaluator n.phase)
+          (busy_cut (runs_of app) (doing_of app) may_serve to st busy);
+      used = c.used_by.ensures.used;
+    }

@@ -16,7 +16,7 @@ invariant-loop-units g l = record {
   grows : Grows l.fn.self.heap l.self.heap;
   number : l.self.number ≡ l.fn.self.number;
   batch : l.self.runner.planner.batch ≡ l.fn.self.runner.planner.batch;
-  went : (d : Doing _ _) (next : Behind _) (from base : ℕ) (ahead : Ahead) (service : Service) (calls : List Called)
+  went : (d : Doing _ _) (next : Behind _) (from base : ℕ) (ahead : Ahead _) (service : Service) (calls : List Called)
       → Agrees d g.I.Works.fact g.I.Works.served g.I.Works.ending
       → Stands (g.E.Evaluator.evaluation l.program) d g.I.Works.may_serve l.fn.self.number next (spot g.I.Items.item_plan g.I.Items.under_way l.fn.self) from base from ahead
       → g.V.Service.replies_as l.fn.service service calls
