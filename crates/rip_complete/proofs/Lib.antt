@@ -1,3 +1,5 @@
+mod Histories
 mod Keeping
+mod Openings
 mod Replies
 mod Runs

@@ -60,7 +60,7 @@ come_honest last turns (p ∷ ps) h =
     by true first rest = or_from (is_lie p.fact) (has_lie (come_by last turns ps)) first rest
     by false first rest = refl
 
-abbrev Lies : Deed → Bool
+abbrev pub Lies : Deed → Bool
 Lies d = is_lie d.fact
 
 deeds_honest : (turns : List ℕ) (ps : List Part) → has_lie ps ≡ false → list_any Lies (deeds_of turns ps) ≡ false
@@ -135,11 +135,11 @@ if_well true s t v w = v
 if_well false s t v w = w
 
 -- the deeds behind the first, where it is of the session
-rest_honest : (b : Bool) (d : Deed) (ds : List Deed) → list_any Lies (cond b (d ∷ ds) ds) ≡ false → list_any Lies ds ≡ false
+pub rest_honest : (b : Bool) (d : Deed) (ds : List Deed) → list_any Lies (cond b (d ∷ ds) ds) ≡ false → list_any Lies ds ≡ false
 rest_honest true d ds h = (or_parts (Lies d) (list_any Lies ds) h).1
 rest_honest false d ds h = h
 
-first_honest : (d : Deed) (ds : List Deed) → list_any Lies (d ∷ ds) ≡ false → Lies d ≡ false
+pub first_honest : (d : Deed) (ds : List Deed) → list_any Lies (d ∷ ds) ≡ false → Lies d ≡ false
 first_honest d ds h = (or_parts (Lies d) (list_any Lies ds) h).0
 
 ends_well : (n : ℕ) (s : Option Standing) (h : List Recorded) → EndsWell s → list_any Lies (deeds_in n h) ≡ false → EndsWell (standing_from n s h)
@@ -166,7 +166,7 @@ ends_well n s (ended turn status ∷ h) w honest = ends_well n s h w honest
 
 -- ---- the first of a list
 
-take_front : {A : Type 0} (xs ys : List A) → take (length xs) (xs ++ ys) ≡ xs
+pub take_front : {A : Type 0} (xs ys : List A) → take (length xs) (xs ++ ys) ≡ xs
 take_front [] ys = refl
 take_front (x ∷ xs) ys = ap (λ zs. x ∷ zs) (take_front xs ys)
 
@@ -175,7 +175,7 @@ same_opening a b e = cc
 
 -- ---- the law
 
-honest_deeds : (m : Meaning) (last : ℕ) (h : List Recorded) (n seed time : ℕ) → opening_in n h ≡ Some (seed, time) → IsSessionOf m last h n
+pub honest_deeds : (m : Meaning) (last : ℕ) (h : List Recorded) (n seed time : ℕ) → opening_in n h ≡ Some (seed, time) → IsSessionOf m last h n
     → has_lie (m seed time (batches_in n h) (given_in n h)) ≡ false → list_any Lies (deeds_in n h) ≡ false
 honest_deeds m last h n seed time opening s honest =
     let same : (s.seed, s.time) ≡ (seed, time) = same_opening (s.seed, s.time) (seed, time) (sym s.opening ∙ opening) in

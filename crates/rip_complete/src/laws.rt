@@ -1,4 +1,5 @@
 ghost use Rattle.rip_complete.specs.Complete.{ClientsAreServed, RepliesAreDue, TruthfulAreComplete};
+ghost use Rattle.rip_complete.specs.Histories.{TruthIsServed};
 
 /// A law, and no work: each reply that a client of an application tells is due where it is told, so its session is ended by
 /// no mismatch and by no bad report.
@@ -11,4 +12,10 @@ pub fn replies_are_due()
 /// as the next, until its session ends, which it does for no lie, or memory is wanting at a request.
 pub fn truthful_clients_are_complete()
     ensures { TruthfulAreComplete }
+{}
+
+/// A law, and no work: in each legal course of an application, no entry says that a session was ended by a mismatch or by a
+/// bad report, where its batches that were admitted are the first of those that a truthful client tells.
+pub fn truth_is_served()
+    ensures { TruthIsServed }
 {}

@@ -1,3 +1,4 @@
+ghost use Rattle.rip_matched.specs.Histories.{CallsAreOne, HistoriesServePrefixes};
 ghost use Rattle.rip_matched.specs.Lacks.{LacksAreAtCalls};
 ghost use Rattle.rip_matched.specs.Matched.{ApplicationsServePrefixes};
 
@@ -11,4 +12,12 @@ pub fn applications_serve_prefixes()
 /// ended for want of memory at an event, at a reply or at its opening.
 pub fn lacks_are_at_calls()
     ensures { LacksAreAtCalls }
+{}
+
+/// A law, and no work: in each legal course of an application the served calls of each session, as the entries tell them, are
+/// the longest prefix of the reported ones that its script made, up to its ending, want of memory or the last turn; and
+/// there is one such list.
+pub fn histories_serve_prefixes()
+    ensures prefix { HistoriesServePrefixes }
+    ensures one { CallsAreOne }
 {}

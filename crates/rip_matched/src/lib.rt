@@ -4,9 +4,10 @@
 //! | law | its definition in `specs/` |
 //! |---|---|
 //! | [`applications_serve_prefixes`] | `Matched.ApplicationsServePrefixes` |
+//! | [`histories_serve_prefixes`]: so it is of the entries of each legal course, up to the last turn | `Histories.HistoriesServePrefixes`, by `Histories.Serves`; they are one list: `Histories.CallsAreOne` |
 //! | [`lacks_are_at_calls`] | `Lacks.LacksAreAtCalls` |
 #![tactic(auto)]
 
 mod laws;
 
-pub use laws::{applications_serve_prefixes, lacks_are_at_calls};
+pub use laws::{applications_serve_prefixes, histories_serve_prefixes, lacks_are_at_calls};
