@@ -1,0 +1,3 @@
+mod Costs
+mod Knocks
+pub mod InTime
