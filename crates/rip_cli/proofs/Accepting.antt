@@ -1,9 +1,8 @@
 -- A run whose files are accepted does what the words ask for.
 use Rattle.std.proofs.Common.{◌≡◌, ℕ, ◌<◌, ◌≤◌, ◌⊎◌, inl, inr, List, [], ◌∷◌, length, Option, Some, None, refl, sym, ap, ◌∙◌, subst, arith, codes}
 use Rattle.std.specs.Prelude.{IsSomeAnd}
-use Rattle.rip_outer.specs.Reading.{contents_of}
+use Rattle.rip_outer.specs.Reading.{contents_of, longest_file}
 use Rattle.rip_outer.specs.declared.reading.NamedFile.{NamedFile}
-use Rattle.rip_outer.specs.declared.reading.TheConstants.{MAX_FILE}
 use Rattle.rip_words.specs.Commands.{Task, checks, replays, serves, drives, generates, IsTask}
 use Rattle.rip_words.proofs.WordLemmas.{tasks}
 use Rattle.rip_app.specs.App.{Loaded, AppOf, IsAppRefusal}
@@ -32,9 +31,9 @@ same_content : (files : List NamedFile) (name bytes : List ℕ) (content : Conte
 same_content files name bytes (Bytes other) has is = let same : other ≡ bytes = cc in ap Bytes same
 same_content files name bytes TooLong has is = absurd (short (contents_of files name) has.0 is)
   where
-    short : (x : Option (List ℕ)) → x ≡ Some bytes → IsSomeAnd x (λ b. MAX_FILE < length b) → ⊥
+    short : (x : Option (List ℕ)) → x ≡ Some bytes → IsSomeAnd x (λ b. longest_file < length b) → ⊥
     short None held long = cc
-    short (Some b) held long = let same : b ≡ bytes = cc in let small : length bytes ≤ MAX_FILE = has.1 in let much : MAX_FILE < length b = long in omega (arith, ap length same)
+    short (Some b) held long = let same : b ≡ bytes = cc in let small : length bytes ≤ longest_file = has.1 in let much : longest_file < length b = long in omega (arith, ap length same)
 
 -- the line for a refusal is none for want of memory
 no_line : (bytes manifest : List ℕ) (loaded : Loaded) (refusal : AppRefusal) (line : List ℕ) → AppOf bytes manifest loaded → IsAppRefusal bytes manifest refusal → app_line refusal ≡ Some line → ⊥

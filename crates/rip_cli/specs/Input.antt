@@ -1,8 +1,7 @@
 -- The input of a run: what the files that the words name hold, and what is wrong with it.
 use Rattle.std.specs.Prelude.{◌≡◌, ◌≤◌, ◌∷◌, ◌⊎◌, ℕ, List, [], Option, Some, None, length, codes}
-use Rattle.rip_outer.specs.Reading.{IsContents, IsTooLong}
+use Rattle.rip_outer.specs.Reading.{IsContents, IsTooLong, longest_file}
 use Rattle.rip_outer.specs.declared.reading.NamedFile.{NamedFile}
-use Rattle.rip_outer.specs.declared.reading.TheConstants.{MAX_FILE}
 use Rattle.rip_words.specs.Commands.{Task, checks, replays, serves, drives, generates}
 use Rattle.rip_app.specs.App.{Loaded, AppOf, IsAppRefusal}
 use Rattle.rip_app.specs.declared.refusal.AppRefusal.{AppRefusal}
@@ -23,7 +22,7 @@ use Rattle.rip_cli.specs.declared.input.Input.TheVariants.{Check, Replay, Serve,
 
 -- the content of the file of that name, where it is told what the files hold
 abbrev pub IsContentOf : Option (List NamedFile) → List ℕ → Content → Type 0
-IsContentOf held name (Bytes content) = IsContents held name content × (length content ≤ MAX_FILE)
+IsContentOf held name (Bytes content) = IsContents held name content × (length content ≤ longest_file)
 IsContentOf held name TooLong = IsTooLong held name
 
 -- the contents of a page and a manifest

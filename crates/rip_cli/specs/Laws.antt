@@ -1,8 +1,7 @@
 -- What a run comes to whose files are accepted.
 use Rattle.std.specs.Prelude.{◌≡◌, ◌≢◌, ◌≤◌, ℕ, List, Some, length}
-use Rattle.rip_outer.specs.Reading.{contents_of}
+use Rattle.rip_outer.specs.Reading.{contents_of, longest_file}
 use Rattle.rip_outer.specs.declared.reading.NamedFile.{NamedFile}
-use Rattle.rip_outer.specs.declared.reading.TheConstants.{MAX_FILE}
 use Rattle.rip_words.specs.Commands.{Task, checks, replays, serves, drives, generates, IsTask}
 use Rattle.rip_app.specs.App.{Loaded, AppOf}
 use Rattle.rip_trace.specs.Gestures.{AreGestures}
@@ -16,7 +15,7 @@ use Rattle.rip_cli.specs.declared.status.Status.TheVariants.{BadWords, BadInput}
 
 -- the file of that name holds these bytes, and is no longer than a file may be
 abbrev pub HasBytes : List NamedFile → List ℕ → List ℕ → Type 0
-HasBytes files name bytes = (contents_of files name ≡ Some bytes) × (length bytes ≤ MAX_FILE)
+HasBytes files name bytes = (contents_of files name ≡ Some bytes) × (length bytes ≤ longest_file)
 
 -- the files of these names are an application
 pub record HoldApp (files : List NamedFile) (page manifest : List ℕ) : Type 0 where

@@ -5,7 +5,6 @@ use Rattle.rip_outer.specs.Outside.{Rose, also}
 use Rattle.rip_outer.specs.declared.reading.NamedFile.{NamedFile}
 use Rattle.rip_outer.specs.declared.reading.FilesError.{FilesError}
 use Rattle.rip_outer.specs.declared.reading.FilesError.TheVariants.{Failed, TooLong, Memory}
-use Rattle.rip_outer.specs.declared.reading.TheConstants.{MAX_FILE}
 
 -- the contents of the first file of that name
 abbrev pub contents_of : List NamedFile → List ℕ → Option (List ℕ)
@@ -16,10 +15,14 @@ abbrev pub IsContents : Option (List NamedFile) → List ℕ → List ℕ → Ty
 IsContents None name bytes = Unit {0}
 IsContents (Some files) name bytes = contents_of files name ≡ Some bytes
 
+-- the greatest length of a file, in bytes
+abbrev pub longest_file : ℕ
+longest_file = 16777216
+
 -- the file of that name passes the greatest length, where it is told what is held
 abbrev pub IsTooLong : Option (List NamedFile) → List ℕ → Type 0
 IsTooLong None name = Unit {0}
-IsTooLong (Some files) name = IsSomeAnd (contents_of files name) (λ bytes. MAX_FILE < length bytes)
+IsTooLong (Some files) name = IsSomeAnd (contents_of files name) (λ bytes. longest_file < length bytes)
 
 -- the names asked grow by this one, but want of memory adds nothing
 abbrev pub Asks : Result (List ℕ) FilesError → List ℕ → Option (List (List ℕ)) → Option (List (List ℕ)) → Type 0

@@ -30,7 +30,7 @@ pub type FileList = List<NamedFile>;
 pub trait Files {
     ghost use Rattle.std.specs.Prelude.{◌≡◌, ◌≤◌, ℕ, List, Option, length, IfOk, IsErrOf};
     ghost use Rattle.rip_outer.specs.declared.reading.NamedFile.{NamedFile};
-    ghost use Rattle.rip_outer.specs.Reading.{Asks, IsContents, IsTooLong, CountsRead};
+    ghost use Rattle.rip_outer.specs.Reading.{Asks, IsContents, IsTooLong, CountsRead, longest_file};
 
     // The files that are there, and the names asked so far, where the object tells them; how many calls failed.
     ghost held: { Self → Option (List NamedFile) };
@@ -51,7 +51,7 @@ pub trait Files {
     /// `Memory` for want of memory.
     fn read_all(&mut self, alloc: Global, name: &str) -> Result<Bytes, FilesError>
         ensures contents { IfOk result (λ bytes. IsContents (held self.old) name.now bytes) }
-        ensures fits { IfOk result (λ bytes. length bytes ≤ MAX_FILE) }
+        ensures fits { IfOk result (λ bytes. length bytes ≤ longest_file) }
         ensures too_long { IsErrOf result FilesError.TooLong → IsTooLong (held self.old) name.now }
         ensures asked { Asks result name.now (asked self.old) (asked self.new) }
         ensures held { held self.new ≡ held self.old }

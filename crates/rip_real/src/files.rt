@@ -1,5 +1,5 @@
 ghost use Rattle.std.specs.Prelude.{◌≡◌, ◌≤◌, length, IfOk};
-ghost use Rattle.rip_outer.specs.declared.reading.TheConstants.{MAX_FILE};
+ghost use Rattle.rip_outer.specs.Reading.{longest_file};
 
 use crate::history::{Deed, History};
 use rip_outer::{Files, FilesError, MAX_FILE};
@@ -46,7 +46,7 @@ impl<'a, R> HostFiles<'a, R> {
 
 /// The contents of a file, at most [`MAX_FILE`] bytes. A read that was interrupted is tried again.
 fn read_file<R: rt::Files>(rt: &R, alloc: Global, name: &str) -> Result<Bytes, FilesError>
-    ensures { IfOk result (λ bytes. length bytes ≤ MAX_FILE) }
+    ensures { IfOk result (λ bytes. length bytes ≤ longest_file) }
 {
     let mut file = fs::open(rt, name).map_err(|_| FilesError::Failed)?;
     let mut bytes = Vec::new(alloc);

@@ -1,8 +1,7 @@
 -- Replays whose turns are enough come to their end.
 use Rattle.std.proofs.Common.{◌≡◌, inl, inr, ℕ, ◌<◌, ◌≤◌, List, length, Option, None, Some, refl, sym, ap, subst, arith}
 use Rattle.std.specs.Prelude.{IsSomeAnd}
-use Rattle.rip_outer.specs.Reading.{contents_of}
-use Rattle.rip_outer.specs.declared.reading.TheConstants.{MAX_FILE}
+use Rattle.rip_outer.specs.Reading.{contents_of, longest_file}
 use Rattle.rip_outer.specs.declared.reading.NamedFile.{NamedFile}
 use Rattle.rip_words.specs.Commands.{replays, IsTask}
 use Rattle.rip_words.proofs.WordLemmas.{tasks}
@@ -30,9 +29,9 @@ same_content : (files : List NamedFile) (name bytes : List ℕ) (content : Conte
 same_content files name bytes (Bytes other) has is = let same : other ≡ bytes = cc in ap Bytes same
 same_content files name bytes TooLong has is = absurd (short (contents_of files name) has.0 is)
   where
-    short : (x : Option (List ℕ)) → x ≡ Some bytes → IsSomeAnd x (λ b. MAX_FILE < length b) → ⊥
+    short : (x : Option (List ℕ)) → x ≡ Some bytes → IsSomeAnd x (λ b. longest_file < length b) → ⊥
     short None held long = cc
-    short (Some b) held long = let same : b ≡ bytes = cc in let small : length bytes ≤ MAX_FILE = has.1 in let much : MAX_FILE < length b = long in omega (arith, ap length same)
+    short (Some b) held long = let same : b ≡ bytes = cc in let small : length bytes ≤ longest_file = has.1 in let much : longest_file < length b = long in omega (arith, ap length same)
 
 same_bytes : (content : Content) (bytes other : List ℕ) → content ≡ Bytes bytes → content ≡ Bytes other → other ≡ bytes
 same_bytes content bytes other one two = cc
