@@ -68,6 +68,8 @@ pub record IsStarted (limits : RunLimits) (code : Code) (w : World) (m : Standin
   pub idle : Standing
   pub is_loaded : IsLoaded limits code before idle
   pub starts : Starts (table (loaded code idle)) (script_begins code idle before) limits.fuel before w idle m (Ok tt)
+  pub literals : m.literals ≡ idle.literals
+  pub depth : m.depth ≡ idle.depth
 
 -- THE RUN
 

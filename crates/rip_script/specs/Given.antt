@@ -2,9 +2,8 @@
 use Rattle.std.specs.Prelude.{◌≡◌, ◌≤◌, ◌⊎◌, ◌∷◌, [], ℕ, List, Option, length, codes, decimal}
 use Rattle.std.specs.Str.{IsUtf8}
 use Rattle.rip_values.specs.Text.{IsSameText}
-use Rattle.rip_outer.specs.Reading.{IsContents, IsTooLong}
+use Rattle.rip_outer.specs.Reading.{IsContents, IsTooLong, longest_file}
 use Rattle.rip_outer.specs.declared.reading.NamedFile.{NamedFile}
-use Rattle.rip_outer.specs.declared.reading.TheConstants.{MAX_FILE}
 use Rattle.rip_lexer.specs.Tokens.{IsTokens, IsFirstRefusal}
 use Rattle.rip_lexer.specs.Printed.{kind_text as lex_word}
 use Rattle.rip_lexer.specs.declared.token.Token.{Token}
@@ -34,7 +33,7 @@ use Rattle.rip_script.specs.declared.refusal.Refusal.TheVariants.{TooLong, NotUt
 -- these are the bytes of the file of that name, where it is told what the files hold
 pub record IsGiven (held : Option (List NamedFile)) (name bytes : List ℕ) : Type 0 where
   pub contents : IsContents held name bytes
-  pub fits : length bytes ≤ MAX_FILE
+  pub fits : length bytes ≤ longest_file
 
 -- the bytes spell a script that has these units and tokens
 pub record HasTokens (bytes units : List ℕ) (tokens : List Token) : Type 0 where

@@ -10,11 +10,10 @@ use Rattle.rip_tree.specs.Program.{Code}
 use Rattle.rip_heap.specs.Scopes.{binding, bindings_of}
 use Rattle.rip_heap.specs.World.{World, scope_at}
 use Rattle.rip_script.specs.Lines.{lines_text}
-use Rattle.rip_script.specs.Values.{name_text, value_text}
+use Rattle.rip_script.specs.Values.{name_text, shown_levels, value_text}
 use Rattle.rip_script.specs.declared.evaluate.End.{End}
 use Rattle.rip_script.specs.declared.evaluate.End.TheVariants as end
 use Rattle.rip_script.specs.declared.evaluate.Ended.{Ended}
-use Rattle.rip_script.specs.declared.print.TheConstants.{LEVELS}
 
 -- a fault by its name
 abbrev pub fault_word : Fault → List ℕ
@@ -40,7 +39,7 @@ limit_word limit.Replies = codes "Replies"
 
 -- a value, of which the greatest number of levels is shown
 abbrev pub value_word : World → Code → Value → List ℕ
-value_word w code v = value_text w code LEVELS [] v
+value_word w code v = value_text w code shown_levels [] v
 
 -- how the run ended: its kind, and behind it what was given or thrown, or which fault or limit it was
 abbrev pub end_words : World → Code → End → List (List ℕ)

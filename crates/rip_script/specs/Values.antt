@@ -144,6 +144,10 @@ object_text w program (suc levels) around n =
     let show : Value → List ℕ = λ v. value_with w (λ m. object_text w program levels (around ++ n ∷ []) m) v in
     unwrap_or (option_map builtin_text (slice_get builtins n)) (object_by_class w program n (unless_around around n (contents_text w show n (class_of (object_at w n)))) (class_of (object_at w n)))
 
+-- so many levels of objects are shown
+abbrev pub shown_levels : ℕ
+shown_levels = 6
+
 -- the value, in which so many levels of objects are shown, where these objects are around it
 abbrev pub value_text : World → Code → ℕ → List ℕ → Value → List ℕ
 value_text w program levels around v = value_with w (λ n. object_text w program levels around n) v

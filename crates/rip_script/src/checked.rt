@@ -1,5 +1,5 @@
 ghost use Rattle.std.specs.Prelude.{◌≡◌, ◌≤◌, ◌∷◌, [], ℕ, List as Items, length, IfErr, IfOk};
-ghost use Rattle.rip_outer.specs.declared.reading.TheConstants.{MAX_FILE};
+ghost use Rattle.rip_outer.specs.Reading.{longest_file};
 ghost use Rattle.rip_tree.specs.Branches.{Plant};
 ghost use Rattle.rip_script.specs.Given.{HasItsTree, RefusesRun};
 ghost use Rattle.rip_script.specs.Steps.{IsChecked, IsStop};
@@ -13,7 +13,7 @@ use std::alloc::Global;
 
 /// The program of the script that the bytes spell, which has no early error.
 pub fn read_program(alloc: Global, bytes: &[u8]) -> Result<Program, Stop>
-    requires { length bytes.now ≤ MAX_FILE }
+    requires { length bytes.now ≤ longest_file }
     ensures checked { IfOk result
         (λ program. (tree : Plant) × HasItsTree bytes.now tree × IsChecked tree program) }
     ensures refused { IfErr result (IsStop (RefusesRun bytes.now)) }

@@ -2,7 +2,7 @@ ghost use Rattle.std.specs.Prelude.{◌≡◌, ◌++◌, [], IfOk, OnOk};
 ghost use Rattle.rip_heap.specs.Arrays.{elements_at};
 ghost use Rattle.rip_heap.specs.World.{object_at};
 ghost use Rattle.rip_script.specs.Steps.{comma_before};
-ghost use Rattle.rip_script.specs.Values.{array_text, contents_text, object_text, properties_of, properties_text, value_text};
+ghost use Rattle.rip_script.specs.Values.{array_text, contents_text, object_text, properties_of, properties_text, shown_levels, value_text};
 
 use crate::named::{
     builtin_at, class_word, is_around, is_function, write_builtin, write_function, write_name,
@@ -26,7 +26,7 @@ pub fn value_text(
     program: &Program,
     v: Value,
 ) -> Result<Bytes, NoMemory>
-    ensures { IfOk result (λ text. text ≡ value_text heap.now program.now LEVELS [] v) }
+    ensures { IfOk result (λ text. text ≡ value_text heap.now program.now shown_levels [] v) }
 {
     let mut printer = Printer {
         alloc,

@@ -1,6 +1,6 @@
 ghost use Rattle.std.specs.Prelude.{◌≡◌, ◌≤◌, ◌<◌, ◌^◌, ℕ, List, length, IfOk, IfErr};
 ghost use Rattle.rip_lexer.specs.Tokens.{IsTokens};
-ghost use Rattle.rip_outer.specs.declared.reading.TheConstants.{MAX_FILE};
+ghost use Rattle.rip_outer.specs.Reading.{longest_file};
 ghost use Rattle.rip_grammar.specs.Phrases.{Phrase};
 ghost use Rattle.rip_parser.specs.Parsed.{HasTree, IsBody};
 ghost use Rattle.rip_parser.specs.Shows.{ShowsScript};
@@ -24,7 +24,7 @@ pub struct Script {
 
 /// The units that the bytes spell.
 fn read_units(alloc: Global, bytes: &[u8]) -> Result<Units, Stop>
-    requires { length bytes.now ≤ MAX_FILE }
+    requires { length bytes.now ≤ longest_file }
     ensures spelled { IfOk result (λ units. IsSameText bytes.now units) }
     ensures short { IfOk result (λ units. length units < 2 ^ 32) }
     ensures refused { IfErr result (IsStop (RefusesTokens bytes.now)) }
@@ -40,7 +40,7 @@ fn read_units(alloc: Global, bytes: &[u8]) -> Result<Units, Stop>
 impl Script {
     /// The script that the bytes spell.
     pub fn read(alloc: Global, bytes: &[u8]) -> Result<Script, Stop>
-        requires { length bytes.now ≤ MAX_FILE }
+        requires { length bytes.now ≤ longest_file }
         ensures script { IfOk result (λ script. HasTokens bytes.now script.units script.tokens) }
         ensures short { IfOk result (λ script. length script.units < 2 ^ 32) }
         ensures refused { IfErr result (IsStop (RefusesTokens bytes.now)) }
@@ -79,7 +79,7 @@ impl Script {
 
 /// The tree of the script that the bytes spell.
 pub fn read_tree(alloc: Global, bytes: &[u8]) -> Result<Tree, Stop>
-    requires { length bytes.now ≤ MAX_FILE }
+    requires { length bytes.now ≤ longest_file }
     ensures tree { IfOk result (HasItsTree bytes.now) }
     ensures refused { IfErr result (IsStop (RefusesTree bytes.now)) }
 {

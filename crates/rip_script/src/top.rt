@@ -1,5 +1,5 @@
 ghost use Rattle.std.specs.Prelude.{◌≡◌, ◌≤◌, length, map, string_bytes, List, ℕ};
-ghost use Rattle.rip_outer.specs.declared.reading.TheConstants.{MAX_FILE};
+ghost use Rattle.rip_outer.specs.Reading.{longest_file};
 ghost use Rattle.rip_script.specs.Given.{AnswersBytes, DrawsTree, IsRun, ListsTokens, RefusesBytes, RefusesRun, RefusesTokens, RefusesTree, refusal_line};
 ghost use Rattle.rip_script.specs.Run.{Ran};
 ghost use Rattle.rip_script.specs.Steps.{CountsStatus, IsWhole, PutsStop, PutsThen, Settles, status_after};
@@ -66,7 +66,7 @@ fn stop_at<S: Sink>(alloc: Global, stop: Stop, out: &mut S) -> Status
 
 /// Puts the tokens of the script that the bytes spell, or why it is refused.
 fn settle_tokens<S: Sink>(alloc: Global, bytes: &[u8], out: &mut S) -> Status
-    requires { length bytes.now ≤ MAX_FILE }
+    requires { length bytes.now ≤ longest_file }
     ensures settles { Settles (ListsTokens bytes.now) (RefusesTokens bytes.now) result
         (S.held out.old) (S.held out.new) }
     ensures counted { CountsStatus result (S.count out.old) (S.count out.new) }
@@ -82,7 +82,7 @@ fn settle_tokens<S: Sink>(alloc: Global, bytes: &[u8], out: &mut S) -> Status
 
 /// Puts the tree of the script that the bytes spell, or why it is refused.
 fn settle_tree<S: Sink>(alloc: Global, bytes: &[u8], out: &mut S) -> Status
-    requires { length bytes.now ≤ MAX_FILE }
+    requires { length bytes.now ≤ longest_file }
     ensures settles { Settles (DrawsTree bytes.now) (RefusesTree bytes.now) result (S.held out.old)
         (S.held out.new) }
     ensures counted { CountsStatus result (S.count out.old) (S.count out.new) }
@@ -98,7 +98,7 @@ fn settle_tree<S: Sink>(alloc: Global, bytes: &[u8], out: &mut S) -> Status
 
 /// Puts what a run of the script that the bytes spell comes to, or why it is refused.
 fn settle_run<S: Sink>(alloc: Global, bytes: &[u8], limits: RunLimits, out: &mut S) -> Status
-    requires { length bytes.now ≤ MAX_FILE }
+    requires { length bytes.now ≤ longest_file }
     ensures settles { Settles (λ text. IsRun bytes.now limits text) (RefusesRun bytes.now) result
         (S.held out.old) (S.held out.new) }
     ensures counted { CountsStatus result (S.count out.old) (S.count out.new) }
@@ -118,7 +118,7 @@ fn settle_run<S: Sink>(alloc: Global, bytes: &[u8], limits: RunLimits, out: &mut
 
 /// Puts what is asked for of the script that the bytes spell, or why it is refused.
 fn settle<S: Sink>(alloc: Global, command: Command<'_>, bytes: &[u8], out: &mut S) -> Status
-    requires { length bytes.now ≤ MAX_FILE }
+    requires { length bytes.now ≤ longest_file }
     ensures settles { Settles (AnswersBytes (task_of command.entry) bytes.now)
         (RefusesBytes (task_of command.entry) bytes.now) result
         (S.held out.old) (S.held out.new) }
