@@ -77,6 +77,7 @@ next_stands e doing may at to st b number counted sound idle next is =
         plan = is.plan ∙ ap d.plan (next ∙ sym counted);
         counts = sound.counts st.seed st.time;
         shapes = λ a n w s. sound.shapes st.seed st.time number a n w s;
+        still = λ a n w s. sound.still st.seed st.time number a n w s;
       };
       left = subst L (sym is.place) (
         refl,

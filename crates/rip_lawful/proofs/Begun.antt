@@ -41,7 +41,7 @@ opened_begun e doing may at seed time sound is =
       based = refl;
       none = refl;
       stands = record {
-        keeps = record { run = is.run; full = is.full; plan = is.plan; counts = sound.counts seed time; shapes = λ a n w s. sound.shapes seed time 0 a n w s };
+        keeps = record { run = is.run; full = is.full; plan = is.plan; counts = sound.counts seed time; shapes = λ a n w s. sound.shapes seed time 0 a n w s; still = λ a n w s. sound.still seed time 0 a n w s };
         left = subst L (sym is.place) (
           refl,
           refl,

@@ -7,6 +7,7 @@ pub mod InTurn
 pub mod Lawful
 pub mod Nested
 pub mod OneCut
+pub mod OneEnd
 pub mod Resting
 pub mod Rooms
 pub mod Staging

@@ -12,7 +12,7 @@ use Rattle.rip_replica.specs.Parts.{Doing, Stand, behind_item, behind_next, behi
 use Rattle.rip_replica.specs.Plays.{CountsUnits}
 use Rattle.rip_replica.proofs.ItemLemmas.{cut}
 
-by-order : {P : Type 0} (k m : ℕ) (a b : Bool) → nat_le m k ≡ a → nat_le k m ≡ b → (k < m → P) → (m < k → P) → (k ≡ m → P) → P
+pub by-order : {P : Type 0} (k m : ℕ) (a b : Bool) → nat_le m k ≡ a → nat_le k m ≡ b → (k < m → P) → (m < k → P) → (k ≡ m → P) → P
 by-order k m false b x y less more same = less (leb-false m k x)
 by-order k m true false x y less more same = more (leb-false k m y)
 by-order k m true true x y less more same = same (omega (arith, leb-true m k x, leb-true k m y))
@@ -21,11 +21,11 @@ abbrev held-depth : {S : Type 0} → Played S → ℕ
 held-depth (Closes close gs fuel u w s) = 0
 held-depth (Holds depth w s) = depth
 
-abbrev held-world : {S : Type 0} → Played S → World
+abbrev pub held-world : {S : Type 0} → Played S → World
 held-world (Closes close gs fuel u w s) = w
 held-world (Holds depth w s) = w
 
-abbrev held-page : {S : Type 0} → Played S → S
+abbrev pub held-page : {S : Type 0} → Played S → S
 held-page (Closes close gs fuel u w s) = s
 held-page (Holds depth w s) = s
 
@@ -35,7 +35,7 @@ no-next : {A S : Type 0} (d : Doing A S) (n i : ℕ) (o : Option A) → None ≡
 no-next d n i None = refl
 no-next d n i (Some a) = refl
 
-in_step : {A S : Type 0} (d : Doing A S) (batch n : ℕ) (all : List A) (bs : List Contents) (k : ℕ) (o : Option (Stand S)) → n ≡ batch + length bs
+pub in_step : {A S : Type 0} (d : Doing A S) (batch n : ℕ) (all : List A) (bs : List Contents) (k : ℕ) (o : Option (Stand S)) → n ≡ batch + length bs
     → in_last d batch all bs (suc k) o ≡ behind_next d n (suc k) (slice_get (items_last d all bs) k) (in_last d batch all bs k o)
 in_step d batch n all [] k None is = no-next d n (suc k) (slice_get all k)
 in_step d batch n all [] k (Some l) is =
@@ -49,18 +49,18 @@ one-first d batch all [] (Some q) l is = sym (ap (λ (x : Stand _). x.cost) (sam
 one-first d batch all (b ∷ bs) o l is = one-first d (batch + 1) (d.items b) bs (in_batch d batch all (length all) o) l is
 
 -- an item that is over, and what it costs
-record Passed {A S : Type 0} (d : Doing A S) (n : ℕ) (all : List A) (f : ℕ → Option (Stand S)) (k cost : ℕ) : Type 0 where
-  before : Stand S
-  item : A
-  changes : List (S → S)
-  fuel : ℕ
-  left : ℕ
-  world : World
-  page : S
-  there : f k ≡ Some before
-  is : slice_get all k ≡ Some item
-  closes : whole_item d n item (suc k) before.world before.page (first_given before.given) ≡ Closes Fine changes fuel left world page
-  within : before.cost + 1 + (d.full - left) ≤ cost
+pub record Passed {A S : Type 0} (d : Doing A S) (n : ℕ) (all : List A) (f : ℕ → Option (Stand S)) (k cost : ℕ) : Type 0 where
+  pub before : Stand S
+  pub item : A
+  pub changes : List (S → S)
+  pub fuel : ℕ
+  pub left : ℕ
+  pub world : World
+  pub page : S
+  pub there : f k ≡ Some before
+  pub is : slice_get all k ≡ Some item
+  pub closes : whole_item d n item (suc k) before.world before.page (first_given before.given) ≡ Closes Fine changes fuel left world page
+  pub within : before.cost + 1 + (d.full - left) ≤ cost
 
 passed-by : {A S : Type 0} (d : Doing A S) (n : ℕ) (all : List A) (f : ℕ → Option (Stand S)) (k : ℕ) (item : A) (before behind : Stand S) (p : Played S)
     → f k ≡ Some before → slice_get all k ≡ Some item → whole_item d n item (suc k) before.world before.page (first_given before.given) ≡ p
@@ -115,7 +115,7 @@ passed d n all f steps k (suc j) (suc m) behind is there =
       within = up;
     }
 
-passed_to : {A S : Type 0} (d : Doing A S) (n : ℕ) (all : List A) (f : ℕ → Option (Stand S)) → ((k : ℕ) → f (suc k) ≡ behind_next d n (suc k) (slice_get all k) (f k))
+pub passed_to : {A S : Type 0} (d : Doing A S) (n : ℕ) (all : List A) (f : ℕ → Option (Stand S)) → ((k : ℕ) → f (suc k) ≡ behind_next d n (suc k) (slice_get all k) (f k))
     → (k m : ℕ) (behind : Stand S) → k < m → f m ≡ Some behind → Passed d n all f k behind.cost
 passed_to d n all f steps k zero behind less there = absurd (omega (arith, less))
 passed_to d n all f steps k (suc m) behind less there = passed d n all f steps k (m - k) m behind (omega (arith, less)) there

@@ -14,7 +14,7 @@ use Rattle.rip_course.specs.declared.sessions.Progress.{Progress}
 use Rattle.rip_course.specs.declared.sessions.Slice.{Slice}
 use Rattle.rip_replica.specs.declared.replica.Replica.{Replica}
 use Rattle.rip_replica.specs.Parts.{Doing, meaning_of}
-use Rattle.rip_replica.specs.Plays.{IsItemPlan}
+use Rattle.rip_replica.specs.Plays.{IsItemPlan, IsStill}
 use Rattle.rip_replica.specs.Sessions.{IsAt}
 use Rattle.rip_replica.specs.Standing.{spot}
 use Rattle.rip_lawful.specs.AtStage.{AreDoneBy, IsAtStage}
@@ -25,14 +25,20 @@ use Rattle.rip_lawful.proofs.Begun.{opened_begun}
 
 -- what works do has their shapes
 pub sound_by : {A S : Type 0} (doing : ℕ → ℕ → Doing A S) (plans : ℕ → A → ℕ → World → S → Plan S) (fact : A → Fact) (serve : ℕ → Given → S → S) (ending : List A → Close → S → Ending) (may : S → Bool)
-    → AreDoneBy doing plans fact serve ending → ((batch : ℕ) (a : A) (n : ℕ) (w : World) (s : S) → IsItemPlan may (fact a) (plans batch a n w s)) → IsSound doing may
-sound_by doing plans fact serve ending may by shapes = record {
+    → AreDoneBy doing plans fact serve ending → ((batch : ℕ) (a : A) (n : ℕ) (w : World) (s : S) → IsItemPlan may (fact a) (plans batch a n w s))
+    → ((batch : ℕ) (a : A) (n : ℕ) (w : World) (s : S) → IsStill (fact a) w s (plans batch a n w s)) → IsSound doing may
+sound_by doing plans fact serve ending may by shapes still = record {
   counts = by.counts;
   shapes = λ seed time batch a n w s.
       (let F : (_ → Fact) → Type 0 = λ f. IsItemPlan may (f a) (plans batch a n w s) in
       let P : (ℕ → _ → ℕ → World → _ → Plan _) → Type 0 = λ p. IsItemPlan may ((doing seed time).fact a) (p batch a n w s) in
       let agrees = by.agrees seed time in
       subst P (sym (by.planned seed time)) (subst F (sym agrees.facts) (shapes batch a n w s)));
+  still = λ seed time batch a n w s.
+      (let F : (_ → Fact) → Type 0 = λ f. IsStill (f a) w s (plans batch a n w s) in
+      let P : (ℕ → _ → ℕ → World → _ → Plan _) → Type 0 = λ p. IsStill ((doing seed time).fact a) w s (p batch a n w s) in
+      let agrees = by.agrees seed time in
+      subst P (sym (by.planned seed time)) (subst F (sym agrees.facts) (still batch a n w s)));
 }
 
 -- a list that was empty has one item

@@ -1,4 +1,4 @@
-ghost use Rattle.rip_lawful.specs.Laws.{AdmittedAreNext, BusyAreCut, BusyAreNotDone, CutsAreOne, MeaningsAreLawful, OpenedAreBegun};
+ghost use Rattle.rip_lawful.specs.Laws.{AdmittedAreNext, BusyAreCut, BusyAreNotDone, CutsAreOne, DoneAreBehind, EndedAreLeft, EndsAreOne, MeaningsAreLawful, OpenedAreBegun};
 
 /// A law, and no work: what sessions do is made in the order of their batches and of what they are given.
 pub fn meanings_are_lawful<A, S>()
@@ -25,7 +25,23 @@ pub fn busy_are_cut<M, A, S>()
     ensures { BusyAreCut M A S }
 {}
 
+/// A law, and no work: a session whose last batch is done, and that lives, stands behind all items of that batch.
+pub fn done_are_behind<M, A, S>()
+    ensures { DoneAreBehind M A S }
+{}
+
+/// A law, and no work: a session that an item ended stands where that item left it, and one for which memory was wanting where it
+/// stood before the item.
+pub fn ended_are_left<M, A, S>()
+    ensures { EndedAreLeft M A S }
+{}
+
 /// A law, and no work: after so many units a batch is cut at one place.
 pub fn cuts_are_one<A, S>()
     ensures { CutsAreOne A S }
+{}
+
+/// A law, and no work: an item ends a session in one world and with one page.
+pub fn ends_are_one<A, S>()
+    ensures { EndsAreOne A S }
 {}

@@ -16,6 +16,9 @@
 //! | [`busy_are_not_done`] | `Laws.BusyAreNotDone` |
 //! | [`busy_are_cut`]: where a busy session stands | `Laws.BusyAreCut`, by `Cuts.CutAfter` (`rip_replica`) |
 //! | [`cuts_are_one`] | `Laws.CutsAreOne` |
+//! | [`done_are_behind`]: where an idle session stands | `Laws.DoneAreBehind`, by `Cuts.StandsDone` (`rip_replica`) |
+//! | [`ended_are_left`]: where a session stands that has ended | `Laws.EndedAreLeft`, by `Cuts.StandsEnded` (`rip_replica`) |
+//! | [`ends_are_one`] | `Laws.EndsAreOne`, by `Cuts.EndedBy` (`rip_replica`) |
 #![tactic(auto)]
 
 mod going;
@@ -23,6 +26,6 @@ mod laws;
 
 pub use going::{admit, open, resume};
 pub use laws::{
-    admitted_are_next, busy_are_cut, busy_are_not_done, cuts_are_one, meanings_are_lawful,
-    opened_are_begun,
+    admitted_are_next, busy_are_cut, busy_are_not_done, cuts_are_one, done_are_behind,
+    ended_are_left, ends_are_one, meanings_are_lawful, opened_are_begun,
 };

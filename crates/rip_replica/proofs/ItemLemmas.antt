@@ -1,6 +1,6 @@
 -- An item that was played for some units is the item that is played whole.
 use Rattle.std.proofs.Common.{◌≡◌, ℕ, ◌+◌, ◌-◌, ◌<◌, ◌≤◌, Bool, true, false, nat_le, List, [], ◌∷◌, refl, ap, sym, subst, ◌∙◌, arith}
-use Rattle.std.proofs.lemmas.Bool.{leb-true, leb-false}
+use Rattle.std.proofs.lemmas.Bool.{leb-true, leb-false, true≢false}
 use Rattle.rip_heap.specs.World.{World}
 use Rattle.rip_runs.specs.declared.close.Close.{Close}
 use Rattle.rip_runs.specs.declared.close.Close.TheVariants.{Fine}
@@ -10,7 +10,7 @@ use Rattle.rip_runs.specs.Started.{Started}
 use Rattle.rip_runner.specs.Laws.{IsClosed, IsPlayedLater}
 use Rattle.rip_runner.specs.Play.{Played, Closes, Holds, play}
 use Rattle.rip_course.specs.Parts.{Fact, passes, serves, finishes, serves_call}
-use Rattle.rip_replica.specs.Plays.{CountsUnits, IsItemPlan}
+use Rattle.rip_replica.specs.Plays.{CountsUnits, IsCallPlan, IsItemPlan, IsStill, StandsStill}
 use Rattle.rip_replica.specs.Rooms.{IsMismatch}
 use Rattle.rip_replica.proofs.PlayLemmas.{AtMost, Below, EndsWell, HeldWants, closes, closes_later, plain_ends_well, play_at_most, play_cut, well_no_mismatch}
 
@@ -102,6 +102,16 @@ fine_passes run full may (serves number name args) (Awaits x r go) fuel u v f gs
 fine_passes run full may (serves number name args) (Runs item start x r go) fuel u v f gs w s h is = absurd h
 fine_passes run full may (finishes how) plan fuel u v f gs w s h is = absurd h
 
+-- one that closed with nothing given closes with all its fuel, whatever it is given
+pub ended_closes : {S : Type 0} (run : Started → World → S → ℕ → ℕ → Reached S) (full : ℕ) (may : S → Bool) → CountsUnits run → (fact : Fact) (plan : Plan S) (gs hs : List (S → S)) (close : Close) (fuel u v : ℕ) (w : World) (s : S)
+    → IsItemPlan may fact plan → play run full plan [] full u ≡ Closes close hs fuel v w s → IsClosed (play run full plan gs full full)
+ended_closes run full may counts passes plan gs hs close fuel u v w s h is = closes run full counts plan gs full full h (omega arith)
+ended_closes run full may counts (serves number name args) (Over other x r) gs hs close fuel u v w s h is = tt
+ended_closes run full may counts (serves number name args) (Takes x r plan) gs hs close fuel u v w s h is = absurd h
+ended_closes run full may counts (serves number name args) (Awaits x r go) gs hs close fuel u v w s h is = absurd (never_both close hs fuel v 0 w x s r (sym is))
+ended_closes run full may counts (serves number name args) (Runs item start x r go) gs hs close fuel u v w s h is = absurd h
+ended_closes run full may counts (finishes how) plan gs hs close fuel u v w s h is = absurd h
+
 -- one that ends with a mismatch reports a call
 pub mismatch_serves : {S : Type 0} (run : Started → World → S → ℕ → ℕ → Reached S) (full : ℕ) (may : S → Bool) (fact : Fact) (plan : Plan S) (gs hs : List (S → S)) (fuel f u v : ℕ) (w : World) (s : S) (close : Close)
     → IsItemPlan may fact plan → play run full plan gs fuel u ≡ Closes close hs f v w s → IsMismatch close → serves_call fact ≡ true
@@ -110,6 +120,20 @@ mismatch_serves run full may passes plan gs hs fuel f u v w s close shape is mis
     absurd (well_no_mismatch close (subst N is (plain_ends_well run full plan gs fuel u shape)) mismatch)
 mismatch_serves run full may (serves number name args) plan gs hs fuel f u v w s close shape is mismatch = refl
 mismatch_serves run full may (finishes how) plan gs hs fuel f u v w s close shape is mismatch = absurd shape
+
+-- one that reports a call and ends stands where it began
+pub over_still : {S : Type 0} (run : Started → World → S → ℕ → ℕ → Reached S) (full : ℕ) (may : S → Bool) (fact : Fact) (plan : Plan S) (hs : List (S → S)) (close : Close) (fuel f u v : ℕ) (y w : World) (t s : S)
+    → serves_call fact ≡ true → IsItemPlan may fact plan → IsStill fact y t plan → play run full plan [] fuel u ≡ Closes close hs f v w s → (w ≡ y) × (s ≡ t)
+unfolding world_of page_of
+over_still run full may passes plan hs close fuel f u v y w t s call shape still is = absurd (true≢false (sym call))
+over_still run full may (serves number name args) (Over other x r) hs close fuel f u v y w t s call shape still is =
+    let world : x ≡ w = ap world_of is in
+    let page : r ≡ s = ap page_of is in
+    (sym world ∙ still.0, sym page ∙ still.1)
+over_still run full may (serves number name args) (Takes x r plan) hs close fuel f u v y w t s call shape still is = absurd shape
+over_still run full may (serves number name args) (Awaits x r go) hs close fuel f u v y w t s call shape still is = absurd (never_both close hs f v 0 w x s r (sym is))
+over_still run full may (serves number name args) (Runs item start x r go) hs close fuel f u v y w t s call shape still is = absurd shape
+over_still run full may (finishes how) plan hs close fuel f u v y w t s call shape still is = absurd shape
 
 -- THE END OF AN ITEM, after so many units and some more, of which u are left
 
@@ -123,6 +147,19 @@ finished run full counts plan gs hs close fuel q n u w s closed within is =
     let sum : whole.0 + (q + n) ≡ u + full = whole.2 in
     let most : whole.0 ≤ full = whole.3 in
     (whole.0, whole.1, omega (arith, sum, most, within))
+
+-- and so many units are left then
+pub finished_whole : {S : Type 0} (run : Started → World → S → ℕ → ℕ → Reached S) (full : ℕ) → CountsUnits run → (plan : Plan S) (gs hs : List (S → S)) (close : Close) (fuel q n u : ℕ) (w : World) (s : S)
+    → IsClosed (play run full plan gs full full) → u ≤ n → play run full plan gs full (q + (n + full)) ≡ Closes close hs fuel (u + full) w s
+    → (play run full plan gs full full ≡ Closes close hs fuel (full - (q + n - u)) w s) × (q + n - u ≤ full)
+unfolding WholeIs
+finished_whole run full counts plan gs hs close fuel q n u w s closed within is =
+    let all : full + (q + n) ≡ q + (n + full) = omega arith in
+    let whole : WholeIs _ _ _ _ _ _ _ _ _ = whole_of run full counts plan gs hs close fuel (q + n) (u + full) w s closed (ap (λ m. play run full plan gs full m) all ∙ is) in
+    let sum : whole.0 + (q + n) ≡ u + full = whole.2 in
+    let most : whole.0 ≤ full = whole.3 in
+    let left : whole.0 ≡ full - (q + n - u) = omega (arith, sum, most, within) in
+    (whole.1 ∙ ap (λ v. Closes close hs fuel v w s) left, omega (arith, sum, most, within))
 
 -- AN ITEM THAT IS CUT
 
@@ -175,6 +212,16 @@ held_world : {S : Type 0} (w x : World) (s r : S) (a b : Played S) → a ≡ Hol
 unfolding world_of page_of
 held_world w x s r a b p q e =
     let h : Holds 0 w s ≡ Holds 0 x r = sym p ∙ e ∙ q in (ap world_of h, ap page_of h)
+
+-- one that is held stands where it began
+pub held_still : {S : Type 0} (run : Started → World → S → ℕ → ℕ → Reached S) (full : ℕ) (may : S → Bool) (plan : Plan S) (fuel u : ℕ) (y w : World) (t s : S)
+    → IsCallPlan may plan → StandsStill y t plan → play run full plan [] fuel u ≡ Holds 0 w s → (w ≡ y) × (s ≡ t)
+held_still run full may (Over close x r) fuel u y w t s shape still is = absurd (never_both close [] fuel u 0 x w r s is)
+held_still run full may (Takes x r plan) fuel u y w t s shape still is = absurd shape
+held_still run full may (Awaits x r go) fuel u y w t s shape still is =
+    let same : _ × _ = held_world x w r s (Holds 0 x r) (Holds 0 w s) refl refl is in
+    (sym same.0 ∙ still.0, sym same.1 ∙ still.1)
+held_still run full may (Runs item start x r go) fuel u y w t s shape still is = absurd shape
 
 pub waiting : {S : Type 0} (run : Started → World → S → ℕ → ℕ → Reached S) (full : ℕ) (may : S → Bool) → CountsUnits run → (fact : Fact) (plan : Plan S) (some : S → S) (q n u : ℕ) (w : World) (s : S)
     → IsItemPlan may fact plan → u ≤ n → ((k : ℕ) → play run full plan [] full (q + (n + k)) ≡ Holds 0 w s) → ((k : ℕ) → AtMost (u + k) (play run full plan (some ∷ []) full (q + (n + k))))

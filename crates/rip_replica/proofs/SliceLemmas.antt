@@ -1,5 +1,5 @@
 -- A slice, turn by turn.
-use Rattle.std.proofs.Common.{◌≡◌, ℕ, ◌+◌, ◌<◌, ◌≤◌, ◌==◌, Bool, true, List, [], ◌∷◌, ◌++◌, drop, length, map, None, Some, inl, inr, if◌then◌else◌, refl, ap, sym, subst, ◌∙◌, arith, append-nil, append_assoc}
+use Rattle.std.proofs.Common.{◌≡◌, ℕ, ◌+◌, ◌-◌, ◌<◌, ◌≤◌, ◌==◌, Bool, true, List, [], ◌∷◌, ◌++◌, drop, length, map, None, Some, inl, inr, if◌then◌else◌, refl, ap, sym, subst, ◌∙◌, arith, append-nil, append_assoc}
 use Rattle.rip_wire.specs.Answers.{served_of}
 use Rattle.rip_wire.specs.Batches.{Contents}
 use Rattle.rip_wire.specs.declared.ending.Ending.TheVariants.{Memory}
@@ -15,14 +15,14 @@ use Rattle.rip_course.specs.declared.sessions.Slice.{Slice}
 use Rattle.rip_replica.specs.declared.replica.Place.{Place}
 use Rattle.rip_replica.specs.declared.replica.Place.TheVariants.{Between, Within}
 use Rattle.rip_replica.specs.declared.replica.Turn.TheVariants as turn
-use Rattle.rip_replica.specs.Parts.{Doing, items_parts, part_of}
-use Rattle.rip_replica.specs.Rooms.{HeadsCall}
+use Rattle.rip_replica.specs.Parts.{Doing, items_parts, part_of, stand_at}
+use Rattle.rip_replica.specs.Rooms.{HeadsCall, IsMismatch}
 use Rattle.rip_replica.specs.Serving.{IsServed, IsUnserved, given_to}
 use Rattle.rip_replica.specs.Slices.{AreServed, HasGone, LacksSo, Sliced}
 use Rattle.rip_replica.specs.Standing.{Ahead, AreGone, Behind, CostsMore, Further, IsCut, Spot, Stands, StartsItem, Turns, Waits, next_number}
 use Rattle.rip_replica.proofs.ServedParts.{served_call, served_quiet}
 use Rattle.rip_replica.proofs.TurnLemmas.{items_cost}
-use Rattle.rip_replica.proofs.WithinLemmas.{if_same}
+use Rattle.rip_replica.proofs.WithinLemmas.{closed_as, if_same}
 
 -- PARTS THAT ARE BEHIND
 
@@ -138,7 +138,7 @@ went_call e d may b next from base limit first service calls slice old made new 
       gone = has_on b (next_number at.place at.begun) (to.begun + 1) from base limit c first went.later later went.new_base c went.ps (p ∷ []) went.gs (g ∷ [])
           went.gone (λ bs more. waits.goes bs g more) (λ more k. refl) (refl, omega arith, refl, above, omega arith, tt) up (omega (arith, waits.count, went.count)) (if_same b c went.new_base);
       stands = record {
-        keeps = record { run = waits.keeps.run; full = waits.keeps.full; plan = waits.keeps.plan; counts = waits.keeps.counts; shapes = waits.keeps.shapes };
+        keeps = record { run = waits.keeps.run; full = waits.keeps.full; plan = waits.keeps.plan; counts = waits.keeps.counts; shapes = waits.keeps.shapes; still = waits.keeps.still };
         left = (refl, omega arith, waits.few, λ bs gs. refl, λ gs. waits.behind g gs);
         more = λ bs gs. items_cost d b to.all (to.begun + 1) c (drop to.begun to.all) gs to.world (d.serve b g to.page) (next bs) from above;
         follows = λ k a gs before is behind. waits.follows k a (g ∷ gs) before is behind;
@@ -221,6 +221,9 @@ came_ends e d may b next from base limit first service calls slice old made at t
         above = above;
         new_base = went.new_base;
         gone = has_as b (next_number at.place at.begun) from base limit first went.later (record { parts = λ bs hs. part_of b to.begun ends.0 (finishes (Some (d.ending to.all close to.page))) ∷ []; behind = λ hs k. first.behind (went.gs ++ hs) k }) went.new_base went.ps went.gs ends.3 (λ more k. sym (went.gone.behind more k)) went.gone;
+        close = close;
+        told = refl;
+        closed = closed_as d b to.all to.all to.begun went.new_base ends.0 close went.later.behind (λ hs k. first.behind (went.gs ++ hs) k) to.world to.page refl went.gone.behind ends.5;
       });
       served = went.served;
     }
@@ -230,8 +233,9 @@ short : {M A S Roomed : Type 0} (e : Evaluation M S) (d : Doing A S) (may : S �
     (at to : Spot M A S) (left : ℕ) (Replies : List Called → Type 0) (went : Went e d may b next from base limit first service calls slice old at left made Replies)
     → at.place ≡ Within → to.begun ≡ at.begun → went.new_base < limit → ((bs : List Contents) (hs : List Given) → StartsItem b to.begun went.new_base (went.later.parts bs hs))
     → (Roomed → (bs : List Contents) (hs : List Given) → HeadsCall (went.later.parts bs hs))
-    → LacksSo Roomed b from base limit first went.ps went.gs (Memory to.begun)
-short e d may b next from base limit first service calls slice old made at to left Replies went within same taken starts call = record {
+    → (Roomed → (hs : List Given) → went.later.behind hs (to.begun - 1) ≡ Some (stand_at went.new_base hs to.world to.page))
+    → LacksSo Roomed b from base limit first went.ps went.gs (Memory to.begun) to.world to.page
+short e d may b next from base limit first service calls slice old made at to left Replies went within same taken starts call stays = record {
   number = to.begun;
   is = refl;
   later = went.later;
@@ -240,6 +244,7 @@ short e d may b next from base limit first service calls slice old made at to le
   gone = under_way b from base limit first went.later went.new_base went.ps went.gs at.place at.begun to.begun within same went.gone;
   starts = starts;
   call = call;
+  stays = λ h hs. went.gone.behind hs (to.begun - 1) ∙ stays h hs;
   more = went.stands.more;
 }
 
@@ -250,22 +255,22 @@ pub came_lacks : {M A S Roomed : Type 0} (e : Evaluation M S) (d : Doing A S) (m
 came_lacks e d may b next from base limit first service calls slice old made at to left Replies went within same lacks never = record {
   ps = went.ps;
   gs = went.gs;
-  comes = inr (short e d may b next from base limit first service calls slice old made at to left Replies went within same (omega (arith, lacks.0, went.count)) lacks.1 (λ h. absurd (never h)));
+  comes = inr (short e d may b next from base limit first service calls slice old made at to left Replies went within same (omega (arith, lacks.0, went.count)) lacks.1 (λ h. absurd (never h)) (λ h. absurd (never h)));
   served = went.served;
 }
 
 pub came_short : {M A S Roomed : Type 0} (e : Evaluation M S) (d : Doing A S) (may : S → Bool) (b : ℕ) (next : Behind S) (from base limit : ℕ) (first : Ahead S) (service : Service) (calls : List Called) (slice : Slice) (old made : Made)
     (at to : Spot M A S) (left : ℕ) (Replies : List Called → Type 0) (close : Close) (went : Went e d may b next from base limit first service calls slice old at left made Replies)
     → at.place ≡ Within → to.begun ≡ at.begun → Turns e d may b next to from went.new_base went.spent left went.later (turn.Ends close)
-    → ends_at_mismatch (Some (d.ending to.all close to.page)) ≡ true
+    → ends_at_mismatch (Some (d.ending to.all close to.page)) ≡ true → IsMismatch close
     → Sliced Roomed e d may b next to from base limit first service calls slice old made (Finished (Some (Memory to.begun))) Replies
-came_short e d may b next from base limit first service calls slice old made at to left Replies close went within same ends tells =
+came_short e d may b next from base limit first service calls slice old made at to left Replies close went within same ends tells mismatch =
     let start : (bs : List Contents) (hs : List Given) → StartsItem b to.begun went.new_base (went.later.parts bs hs) = λ bs hs.
     (let T : List Part → Type 0 = λ ps. StartsItem b to.begun went.new_base ps in subst T (sym (ends.3 bs hs)) (refl, refl, ends.2)) in
     record {
       ps = went.ps;
       gs = went.gs;
-      comes = inr (short e d may b next from base limit first service calls slice old made at to left Replies went within same (omega (arith, ends.1, ends.2, went.count)) start (λ h bs hs. subst HeadsCall (sym (ends.3 bs hs)) tells));
+      comes = inr (short e d may b next from base limit first service calls slice old made at to left Replies went within same (omega (arith, ends.1, ends.2, went.count)) start (λ h bs hs. subst HeadsCall (sym (ends.3 bs hs)) tells) (λ h. ends.6 mismatch));
       served = went.served;
     }
 
@@ -277,7 +282,7 @@ pub came_unserved : {M A S Roomed : Type 0} (e : Evaluation M S) (d : Doing A S)
 came_unserved e d may b next from base limit first service calls slice old made new at to left u Before Replies went within same waits unserved = record {
   ps = went.ps;
   gs = went.gs;
-  comes = inr (short e d may b next from base limit first service calls slice old made at to left Before went within same (omega (arith, waits.count, went.count)) waits.starts (λ h. waits.tells));
+  comes = inr (short e d may b next from base limit first service calls slice old made at to left Before went within same (omega (arith, waits.count, went.count)) waits.starts (λ h. waits.tells) (λ h. waits.stays));
   served = record {
     replied = went.served.replied;
     replies = unserved.replies;

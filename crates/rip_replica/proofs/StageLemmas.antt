@@ -18,6 +18,8 @@ use Rattle.rip_course.specs.declared.sessions.Progress.TheVariants.{Busy, Finish
 use Rattle.rip_course.specs.declared.sessions.Slice.{Slice}
 use Rattle.rip_replica.specs.declared.replica.Place.{Place}
 use Rattle.rip_replica.specs.declared.replica.Place.TheVariants.{First, Between, Within, Idle}
+use Rattle.rip_replica.specs.Cuts.{StandsEnded}
+use Rattle.rip_replica.specs.Numbers.{StandsIdleSo}
 use Rattle.rip_replica.specs.Parts.{Doing, after_item, first_given, is_fine, items_parts, last_items, meaning_of, part_of, session_behind, session_parts, whole_item}
 use Rattle.rip_replica.specs.Plays.{CountsUnits, IsItemPlan}
 use Rattle.rip_replica.specs.Rooms.{HeadsCall}
@@ -27,6 +29,7 @@ use Rattle.rip_replica.specs.Standing.{Ahead, AreGone, Behind, CostsMore, Left, 
 use Rattle.rip_replica.proofs.ItemLemmas.{item_closes}
 use Rattle.rip_replica.proofs.ServedParts.{served_last}
 use Rattle.rip_replica.proofs.TurnLemmas.{after_starts}
+use Rattle.rip_replica.proofs.WithinLemmas.{closed_as}
 
 -- BOOLEANS
 
@@ -282,10 +285,10 @@ behind_last b n u ps item cost how h less le = behind_append b n u ps (part_of b
 
 pub resumed_done : {M A S Roomed : Type 0} (e : Evaluation M S) (doing : ℕ → ℕ → Doing A S) (may : S → Bool) (at to : Spot M A S) (st : Stage) (service : Service) (calls : List Called) (slice : Slice) (old new : Made) (Replies : List Called → Type 0)
     (busy : IsBusy e (doing st.seed st.time) may at st)
-    → Sliced Roomed e (doing st.seed st.time) may (length st.batches) (behind_batch (doing st.seed st.time) (length st.batches)) to st.units busy.base (st.units + slice.units) busy.ahead service calls slice old new (Finished None) Replies → to.all ≡ at.all
+    → Sliced Roomed e (doing st.seed st.time) may (length st.batches) (behind_batch (doing st.seed st.time) (length st.batches)) to st.units busy.base (st.units + slice.units) busy.ahead service calls slice old new (Finished None) Replies → to.all ≡ at.all → to.place ≡ Idle
     → Resumed (meaning_of doing) st service calls slice old new (Finished None) (IsAt e doing may to) Replies
 unfolding HeadsBatch
-resumed_done e doing may at to st service calls slice old new Replies busy sliced same =
+resumed_done e doing may at to st service calls slice old new Replies busy sliced same idle =
     let d : Doing _ _ = doing st.seed st.time in
     let b : ℕ = length st.batches in
     let comes : DoneSo _ _ _ _ _ _ _ _ _ _ _ _ = sliced.comes in
@@ -337,6 +340,7 @@ resumed_done e doing may at to st service calls slice old new Replies busy slice
             ∙ any_append (λ (q : Part). ends_session q.fact) sliced.ps (last ∷ []) ∙ ap (λ x. x || false) (gone_lives b comes.number st.units limit sliced.ps comes.gone.gone);
         none = busy.none;
         keeps = comes.keeps;
+        place = idle;
       }));
       replied = served.replied;
       replies = served.replies;
@@ -347,10 +351,11 @@ resumed_done e doing may at to st service calls slice old new Replies busy slice
 
 pub resumed_ends : {M A S : Type 0} (e : Evaluation M S) (doing : ℕ → ℕ → Doing A S) (may : S → Bool) (at to : Spot M A S) (st : Stage) (service : Service) (calls : List Called) (slice : Slice) (old new : Made) (Replies : List Called → Type 0)
     (how : Ending) (busy : IsBusy e (doing st.seed st.time) may at st) (ps : List Part) (gs : List Given)
-    → EndsSo (length st.batches) st.units busy.base (st.units + slice.units) busy.ahead ps gs how → AreServed service calls slice old new Replies ps gs
+    → EndsSo (doing st.seed st.time) (length st.batches) to.all st.units busy.base (st.units + slice.units) busy.ahead ps gs how to.world to.page
+    → AreServed service calls slice old new Replies ps gs → to.all ≡ at.all → to.place ≡ Idle
     → Resumed (meaning_of doing) st service calls slice old new (Finished (Some how)) (IsAt e doing may to) Replies
 unfolding HeadsBatch
-resumed_ends e doing may at to st service calls slice old new Replies how busy qs gs comes was =
+resumed_ends e doing may at to st service calls slice old new Replies how busy qs gs comes was same idle =
     let d : Doing _ _ = doing st.seed st.time in
     let b : ℕ = length st.batches in
     let st' : Stage = went_to st gs slice.units in
@@ -369,6 +374,8 @@ resumed_ends e doing may at to st service calls slice old new Replies how busy q
     let done : finishes_batch b ps ≡ true = last_unfinished b comes.number st.units limit qs last comes.gone.gone refl refl in
     let ended : has_ended ps ≡ true = any_append (λ (q : Part). ends_session q.fact) qs (last ∷ []) ∙ or_true (has_ended qs) in
     let now : parts_at (meaning_of doing) st' ≡ earlier = parts_of_stage doing st' n earlier [] busy.none (whole [] []) behind tt tt in
+    let E : Option Lacking → Type 0 = λ o. StandsEnded d st.batches (st.given ++ gs) o to.world to.page in
+    let all : to.all ≡ last_items d st.batches = same ∙ busy.all in
     record {
       parts = ps;
       given = gs;
@@ -389,6 +396,19 @@ resumed_ends e doing may at to st service calls slice old new Replies how busy q
       stands = inr (inr (record {
         done = ap (λ xs. finishes_batch b xs) now ∙ any_append (λ (q : Part). q.batch == b && ends_batch q.fact) busy.earlier ps ∙ or_last (finishes_batch b busy.earlier) (finishes_batch b ps) done;
         ended = ap (λ xs. has_ended xs) now ∙ any_append (λ (q : Part). ends_session q.fact) busy.earlier ps ∙ or_last (has_ended busy.earlier) (has_ended ps) ended;
+        place = idle;
+        stands = subst E (sym busy.none) (record {
+          number = comes.item;
+          base = comes.new_base;
+          cost = comes.cost;
+          close = comes.close;
+          earlier = busy.earlier ++ qs;
+          closed = closed_as d b to.all (last_items d st.batches) comes.item comes.new_base comes.cost comes.close (λ hs k. busy.ahead.behind (gs ++ hs) k) (λ hs k. session_behind d st.batches ((st.given ++ gs) ++ hs) k) to.world to.page
+              all (λ hs k. ap (λ xs. session_behind d st.batches xs k) (append_assoc st.given gs hs) ∙ busy.behind (gs ++ hs) k) comes.closed;
+          whole = λ bs hs.
+              whole_on d st busy.earlier qs busy.ahead.parts (λ bs hs. last ∷ []) gs busy.whole comes.gone.goes bs hs
+              ∙ ap (λ h. (busy.earlier ++ qs) ++ part_of b comes.item comes.cost (finishes (Some h)) ∷ []) (comes.told ∙ ap (λ xs. d.ending xs comes.close to.page) all);
+        });
       }));
       replied = served.replied;
       replies = served.replies;
@@ -430,11 +450,11 @@ split b n base from (p ∷ rest) starts above = (p, rest, refl, starts.0, starts
 
 pub resumed_lacks : {M A S Roomed : Type 0} (e : Evaluation M S) (doing : ℕ → ℕ → Doing A S) (may : S → Bool) (at to : Spot M A S) (st : Stage) (service : Service) (calls : List Called) (slice : Slice) (old new : Made) (Replies : List Called → Type 0)
     (how : Ending) (busy : IsBusy e (doing st.seed st.time) may at st) (qs : List Part) (gs : List Given)
-    (comes : LacksSo Roomed (length st.batches) st.units busy.base (st.units + slice.units) busy.ahead qs gs how) → AreServed service calls slice old new Replies qs gs
-    → 1 ≤ slice.units → next_number at.place at.begun ≤ comes.number → Roomed
+    (comes : LacksSo Roomed (length st.batches) st.units busy.base (st.units + slice.units) busy.ahead qs gs how to.world to.page) → AreServed service calls slice old new Replies qs gs
+    → 1 ≤ slice.units → next_number at.place at.begun ≤ comes.number → Roomed → to.place ≡ Idle
     → Resumed (meaning_of doing) st service calls slice old new (Finished (Some how)) (IsAt e doing may to) Replies
 unfolding HeadsBatch
-resumed_lacks e doing may at to st service calls slice old new Replies how busy qs gs comes was some up roomed =
+resumed_lacks e doing may at to st service calls slice old new Replies how busy qs gs comes was some up roomed idle =
     let d : Doing _ _ = doing st.seed st.time in
     let b : ℕ = length st.batches in
     let limit : ℕ = st.units + slice.units in
@@ -506,6 +526,12 @@ resumed_lacks e doing may at to st service calls slice old new Replies how busy 
       stands = inr (inr (record {
         done = ap (λ xs. finishes_batch b xs) now ∙ any_append (λ (q : Part). q.batch == b && ends_batch q.fact) busy.earlier ps ∙ or_last (finishes_batch b busy.earlier) (finishes_batch b ps) done;
         ended = ap (λ xs. has_ended xs) now ∙ any_append (λ (q : Part). ends_session q.fact) busy.earlier ps ∙ or_last (has_ended busy.earlier) (has_ended ps) ended;
+        place = idle;
+        stands = (
+          comes.new_base,
+          λ hs.
+              ap (λ xs. session_behind d st.batches xs (comes.number - 1)) (append_assoc st.given gs hs) ∙ busy.behind (gs ++ hs) (comes.number - 1) ∙ comes.stays roomed hs,
+        );
       }));
       replied = served.replied;
       replies = served.replies;
@@ -567,24 +593,26 @@ up_of start n b from s xs (q ∷ qs) rest is head gone h =
 
 ended_so : {M A S Roomed : Type 0} (e : Evaluation M S) (doing : ℕ → ℕ → Doing A S) (may : S → Bool) (at to : Spot M A S) (st : Stage) (service : Service) (calls : List Called) (slice : Slice) (old new : Made) (Replies : List Called → Type 0)
     (how : Ending) (busy : IsBusy e (doing st.seed st.time) may at st) (qs : List Part) (gs : List Given)
-    → EndsSo (length st.batches) st.units busy.base (st.units + slice.units) busy.ahead qs gs how ⊎ LacksSo Roomed (length st.batches) st.units busy.base (st.units + slice.units) busy.ahead qs gs how
-    → AreServed service calls slice old new Replies qs gs → 1 ≤ slice.units → Roomed
+    → EndsSo (doing st.seed st.time) (length st.batches) to.all st.units busy.base (st.units + slice.units) busy.ahead qs gs how to.world to.page
+    ⊎ LacksSo Roomed (length st.batches) st.units busy.base (st.units + slice.units) busy.ahead qs gs how to.world to.page
+    → AreServed service calls slice old new Replies qs gs → 1 ≤ slice.units → Roomed → to.all ≡ at.all → to.place ≡ Idle
     → Resumed (meaning_of doing) st service calls slice old new (Finished (Some how)) (IsAt e doing may to) Replies
-ended_so e doing may at to st service calls slice old new Replies how busy qs gs (inl ends) was some roomed = resumed_ends e doing may at to st service calls slice old new Replies how busy qs gs ends was
-ended_so e doing may at to st service calls slice old new Replies how busy qs gs (inr lacks) was some roomed =
+ended_so e doing may at to st service calls slice old new Replies how busy qs gs (inl ends) was some roomed same idle =
+    resumed_ends e doing may at to st service calls slice old new Replies how busy qs gs ends was same idle
+ended_so e doing may at to st service calls slice old new Replies how busy qs gs (inr lacks) was some roomed same idle =
     let d : Doing _ _ = doing st.seed st.time in
     let b : ℕ = length st.batches in
     resumed_lacks e doing may at to st service calls slice old new Replies how busy qs gs lacks was some
     (up_of (next_number at.place at.begun) lacks.number b st.units (st.units + slice.units) (busy.ahead.parts [] (gs ++ [])) qs (lacks.later.parts [] []) (lacks.gone.goes [] [])
     (left_has e d may b (behind_batch d b) at at.place busy.base st.units busy.ahead busy.stands.keeps.counts busy.stands.keeps.shapes busy.stands.left [] (gs ++ []))
-    lacks.gone.gone (starts_head b lacks.number lacks.new_base (lacks.later.parts [] []) (lacks.starts [] []))) roomed
+    lacks.gone.gone (starts_head b lacks.number lacks.new_base (lacks.later.parts [] []) (lacks.starts [] []))) roomed idle
 
 pub resumed : {M A S Roomed : Type 0} (e : Evaluation M S) (doing : ℕ → ℕ → Doing A S) (may : S → Bool) (at to : Spot M A S) (st : Stage) (service : Service) (calls : List Called) (slice : Slice) (old new : Made) (progress : Progress) (Replies : List Called → Type 0)
     (busy : IsBusy e (doing st.seed st.time) may at st)
     → Sliced Roomed e (doing st.seed st.time) may (length st.batches) (behind_batch (doing st.seed st.time) (length st.batches)) to st.units busy.base (st.units + slice.units) busy.ahead service calls slice old new progress Replies
-    → 1 ≤ slice.units → Roomed → to.all ≡ at.all
+    → 1 ≤ slice.units → Roomed → to.all ≡ at.all → StandsIdleSo progress to.place
     → Resumed (meaning_of doing) st service calls slice old new progress (IsAt e doing may to) Replies
-resumed e doing may at to st service calls slice old new Busy Replies busy sliced some roomed same =
+resumed e doing may at to st service calls slice old new Busy Replies busy sliced some roomed same idle =
     let d : Doing _ _ = doing st.seed st.time in
     let b : ℕ = length st.batches in
     let comes : BusySo _ _ _ _ _ _ _ _ _ _ _ _ = sliced.comes in
@@ -593,6 +621,6 @@ resumed e doing may at to st service calls slice old new Busy Replies busy slice
     (left_has e d may b (behind_batch d b) at at.place busy.base st.units busy.ahead busy.stands.keeps.counts busy.stands.keeps.shapes busy.stands.left [] (sliced.gs ++ []))
     comes.gone.gone
     (left_has e d may b (behind_batch d b) to to.place comes.new_base (st.units + slice.units) comes.later comes.stands.keeps.counts comes.stands.keeps.shapes comes.stands.left [] [])) same
-resumed e doing may at to st service calls slice old new (Finished None) Replies busy sliced some roomed same = resumed_done e doing may at to st service calls slice old new Replies busy sliced same
-resumed e doing may at to st service calls slice old new (Finished (Some how)) Replies busy sliced some roomed same =
-    ended_so e doing may at to st service calls slice old new Replies how busy sliced.ps sliced.gs sliced.comes sliced.served some roomed
+resumed e doing may at to st service calls slice old new (Finished None) Replies busy sliced some roomed same idle = resumed_done e doing may at to st service calls slice old new Replies busy sliced same idle
+resumed e doing may at to st service calls slice old new (Finished (Some how)) Replies busy sliced some roomed same idle =
+    ended_so e doing may at to st service calls slice old new Replies how busy sliced.ps sliced.gs sliced.comes sliced.served some roomed same idle

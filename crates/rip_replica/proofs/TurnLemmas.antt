@@ -134,7 +134,7 @@ first_on e d may batch next at n from base spent ahead is some stands =
       based = refl;
       count = count;
       stands = record {
-        keeps = record { run = stands.keeps.run; full = stands.keeps.full; plan = stands.keeps.plan; counts = stands.keeps.counts; shapes = stands.keeps.shapes };
+        keeps = record { run = stands.keeps.run; full = stands.keeps.full; plan = stands.keeps.plan; counts = stands.keeps.counts; shapes = stands.keeps.shapes; still = stands.keeps.still };
         left = (
           refl,
           omega (arith, left.1),
@@ -156,7 +156,7 @@ between_done e d may batch next at n from base spent ahead is all stands =
     let left : Left e d batch next at Between base spent ahead = subst L is stands.left in (
       at.begun + 1,
       omega (arith, left.0),
-      record { run = stands.keeps.run; full = stands.keeps.full; plan = stands.keeps.plan; counts = stands.keeps.counts; shapes = stands.keeps.shapes },
+      record { run = stands.keeps.run; full = stands.keeps.full; plan = stands.keeps.plan; counts = stands.keeps.counts; shapes = stands.keeps.shapes; still = stands.keeps.still },
       λ bs gs. left.3 bs gs ∙ ap (λ xs. items_parts d batch at.all (at.begun + 1) base xs gs at.world at.page (next bs)) (drop_all at.all at.begun all),
       λ gs.
           (let B : ℕ → Type 0 = λ k. ahead.behind gs k ≡ Some (stand_at base gs at.world at.page) in

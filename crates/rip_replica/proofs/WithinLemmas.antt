@@ -1,5 +1,5 @@
 -- The turns of a session within an item.
-use Rattle.std.proofs.Common.{◌≡◌, ℕ, suc, ◌+◌, ◌-◌, ◌<◌, ◌≤◌, ◌==◌, Bool, true, false, List, [], ◌∷◌, drop, length, slice_get, Some, if◌then◌else◌, refl, ap, sym, subst, ◌∙◌, arith, eq-eqb}
+use Rattle.std.proofs.Common.{◌≡◌, ℕ, suc, ◌+◌, ◌-◌, ◌<◌, ◌≤◌, ◌==◌, Bool, true, false, List, [], ◌∷◌, drop, length, slice_get, Option, Some, if◌then◌else◌, refl, ap, sym, subst, ◌∙◌, arith, eq-eqb}
 use Rattle.rip_heap.specs.World.{World}
 use Rattle.rip_wire.specs.Batches.{Contents}
 use Rattle.rip_runs.specs.declared.close.Close.{Close}
@@ -11,17 +11,17 @@ use Rattle.rip_runner.specs.Going.{Going, LeadsWith, Rests, rest, rest_in}
 use Rattle.rip_runner.specs.Going as runner
 use Rattle.rip_runner.specs.declared.runner.Rested.TheVariants as rested
 use Rattle.rip_runner.specs.Laws.{StandsAt}
-use Rattle.rip_runner.specs.Play.{Played, Closes, play}
+use Rattle.rip_runner.specs.Play.{Played, Closes, Holds, play}
 use Rattle.rip_course.specs.Parts.{Fact, passes, serves, finishes, Part, Given, tells_call}
 use Rattle.rip_replica.specs.declared.replica.Place.{Place}
 use Rattle.rip_replica.specs.declared.replica.Place.TheVariants.{Between, Within, Idle}
 use Rattle.rip_replica.specs.declared.replica.Turn.TheVariants.{On, Busy, Calls, Ends, Lacks}
-use Rattle.rip_replica.specs.Parts.{Doing, behind_item, behind_played, first_given, given_behind, is_fine, items_parts, part_of, stand_at, whole_item}
-use Rattle.rip_replica.specs.Plays.{CountsUnits, IsItemPlan}
+use Rattle.rip_replica.specs.Parts.{Doing, Stand, behind_item, behind_played, first_given, given_behind, is_fine, items_parts, part_of, stand_at, whole_item}
+use Rattle.rip_replica.specs.Plays.{CountsUnits, IsItemPlan, IsStill}
 use Rattle.rip_replica.specs.Rooms.{HeadsCall}
-use Rattle.rip_replica.specs.Standing.{Ahead, Behind, CostsMore, IsCut, IsWithin, ItemsFollow, Keeps, Left, Spot, Stands, StartsItem, Turns, Waits, item_play, place_behind, plan_of, turn_behind}
+use Rattle.rip_replica.specs.Standing.{Ahead, Behind, ClosedIn, CostsMore, IsCut, IsWithin, ItemsFollow, Keeps, Left, Spot, Stands, StartsItem, Turns, Waits, item_play, place_behind, plan_of, turn_behind}
 use Rattle.rip_replica.proofs.PlayLemmas.{AtMost, play_at_most}
-use Rattle.rip_replica.proofs.ItemLemmas.{IsWaiting, cut, fine_passes, finished, item_closes, mismatch_serves, waiting}
+use Rattle.rip_replica.proofs.ItemLemmas.{IsWaiting, cut, ended_closes, fine_passes, finished, finished_whole, held_still, item_closes, mismatch_serves, over_still, waiting}
 use Rattle.rip_replica.proofs.TurnLemmas.{after_ended, after_fine, after_starts, cut_costs, drop_more, items_cost, stands_from}
 
 -- the same batch with another runner, place, world and page
@@ -45,6 +45,7 @@ keeps_moved e d may batch at r place w s kept keeps = record {
   plan = keeps.plan;
   counts = keeps.counts;
   shapes = keeps.shapes;
+  still = keeps.still;
 }
 
 -- the next item begins
@@ -82,7 +83,7 @@ item_begun e d may batch next at n from base spent ahead ip under is less some s
       based = refl;
       count = omega (arith, some);
       stands = record {
-        keeps = record { run = stands.keeps.run; full = stands.keeps.full; plan = same-ip ∙ stands.keeps.plan; counts = stands.keeps.counts; shapes = stands.keeps.shapes };
+        keeps = record { run = stands.keeps.run; full = stands.keeps.full; plan = same-ip ∙ stands.keeps.plan; counts = stands.keeps.counts; shapes = stands.keeps.shapes; still = stands.keeps.still };
         left = record {
           item = item.0;
           world = w;
@@ -188,10 +189,11 @@ waits_by : {M A S : Type 0} (e : Evaluation M S) (d : Doing A S) (may : S → Bo
     (r : Going M S) (x : World) (t : S) (left : IsWithin e d batch next at base spent ahead) (fact : Fact)
     → runner.Keeps e at.going r → Stands e d may batch next at from base spent ahead → d.fact left.item ≡ fact
     → IsWaiting d.run d.full may fact (d.plan batch left.item at.begun left.world left.page) left.units n u x t
+    → item_play d batch left.item at.begun left.world left.page [] (left.units + (n + 0)) ≡ Holds 0 x t
     → Waits e d may batch next (moved at r at.place x t) from base spent n u ahead
 unfolding IsWaiting
-waits_by e d may batch next at n u from base spent ahead r x t left passes kept stands fact h = absurd h
-waits_by e d may batch next at n u from base spent ahead r x t left (serves number name args) kept stands fact h =
+waits_by e d may batch next at n u from base spent ahead r x t left passes kept stands fact h held = absurd h
+waits_by e d may batch next at n u from base spent ahead r x t left (serves number name args) kept stands fact h held =
     let run : _ = d.run in
     let plan : Plan _ = d.plan batch left.item at.begun left.world left.page in
     let goes : (bs : List Contents) (g : Given) (gs : List Given) → ahead.parts bs (g ∷ gs) ≡ part_of batch at.begun (base + 1) (serves number name args)
@@ -211,6 +213,11 @@ waits_by e d may batch next at n u from base spent ahead r x t left (serves numb
     ∙ after_fine d batch at.all at.begun base left.item (whole_item d batch left.item at.begun left.world left.page (first_given gs))
     (λ c y z. items_parts d batch at.all (at.begun + 1) c (drop at.begun at.all) (given_behind (d.fact left.item) gs) y z (next bs))
     [] d.full d.full (base + 1) x (d.serve batch (first_given gs) t) (h.3 (d.serve batch (first_given gs))) counted) in
+    let I : Fact → Type 0 = λ f. IsItemPlan may f plan in
+    let K : Fact → Type 0 = λ f. IsStill f left.world left.page plan in
+    let still : (x ≡ left.world) × (t ≡ left.page) =
+    held_still run d.full may plan d.full (left.units + (n + 0)) left.world x left.page t
+    (subst I fact (stands.keeps.shapes left.item at.begun left.world left.page)) (subst K fact (stands.keeps.still left.item at.begun left.world left.page)) held in
     let C : List Part → Type 0 = λ ps. CostsMore from ps in
     let above : from < base + 1 = subst C (goes [] (first_given []) []) (stands.more [] (first_given [] ∷ [])) in
     record {
@@ -226,6 +233,7 @@ waits_by e d may batch next at n u from base spent ahead r x t left (serves numb
       may_serve = h.0;
       count = omega (arith, left.count, h.1, h.2);
       from_base = omega (arith, above);
+      stays = λ gs. left.began gs ∙ ap (λ y. Some (stand_at base gs y left.page)) (sym still.0) ∙ ap (λ q. Some (stand_at base gs x q)) (sym still.1);
       goes = goes;
       behind = λ g gs.
           (let counted : base + 1 + (d.full - d.full) ≡ base + 1 = omega arith in
@@ -239,7 +247,7 @@ waits_by e d may batch next at n u from base spent ahead r x t left (serves numb
           (item_closes d.run d.full may stands.keeps.counts (d.fact left.item) plan (d.serve batch (first_given gs)) (stands.keeps.shapes left.item at.begun left.world left.page))));
       tells = λ bs gs. subst HeadsCall (sym (told bs gs)) (ap tells_call fact);
     }
-waits_by e d may batch next at n u from base spent ahead r x t left (finishes how) kept stands fact h = absurd h
+waits_by e d may batch next at n u from base spent ahead r x t left (finishes how) kept stands fact h held = absurd h
 
 pub within_awaits : {M A S : Type 0} (e : Evaluation M S) (d : Doing A S) (may : S → Bool) (batch : ℕ) (next : Behind S) (at : Spot M A S) (n u from base spent : ℕ) (ahead : Ahead S)
     (r : Going M S) (x : World) (t : S) → at.place ≡ Within → runner.Keeps e at.going r → Rests e [] at.going at.world at.page n r x t (rested.Awaits u) → u ≤ n
@@ -252,12 +260,14 @@ within_awaits e d may batch next at n u from base spent ahead r x t is kept rest
     leads_play e d batch left.item at.begun left.world at.world x left.page at.page t left.units n u at.going r left.stands rests.1 in
     let R : _ → Type 0 = λ run. CountsUnits run in
     let counts : CountsUnits (e.run r.evaluator) = subst R (sym (kept.0 ∙ stands.keeps.run)) stands.keeps.counts in
+    let held : (k : ℕ) → item_play d batch left.item at.begun left.world left.page [] (left.units + (n + k)) ≡ Holds 0 x t =
+    λ k. sym (leads [] k) ∙ ap (λ phase. rest_in e r phase x t [] (u + k)) rests.0 in
     waits_by e d may batch next at n u from base spent ahead r x t left (d.fact left.item) kept stands refl
     (waiting d.run d.full may stands.keeps.counts (d.fact left.item) plan (λ y. y) left.units n u x t (stands.keeps.shapes left.item at.begun left.world left.page) within
-    (λ k. sym (leads [] k) ∙ ap (λ phase. rest_in e r phase x t [] (u + k)) rests.0)
+    held
     (λ k. (let A : Played _ → Type 0 = λ p. AtMost (u + k) p in
     subst A (leads ((λ y. y) ∷ []) k)
-    (subst A (sym (ap (λ phase. rest_in e r phase x t ((λ y. y) ∷ []) (u + k)) rests.0)) (play_at_most (e.run r.evaluator) r.full counts (r.plan x t) [] r.fuel (u + k))))))
+    (subst A (sym (ap (λ phase. rest_in e r phase x t ((λ y. y) ∷ []) (u + k)) rests.0)) (play_at_most (e.run r.evaluator) r.full counts (r.plan x t) [] r.fuel (u + k)))))) (held 0)
 
 -- an item that is over
 over_play : {M A S : Type 0} (e : Evaluation M S) (d : Doing A S) (batch : ℕ) (item : A) (begun : ℕ) (world w x : World) (page s t : S) (q n u : ℕ) (r r' : Going M S) (close : Close)
@@ -324,6 +334,23 @@ within_fine e d may batch next at n u from base spent ahead r x t is kept rests 
       };
     }
 
+-- an item of these that ends the session, told of the same items, and by another tale of where the session stands
+pub closed_as : {A S : Type 0} (d : Doing A S) (batch : ℕ) (all items : List A) (number base cost : ℕ) (close : Close) (from to : List Given → ℕ → Option (Stand S)) (w : World) (s : S)
+    → all ≡ items → ((gs : List Given) (k : ℕ) → to gs k ≡ from gs k) → ClosedIn d batch all number base cost close from w s → ClosedIn d batch items number base cost close to w s
+closed_as d batch all items number base cost close from to w s same told h = record {
+  item = h.item;
+  world = h.world;
+  page = h.page;
+  fuel = h.fuel;
+  units = h.units;
+  ends = h.ends;
+  is = ap (λ xs. slice_get xs (number - 1)) (sym same) ∙ h.is;
+  one = h.one;
+  began = λ gs. told gs (number - 1) ∙ h.began gs;
+  count = h.count;
+  closes = h.closes;
+}
+
 pub within_ended : {M A S : Type 0} (e : Evaluation M S) (d : Doing A S) (may : S → Bool) (batch : ℕ) (next : Behind S) (at : Spot M A S) (n u from base spent : ℕ) (ahead : Ahead S)
     (r : Going M S) (x : World) (t : S) (close : Close) (place : Place) → at.place ≡ Within → runner.Keeps e at.going r → Rests e [] at.going at.world at.page n r x t (rested.Finished close u) → u ≤ n → is_fine close ≡ false
     → Stands e d may batch next at from base spent ahead → Turns e d may batch next (moved at r place x t) from base spent n ahead (Ends close)
@@ -334,7 +361,11 @@ within_ended e d may batch next at n u from base spent ahead r x t close place i
     let shape : IsItemPlan may (d.fact left.item) plan = stands.keeps.shapes left.item at.begun left.world left.page in
     let over : (gs : List _) (k : ℕ) → item_play d batch left.item at.begun left.world left.page gs (left.units + (n + k)) ≡ Closes close gs r.fuel (u + k) x t =
     over_play e d batch left.item at.begun left.world at.world x left.page at.page t left.units n u at.going r close left.stands rests in
-    let c : ℕ = base + 1 + (left.units + n - u) in (
+    let c : ℕ = base + 1 + (left.units + n - u) in
+    let over_whole : (gs : List _) → (play d.run d.full plan gs d.full d.full ≡ Closes close gs r.fuel (d.full - (left.units + n - u)) x t) × (left.units + n - u ≤ d.full) = λ gs.
+    finished_whole d.run d.full stands.keeps.counts plan gs gs close r.fuel left.units n u x t
+    (ended_closes d.run d.full may stands.keeps.counts (d.fact left.item) plan gs [] close r.fuel (left.units + (n + 0)) (u + 0) x t shape (over [] 0)) within (over gs d.full) in
+    let most : left.units + n - u ≤ d.full = (over_whole []).1 in (
       c,
       omega (arith, left.count),
       omega arith,
@@ -348,6 +379,25 @@ within_ended e d may batch next at n u from base spent ahead r x t close place i
           (λ k y z. items_parts d batch at.all (at.begun + 1) k (drop at.begun at.all) (given_behind (d.fact left.item) gs) y z (next bs))
           close (change ∷ []) r.fuel whole.0 c x t whole.1 ends (ap (λ m. base + 1 + m) whole.2)),
       λ mismatch. (left.one, left.item, left.is, mismatch_serves d.run d.full may (d.fact left.item) plan [] [] d.full r.fuel (left.units + (n + 0)) (u + 0) x t close shape (over [] 0) mismatch),
+      record {
+        item = left.item;
+        world = left.world;
+        page = left.page;
+        fuel = r.fuel;
+        units = d.full - (left.units + n - u);
+        ends = ends;
+        is = left.is;
+        one = left.one;
+        began = left.began;
+        count = omega (arith, most);
+        closes = λ changes. (over_whole changes).0;
+      },
+      λ mismatch gs.
+          (let still : (x ≡ left.world) × (t ≡ left.page) =
+          over_still d.run d.full may (d.fact left.item) plan [] close d.full r.fuel (left.units + (n + 0)) (u + 0) left.world x left.page t
+          (mismatch_serves d.run d.full may (d.fact left.item) plan [] [] d.full r.fuel (left.units + (n + 0)) (u + 0) x t close shape (over [] 0) mismatch)
+          shape (stands.keeps.still left.item at.begun left.world left.page) (over [] 0) in
+          left.began gs ∙ ap (λ y. Some (stand_at base gs y left.page)) (sym still.0) ∙ ap (λ q. Some (stand_at base gs x q)) (sym still.1)),
     )
 
 pub within_lacks : {M A S : Type 0} (e : Evaluation M S) (d : Doing A S) (may : S → Bool) (batch : ℕ) (next : Behind S) (at : Spot M A S) (n from base spent : ℕ) (ahead : Ahead S)

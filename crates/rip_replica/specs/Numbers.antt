@@ -38,20 +38,19 @@ HasNumberSo progress.Busy old new = new ≡ old
 HasNumberSo (progress.Finished None) old new = new ≡ old
 HasNumberSo (progress.Finished (Some how)) old new = Unit {0}
 
--- a session whose batch is done stands at no batch
+-- a session whose batch is done, or that has ended, stands at no batch
 abbrev pub StandsIdle : Turn → Place → Type 0
 StandsIdle (On u) place = Unit {0}
 StandsIdle Busy place = Unit {0}
 StandsIdle (Calls u) place = Unit {0}
 StandsIdle Done place = place ≡ Idle
-StandsIdle (Ends close) place = Unit {0}
-StandsIdle Lacks place = Unit {0}
+StandsIdle (Ends close) place = place ≡ Idle
+StandsIdle Lacks place = place ≡ Idle
 
 -- the same after a slice
 abbrev pub StandsIdleSo : Progress → Place → Type 0
 StandsIdleSo progress.Busy place = Unit {0}
-StandsIdleSo (progress.Finished None) place = place ≡ Idle
-StandsIdleSo (progress.Finished (Some how)) place = Unit {0}
+StandsIdleSo (progress.Finished how) place = place ≡ Idle
 
 -- what is open at a place in a batch, where a run that stands has so much open: only within an item there is any
 abbrev pub open_at : Place → ℕ → ℕ

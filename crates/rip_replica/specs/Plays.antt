@@ -50,6 +50,19 @@ IsItemPlan may passes plan = IsPlain plan
 IsItemPlan may (serves number name args) plan = IsCallPlan may plan
 IsItemPlan may (finishes how) plan = ⊥
 
+-- a plan that waits, or is over, does so in this world and with this page
+abbrev pub StandsStill : {S : Type 0} → World → S → Plan S → Type 0
+StandsStill w s (Over close x r) = (x ≡ w) × (r ≡ s)
+StandsStill w s (Takes x r plan) = Unit {0}
+StandsStill w s (Awaits x r go) = (x ≡ w) × (r ≡ s)
+StandsStill w s (Runs item start x r go) = Unit {0}
+
+-- a call that begins in this world and with this page changes neither before it is served
+abbrev pub IsStill : {S : Type 0} → Fact → World → S → Plan S → Type 0
+IsStill passes w s plan = Unit {0}
+IsStill (serves number name args) w s plan = StandsStill w s plan
+IsStill (finishes how) w s plan = Unit {0}
+
 -- runs of rows with fuel leave no more units than they had, and one that is cut wants more
 abbrev pub RunsWant : Type 0 → Type 0
 RunsWant S = (h : Calling S) (t : Table) (depth room : ℕ) (row : Row) (s : S) (fuel u k : ℕ)

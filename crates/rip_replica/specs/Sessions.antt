@@ -5,6 +5,8 @@ use Rattle.rip_runs.specs.Evaluation.{Evaluation}
 use Rattle.rip_course.specs.Parts.{Part, Given, Meaning, has_ended}
 use Rattle.rip_course.specs.Parts as parts
 use Rattle.rip_course.specs.Stages.{Stage, finishes_batch, is_done, is_ended}
+use Rattle.rip_replica.specs.declared.replica.Place.TheVariants.{Idle}
+use Rattle.rip_replica.specs.Cuts.{StandsEnded}
 use Rattle.rip_replica.specs.Parts.{Doing, last_items, later_parts, meaning_of, session_behind, session_parts, stand_at}
 use Rattle.rip_replica.specs.Standing.{Ahead, Behind, IsCut, Keeps, Spot, Stands, next_number}
 
@@ -47,13 +49,16 @@ pub record IsIdle {M A S : Type 0} (e : Evaluation M S) (d : Doing A S) (may : S
   pub lives : has_ended earlier ≡ false
   pub none : st.lacking ≡ None
   pub keeps : Keeps e d may (length st.batches) at
+  pub place : at.place ≡ Idle
 
--- it has ended
-pub record HasEnded (m : Meaning) (st : Stage) : Type 0 where
+-- it has ended, and stands where it was left
+pub record HasEnded {M A S : Type 0} (m : Meaning) (d : Doing A S) (at : Spot M A S) (st : Stage) : Type 0 where
   pub done : is_done m st ≡ true
   pub ended : is_ended m st ≡ true
+  pub place : at.place ≡ Idle
+  pub stands : StandsEnded d st.batches st.given st.lacking at.world at.page
 
 -- a session stands at a stage, where each session does this from its seed and time on
 abbrev pub IsAt : {M A S : Type 0} → Evaluation M S → (ℕ → ℕ → Doing A S) → (S → Bool) → Spot M A S → Stage → Type 0
 IsAt e doing may at st =
-    IsBusy e (doing st.seed st.time) may at st ⊎ (IsIdle e (doing st.seed st.time) may at st ⊎ HasEnded (meaning_of doing) st)
+    IsBusy e (doing st.seed st.time) may at st ⊎ (IsIdle e (doing st.seed st.time) may at st ⊎ HasEnded (meaning_of doing) (doing st.seed st.time) at st)

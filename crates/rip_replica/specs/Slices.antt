@@ -1,5 +1,6 @@
 -- What a slice of a session comes to.
-use Rattle.std.specs.Prelude.{◌≡◌, ◌⊎◌, ℕ, ◌+◌, ◌<◌, ◌≤◌, Bool, List, [], ◌∷◌, ◌++◌, length, map, None, Some}
+use Rattle.std.specs.Prelude.{◌≡◌, ◌⊎◌, ℕ, ◌+◌, ◌-◌, ◌<◌, ◌≤◌, Bool, List, [], ◌∷◌, ◌++◌, length, map, None, Some}
+use Rattle.rip_heap.specs.World.{World}
 use Rattle.rip_wire.specs.Answers.{served_of}
 use Rattle.rip_wire.specs.Batches.{Contents}
 use Rattle.rip_wire.specs.declared.ending.Ending.{Ending}
@@ -16,7 +17,7 @@ use Rattle.rip_course.specs.declared.sessions.Progress.TheVariants.{Busy, Finish
 use Rattle.rip_course.specs.declared.sessions.Slice.{Slice}
 use Rattle.rip_replica.specs.Parts.{Doing, part_of, stand_at}
 use Rattle.rip_replica.specs.Rooms.{HeadsCall}
-use Rattle.rip_replica.specs.Standing.{Ahead, AreGone, Behind, CostsMore, IsCut, Keeps, Spot, Stands, StartsItem, next_number}
+use Rattle.rip_replica.specs.Standing.{Ahead, AreGone, Behind, ClosedIn, CostsMore, IsCut, Keeps, Spot, Stands, StartsItem, next_number}
 
 -- the served calls of these parts, each with what it was given, are told in entries and answers, and the service replies as
 -- after them
@@ -34,8 +35,9 @@ pub record HasGone {S : Type 0} (batch number from base limit : ℕ) (old new : 
   pub gone : AreGone batch number from limit ps
   pub based : parts.spent batch ps base ≡ new-base
 
--- the item under way ends the session so
-pub record EndsSo {S : Type 0} (batch from base limit : ℕ) (ahead : Ahead S) (ps : List Part) (gs : List Given) (how : Ending) : Type 0 where
+-- an item of these ends the session so: it was played whole, and closed in this world and with this page
+pub record EndsSo {A S : Type 0} (d : Doing A S) (batch : ℕ) (all : List A) (from base limit : ℕ) (ahead : Ahead S) (ps : List Part) (gs : List Given) (how : Ending)
+    (w : World) (s : S) : Type 0 where
   pub number : ℕ
   pub item : ℕ
   pub cost : ℕ
@@ -43,10 +45,14 @@ pub record EndsSo {S : Type 0} (batch from base limit : ℕ) (ahead : Ahead S) (
   pub above : from < cost
   pub new_base : ℕ
   pub gone : HasGone batch number from base limit ahead (record { parts = λ bs hs. part_of batch item cost (finishes (Some how)) ∷ []; behind = λ hs k. ahead.behind (gs ++ hs) k }) new_base ps gs
+  pub close : Close
+  pub told : how ≡ d.ending all close s
+  pub closed : ClosedIn d batch all item new_base cost close (λ hs k. ahead.behind (gs ++ hs) k) w s
 
 -- memory is wanting in the item of this number, after the first of its units; of a session that has its rooms that item
--- reports a call
-pub record LacksSo {S : Type 0} (Roomed : Type 0) (batch from base limit : ℕ) (ahead : Ahead S) (ps : List Part) (gs : List Given) (how : Ending) : Type 0 where
+-- reports a call, and the world and the page are those before it
+pub record LacksSo {S : Type 0} (Roomed : Type 0) (batch from base limit : ℕ) (ahead : Ahead S) (ps : List Part) (gs : List Given) (how : Ending)
+    (w : World) (s : S) : Type 0 where
   pub number : ℕ
   pub is : how ≡ Memory number
   pub later : Ahead S
@@ -55,6 +61,7 @@ pub record LacksSo {S : Type 0} (Roomed : Type 0) (batch from base limit : ℕ) 
   pub gone : HasGone batch number from base limit ahead later new_base ps gs
   pub starts : (bs : List Contents) (hs : List Given) → StartsItem batch number new_base (later.parts bs hs)
   pub call : Roomed → (bs : List Contents) (hs : List Given) → HeadsCall (later.parts bs hs)
+  pub stays : Roomed → (hs : List Given) → ahead.behind (gs ++ hs) (number - 1) ≡ Some (stand_at new_base hs w s)
   pub more : (bs : List Contents) (hs : List Given) → CostsMore from (later.parts bs hs)
 
 -- its batch is done
@@ -84,7 +91,7 @@ abbrev pub Comes : {M A S : Type 0} → Type 0 → Evaluation M S → Doing A S 
 Comes Roomed e d may batch next at from base limit ahead ps gs Busy = BusySo e d may batch next at from base limit ahead ps gs
 Comes Roomed e d may batch next at from base limit ahead ps gs (Finished None) = DoneSo e d may batch next at from base limit ahead ps gs
 Comes Roomed e d may batch next at from base limit ahead ps gs (Finished (Some how)) =
-    EndsSo batch from base limit ahead ps gs how ⊎ LacksSo Roomed batch from base limit ahead ps gs how
+    EndsSo d batch at.all from base limit ahead ps gs how at.world at.page ⊎ LacksSo Roomed batch from base limit ahead ps gs how at.world at.page
 
 -- what comes of a slice, with what its calls were given and the service replied
 pub record Sliced {M A S : Type 0} (Roomed : Type 0) (e : Evaluation M S) (d : Doing A S) (may : S → Bool) (batch : ℕ) (next : Behind S) (at : Spot M A S) (from base limit : ℕ) (ahead : Ahead S)

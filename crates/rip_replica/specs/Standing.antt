@@ -9,7 +9,7 @@ use Rattle.rip_runs.specs.Plan.{Plan, Over}
 use Rattle.rip_runner.specs.Going.{Going}
 use Rattle.rip_runner.specs.Going as runner
 use Rattle.rip_runner.specs.Laws.{StandsAt}
-use Rattle.rip_runner.specs.Play.{Holds, Played, play}
+use Rattle.rip_runner.specs.Play.{Closes, Holds, Played, play}
 use Rattle.rip_course.specs.Parts.{Fact, passes, serves, finishes, Part, Given, ends_batch}
 use Rattle.rip_course.specs.Parts as parts
 use Rattle.rip_replica.specs.declared.item.AtItem.{AtItem}
@@ -18,8 +18,8 @@ use Rattle.rip_replica.specs.declared.replica.Place.TheVariants.{First, Between,
 use Rattle.rip_replica.specs.declared.replica.Replica.{Replica}
 use Rattle.rip_replica.specs.declared.replica.Turn.{Turn}
 use Rattle.rip_replica.specs.declared.replica.Turn.TheVariants.{On, Busy, Calls, Done, Ends, Lacks}
-use Rattle.rip_replica.specs.Parts.{Doing, Stand, batch_parts, behind_item, items_parts, part_of, stand_at}
-use Rattle.rip_replica.specs.Plays.{CountsUnits, IsItemPlan}
+use Rattle.rip_replica.specs.Parts.{Doing, Stand, batch_parts, behind_item, is_fine, items_parts, part_of, stand_at}
+use Rattle.rip_replica.specs.Plays.{CountsUnits, IsItemPlan, IsStill}
 use Rattle.rip_replica.specs.Rooms.{HeadsCall, IsCallAt, IsMismatch}
 
 -- what an item means that is under way; where there is none, nothing
@@ -53,13 +53,15 @@ spot item_plan under_way r = record {
   page = r.host;
 }
 
--- runs, fuel and plans are those of a session's doing, and count their units; a page of which `may` is true may serve a call
+-- runs, fuel and plans are those of a session's doing, and count their units; a page of which `may` is true may serve a call, and a
+-- call changes nothing before it is served
 pub record Keeps {M A S : Type 0} (e : Evaluation M S) (d : Doing A S) (may : S → Bool) (batch : ℕ) (at : Spot M A S) : Type 0 where
   pub run : e.run at.going.evaluator ≡ d.run
   pub full : at.going.full ≡ d.full
   pub plan : at.item_plan ≡ d.plan batch
   pub counts : CountsUnits d.run
   pub shapes : (a : A) (n : ℕ) (w : World) (s : S) → IsItemPlan may (d.fact a) (d.plan batch a n w s)
+  pub still : (a : A) (n : ℕ) (w : World) (s : S) → IsStill (d.fact a) w s (d.plan batch a n w s)
 
 -- what comes of a batch, whatever is given from now on: the parts to come, whatever batches are admitted; and where the session
 -- stands behind the first items of the batch
@@ -68,7 +70,6 @@ pub record Ahead (S : Type 0) : Type 0 where
   pub behind : List Given → ℕ → Option (Stand S)
 
 -- the parts that come behind a batch
-
 abbrev pub Behind : Type 0 → Type 0
 Behind S = List Contents → List Given → World → S → List Part
 
@@ -124,6 +125,23 @@ IsCut e d batch next at First base spent ahead = Unit {0}
 IsCut e d batch next at Between base spent ahead = Unit {0}
 IsCut e d batch next at Within base spent ahead = IsCutIn e d batch next at base spent ahead
 IsCut e d batch next at Idle base spent ahead = Unit {0}
+
+-- an item of these ends the session: from where that stood before it the item was played with all its fuel and closed so, not
+-- fine, in this world and with this page, and with what it needed so many units of the batch are spent; `behind` tells where the
+-- session stands behind the first items
+pub record ClosedIn {A S : Type 0} (d : Doing A S) (batch : ℕ) (all : List A) (number base cost : ℕ) (close : Close)
+    (behind : List Given → ℕ → Option (Stand S)) (w : World) (s : S) : Type 0 where
+  pub item : A
+  pub world : World
+  pub page : S
+  pub fuel : ℕ
+  pub units : ℕ
+  pub ends : is_fine close ≡ false
+  pub is : slice_get all (number - 1) ≡ Some item
+  pub one : 1 ≤ number
+  pub began : (gs : List Given) → behind gs (number - 1) ≡ Some (stand_at base gs world page)
+  pub count : cost ≡ base + 1 + (d.full - units)
+  pub closes : (changes : List (S → S)) → item_play d batch item number world page changes d.full ≡ Closes close changes fuel units w s
 
 -- the next part, if there is one, costs more than this
 abbrev pub CostsMore : ℕ → List Part → Type 0
@@ -182,7 +200,8 @@ abbrev pub StartsItem : ℕ → ℕ → ℕ → List Part → Type 0
 StartsItem batch n base [] = ⊥
 StartsItem batch n base (p ∷ ps) = (p.batch ≡ batch) × (p.item ≡ n) × (base < p.cost)
 
--- a call waits to be served: for what it is given it is a part, and the next items go on behind it
+-- a call waits to be served, where the session stood before it: for what it is given it is a part, and the next items go on
+-- behind it
 pub record Waits {M A S : Type 0} (e : Evaluation M S) (d : Doing A S) (may : S → Bool) (batch : ℕ) (next : Behind S) (at : Spot M A S)
     (from base spent n u : ℕ) (ahead : Ahead S) : Type 0 where
   pub item : A
@@ -197,6 +216,7 @@ pub record Waits {M A S : Type 0} (e : Evaluation M S) (d : Doing A S) (may : S 
   pub may_serve : may at.page ≡ true
   pub count : base + 1 + u ≡ spent + n
   pub from_base : from ≤ base
+  pub stays : (gs : List Given) → ahead.behind gs (at.begun - 1) ≡ Some (stand_at base gs at.world at.page)
   pub goes : (bs : List Contents) (g : Given) (gs : List Given) → ahead.parts bs (g ∷ gs) ≡ part_of batch at.begun (base + 1) (serves number name args)
       ∷ items_parts d batch at.all (at.begun + 1) (base + 1) (drop at.begun at.all) gs at.world (d.serve batch g at.page) (next bs)
   pub behind : (g : Given) (gs : List Given) → ahead.behind (g ∷ gs) at.begun ≡ Some (stand_at (base + 1) gs at.world (d.serve batch g at.page))
@@ -218,8 +238,8 @@ turn_behind (Mismatch item) u = Ends (Mismatch item)
 turn_behind (Stopped item stop) u = Ends (Stopped item stop)
 
 -- what a turn comes to, where n units are there: the session goes on; or no unit is left and one is wanted; or a call
--- waits; or the batch is done; or it is closed by an item, which ends the session, and with a mismatch only where it reports
--- a call; or memory is wanting in an item
+-- waits; or the batch is done; or it is closed by an item, which was played whole and ends the session, with a mismatch only
+-- where it reports a call, and then where the session stood before it; or memory is wanting in an item
 abbrev pub Turns : {M A S : Type 0} → Evaluation M S → Doing A S → (S → Bool) → ℕ → Behind S → Spot M A S → ℕ → ℕ → ℕ → ℕ → Ahead S → Turn → Type 0
 Turns e d may batch next at from base spent n ahead (On u) = Further e d may batch next at from base spent n u ahead
 Turns e d may batch next at from base spent n ahead Busy =
@@ -231,6 +251,8 @@ Turns e d may batch next at from base spent n ahead Done =
 Turns e d may batch next at from base spent n ahead (Ends close) =
     (cost : ℕ) × (cost ≤ spent + n) × (base < cost) × ((bs : List Contents) (gs : List Given) → ahead.parts bs gs ≡ part_of batch at.begun cost (finishes (Some (d.ending at.all close at.page))) ∷ [])
     × (IsMismatch close → IsCallAt d.fact at.all at.begun)
+    × ClosedIn d batch at.all at.begun base cost close ahead.behind at.world at.page
+    × (IsMismatch close → (gs : List Given) → ahead.behind gs (at.begun - 1) ≡ Some (stand_at base gs at.world at.page))
 Turns e d may batch next at from base spent n ahead Lacks = (base < spent) × ((bs : List Contents) (gs : List Given) → StartsItem batch at.begun base (ahead.parts bs gs))
 
 -- wherever it stood

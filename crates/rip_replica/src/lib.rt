@@ -11,11 +11,12 @@
 //! | what a session does | `Parts.session_parts`, by `Parts.items_parts` over the items of a batch; `Parts.meaning_of` for all seeds and times |
 //! | the parts of one item: a unit, and each unit of fuel that it needs | `Parts.after_item` of `Parts.whole_item` |
 //! | what is asked of runs, so that their units count | `Plays.CountsUnits` |
-//! | what is asked of items: only a call waits, and no item takes a unit but for its fuel | `Plays.IsItemPlan` |
-//! | [`Works`], the items of a session over any page | its words `plans`, `fact`, `served`, `ending` and `shapes` |
+//! | what is asked of items: only a call waits, and no item takes a unit but for its fuel; a call changes nothing before it is served | `Plays.IsItemPlan`, `Plays.IsStill` |
+//! | [`Works`], the items of a session over any page | its words `plans`, `fact`, `served`, `ending`, `shapes` and `still` |
 //! | a session in the middle of a batch | `Standing.Stands`, by its place `Standing.Left` |
 //! | [`Replica::resume`] | `Slices.SlicedSo`: what comes of a slice is `Slices.Comes`, with the served calls `Slices.AreServed`; at a stage of the server's course `Stages.Resumed` (`rip_course`) |
 //! | a session at such a stage: busy, idle, ended | `Sessions.IsAt` |
+//! | in which world and with which page it stands there | `Cuts.CutAfter`, `Cuts.StandsDone`, `Cuts.StandsEnded` |
 //! | a batch that goes on; that is done; that an item ends; where memory is wanting | `Slices.BusySo`, `DoneSo`, `EndsSo`, `LacksSo` |
 //! | that memory is wanting only at a call, where there are rooms for the items | `Rooms.IsCallAt`, by `Rooms.HasRooms` (`rip_runner`) |
 //! | [`AtItem`], one item of a batch as a plan | `Standing.planned`, and what each step keeps `Kept.IsKept` |

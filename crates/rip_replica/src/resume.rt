@@ -224,6 +224,7 @@ impl<E, I, T, H> Replica<E, I, T, H> {
         ensures unserved { (meant : Meant) (calls : List Called)
             → V.replies_as service.old meant calls
             → OnErr result (IsUnserved calls made.old made.new (V.replies_as service.new meant)) }
+        ensures memory { OnErr result (self.new.host ≡ self.old.host) }
     {
         let call = match self.call_under_way(alloc)? {
             Some(call) => call,
@@ -260,6 +261,7 @@ impl<E, I, T, H> Replica<E, I, T, H> {
         ensures kept { (self.new.runner ≡ self.old.runner) × (self.new.heap ≡ self.old.heap)
             × (self.new.host ≡ self.old.host) }
         ensures number { self.new.number ≡ self.old.number }
+        ensures place { self.old.place ≡ Place.Idle → self.new.place ≡ Place.Idle }
     {
         let planner = &self.runner.planner;
         match I::ending(alloc, &planner.batch, close, &self.host) {
@@ -275,6 +277,7 @@ impl<E, I, T, H> Replica<E, I, T, H> {
         ensures kept { (self.new.runner ≡ self.old.runner) × (self.new.heap ≡ self.old.heap)
             × (self.new.host ≡ self.old.host) }
         ensures number { self.new.number ≡ self.old.number }
+        ensures place { self.new.place ≡ Place.Idle }
     {
         self.place = Place::Idle;
         Progress::Finished(Some(Ending::Memory {

@@ -24,7 +24,7 @@ pub trait Works<H: Host, T>: Items<H, T> {
     ghost use Rattle.rip_runs.specs.declared.close.Close.{Close as Closed};
     ghost use Rattle.rip_runs.specs.declared.close.Close.TheVariants.{Mismatch};
     ghost use Rattle.rip_course.specs.Parts.{Fact, Given, ends_at_mismatch};
-    ghost use Rattle.rip_replica.specs.Plays.{IsItemPlan};
+    ghost use Rattle.rip_replica.specs.Plays.{IsItemPlan, IsStill};
     ghost use Rattle.rip_replica.specs.Rooms.{IsMismatch, IsNoLack};
     ghost use Rattle.rip_replica.specs.Serving.{HasArgs, IsCallOf};
 
@@ -77,4 +77,8 @@ pub trait Works<H: Host, T>: Items<H, T> {
     // A call alone waits or ends with a mismatch, and no item takes a unit but for its fuel.
     ghost shapes: { (batch : ℕ) (item : T) (n : ℕ) (w : World) (s : H)
         → IsItemPlan may_serve (fact item) (plans batch item n w s) };
+
+    // And a call changes nothing before it is served.
+    ghost still: { (batch : ℕ) (item : T) (n : ℕ) (w : World) (s : H)
+        → IsStill (fact item) w s (plans batch item n w s) };
 }

@@ -6,6 +6,7 @@ use Rattle.rip_runs.specs.declared.step.Phase.TheVariants.{Asking, Taking, Await
 use Rattle.rip_runner.specs.Going.{depth_in}
 use Rattle.rip_machine.specs.Law.{Standing}
 use Rattle.rip_replica.specs.declared.replica.Place.{Place}
+use Rattle.rip_replica.specs.declared.replica.Place.TheVariants.{Idle}
 use Rattle.rip_replica.specs.Numbers.{open_at}
 use Rattle.rip_session.specs.Application.{runs_of}
 use Rattle.rip_used.specs.Within.{depth_of, open_in}
@@ -19,3 +20,7 @@ same-depth app m (Over close) = refl
 
 pub same_open : (app : Loaded) (place : Place) (m : Standing) (phase : Phase) → open_at place (depth_in (runs_of app) m phase) ≡ open_in place phase m
 same_open app place m phase = ap (open_at place) (same-depth app m phase)
+
+-- at no place in a batch nothing is
+pub none_open : (place : Place) (phase : Phase) (m : Standing) → place ≡ Idle → open_in place phase m ≡ 0
+none_open place phase m is = ap (λ (p : Place). open_in p phase m) is

@@ -13,7 +13,7 @@ use Rattle.rip_roll.specs.declared.seat.Seat.TheVariants.{Live}
 use Rattle.rip_turn.specs.declared.server.Server.{Server}
 use Rattle.rip_turn.specs.Standing.{IsServer}
 use Rattle.rip_session.specs.declared.application.Session.{Session}
-use Rattle.rip_replica.specs.Cuts.{CutAfter}
+use Rattle.rip_replica.specs.Cuts.{CutAfter, StandsDone, StandsEnded}
 use Rattle.rip_session.specs.Application.{IsPageWithin, StandsAt, doing_of, meaning_of_app, runs_of}
 use Rattle.rip_session.specs.Limits.{PassesNoLimit}
 use Rattle.rip_used.specs.declared.counts.Used.{Used}
@@ -38,6 +38,21 @@ pub record IsUsedAtCut (app : Loaded) (st : Stage) (u : Used) : Type 0 where
   pub page : Browser
   pub cut : CutAfter (doing_of app st.seed st.time) st.batches st.given st.units depth world page
   pub used : u ≡ used_in world depth page
+
+-- these are the counts of the world and the page, where nothing of the depth is open, in which a session stands whose last batch is
+-- done and that lives
+pub record IsUsedBehind (app : Loaded) (st : Stage) (u : Used) : Type 0 where
+  pub world : World
+  pub page : Browser
+  pub stands : StandsDone (doing_of app st.seed st.time) st.batches st.given world page
+  pub used : u ≡ used_in world 0 page
+
+-- and in which one stands that has ended
+pub record IsUsedAtEnd (app : Loaded) (st : Stage) (u : Used) : Type 0 where
+  pub world : World
+  pub page : Browser
+  pub stands : StandsEnded (doing_of app st.seed st.time) st.batches st.given st.lacking world page
+  pub used : u ≡ used_in world 0 page
 
 -- in each server of an application, of whose sessions so many may live, that stands as the machine of turns does, the heap, the
 -- page and the runs of each session that lives pass no limit of the manifest

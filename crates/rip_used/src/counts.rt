@@ -1,8 +1,8 @@
-ghost use Rattle.std.specs.Prelude.{◌≡◌, ◌≤◌, false};
+ghost use Rattle.std.specs.Prelude.{◌≡◌, ◌≤◌, true, false};
 ghost use Rattle.rip_app.specs.App.{Loaded};
 ghost use Rattle.rip_course.specs.Stages.{Stage, is_done, is_ended};
 ghost use Rattle.rip_session.specs.Application.{StandsAt, meaning_of_app};
-ghost use Rattle.rip_used.specs.Sessions.{IsAllowed, IsPageAllowed, IsUsedAtCut};
+ghost use Rattle.rip_used.specs.Sessions.{IsAllowed, IsPageAllowed, IsUsedAtCut, IsUsedAtEnd, IsUsedBehind};
 ghost use Rattle.rip_used.specs.Within.{IsWithin, depth_of, open_in, used_in};
 
 use rip_heap::Heap;
@@ -94,7 +94,8 @@ pub fn used_by<I, T>(replica: &Replica<Machine, I, T, Browser>) -> Used
 }
 
 /// What a session of an application has taken, at whatever stage it stands: no count passes its limit, its heap passes none of
-/// the manifest's, and while it lives its page and its runs pass none. Of a busy one they are the counts where its batch is cut.
+/// the manifest's, and while it lives its page and its runs pass none. Of a busy one they are the counts where its batch is cut,
+/// of an idle one those behind its batch, and of one that an item ended those where that item left it.
 pub fn used_by_session(session: &Session) -> Used
     ensures used { result ≡ used_in session.now.replica.heap
         (open_in session.now.replica.place session.now.replica.runner.phase session.now.replica.runner.evaluator)
@@ -107,6 +108,11 @@ pub fn used_by_session(session: &Session) -> Used
         → is_ended (meaning_of_app app) st ≡ false → IsPageAllowed app.manifest.limits result }
     ensures cut { (app : Loaded) (st : Stage) → StandsAt app session.now.replica st
         → is_done (meaning_of_app app) st ≡ false → IsUsedAtCut app st result }
+    ensures idle { (app : Loaded) (st : Stage) → StandsAt app session.now.replica st
+        → is_done (meaning_of_app app) st ≡ true → is_ended (meaning_of_app app) st ≡ false
+        → IsUsedBehind app st result }
+    ensures ended { (app : Loaded) (st : Stage) → StandsAt app session.now.replica st
+        → is_ended (meaning_of_app app) st ≡ true → IsUsedAtEnd app st result }
 {
     used_by(&session.replica)
 }

@@ -4,7 +4,7 @@
 //! | what | its definition in `specs/` |
 //! |---|---|
 //! | [`used_by`] | `Within.used_in`, within `Within.IsWithin` |
-//! | [`used_by_session`] | the same, and within `Sessions.IsAllowed`, and while it lives within `Sessions.IsPageAllowed`; of a busy one `Sessions.IsUsedAtCut` |
+//! | [`used_by_session`] | the same, and within `Sessions.IsAllowed`, and while it lives within `Sessions.IsPageAllowed`; of a busy one `Sessions.IsUsedAtCut`, of an idle one `Sessions.IsUsedBehind`, of one that has ended `Sessions.IsUsedAtEnd` |
 //!
 //! | law | its definition |
 //! |---|---|

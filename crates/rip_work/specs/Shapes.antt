@@ -28,7 +28,7 @@ use Rattle.rip_visit.specs.Events.{Going, browser_after, event_plan, judged, set
 use Rattle.rip_visit.specs.Opening.{load_at, loading, opening_plan, scripts}
 use Rattle.rip_visit.specs.Replies.{delivered}
 use Rattle.rip_replica.specs.Parts.{is_fine}
-use Rattle.rip_replica.specs.Plays.{IsCallPlan, IsItemPlan}
+use Rattle.rip_replica.specs.Plays.{IsCallPlan, IsItemPlan, IsStill, StandsStill}
 use Rattle.rip_wire.specs.Calls.{call_text}
 use Rattle.rip_wire.specs.Items.{event, call, reply}
 use Rattle.rip_course.specs.Parts.{ends_at_mismatch}
@@ -164,3 +164,18 @@ shapes batch (reports (event kind node text place)) n w s = event-plain s w (rec
 shapes batch (reports (call number name args)) n w s =
     call-shape (position_of s (number_at number) (call_text name args)) n w s (served-may s number (call_text name args))
 shapes batch (reports (reply number)) n w s = reply-plain n (delivered s w batch number) w s
+
+-- CALLS THAT ARE NOT SERVED YET
+
+call-still : (p : Position) (item : ℕ) (w : World) (s : Browser) → StandsStill w s (call_plan item p w s)
+call-still position.NotNext item w s = (refl, refl)
+call-still position.Other item w s = (refl, refl)
+call-still position.TooMany item w s = (refl, refl)
+call-still position.Served item w s = (refl, refl)
+
+-- a call changes neither the world nor the page before it is served
+pub still : (batch : ℕ) (t : Task) (n : ℕ) (w : World) (s : Browser) → IsStill (fact_of t) w s (work_plan batch t n w s)
+still batch (opens start) n w s = tt
+still batch (reports (event kind node text place)) n w s = tt
+still batch (reports (call number name args)) n w s = call-still (position_of s (number_at number) (call_text name args)) n w s
+still batch (reports (reply number)) n w s = tt

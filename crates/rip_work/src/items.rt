@@ -91,11 +91,13 @@ impl Works<Browser, Work> for PageItems {
 
     ghost ending = { ending_of };
 
-    ghost use Rattle.rip_work.specs.Shapes.{mismatches_are_told, shapes};
+    ghost use Rattle.rip_work.specs.Shapes.{mismatches_are_told, shapes, still};
 
     ghost differs = { mismatches_are_told };
 
     ghost shapes = { shapes };
+
+    ghost still = { still };
 
     fn enter(&mut self, batch: u64) {
         self.batches.batch = batch;

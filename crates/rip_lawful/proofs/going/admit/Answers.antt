@@ -7,7 +7,7 @@ pub returns-clause-next : goal.returns-clause-next
 returns-clause-next g c = λ program doing st b by number items at ok.
     let w = g.I.Works in
     admit_stands (g.E.Evaluator.evaluation program) doing g.I.Items.item_plan g.I.Items.under_way w.may_serve c.args.replica.now c.admit.new.self st b
-    (sound_by doing w.plans w.fact w.served w.ending w.may_serve by g.met.I.Works.shapes) at ok (c.admit.ensures.place.1 ∙ number) (record {
+    (sound_by doing w.plans w.fact w.served w.ending w.may_serve by g.met.I.Works.shapes g.met.I.Works.still) at ok (c.admit.ensures.place.1 ∙ number) (record {
       evaluator = c.admit.ensures.runs.0;
       full = c.admit.ensures.runs.1;
       plan = c.admit.ensures.items.0 ∙ ap w.plans number ∙ ap (λ p. p b.number) (sym (by.planned st.seed st.time));

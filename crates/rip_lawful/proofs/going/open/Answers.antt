@@ -14,7 +14,7 @@ returns-clause-begun g c = λ program doing seed time by run full opening world 
     let R : Runner _ _ → Type 0 = λ q.
     IsAtStage e doing g.I.Items.item_plan g.I.Items.under_way w.may_serve (record { runner = q; place = First; number = 0; heap = c.args.heap; host = c.args.host }) (begun seed time) in
     subst R (sym c.new.ensures) (open_stands e doing g.I.Items.item_plan g.I.Items.under_way w.may_serve _ seed time
-    (sound_by doing w.plans w.fact w.served w.ending w.may_serve by g.met.I.Works.shapes) refl (record {
+    (sound_by doing w.plans w.fact w.served w.ending w.may_serve by g.met.I.Works.shapes g.met.I.Works.still) refl (record {
       run = sym run;
       full = sym full;
       plan = c.enter.ensures.plans ∙ ap (λ p. p 0) (sym (by.planned seed time));

@@ -1,16 +1,16 @@
-use Rattle.std.proofs.Common.{ℕ, ◌≤◌, sym, subst}
+use Rattle.std.proofs.Common.{ℕ, ◌≤◌, ap, sym, subst, ◌∙◌}
 use Rattle.rip_used.specs.declared.counts.Used.{Used}
 use Rattle.rip_used.specs.Sessions.{IsPageAllowed}
 use Rattle.rip_lawful.proofs.Cut.{busy_cut}
-use Rattle.rip_lawful.proofs.Done.{not_done_busy}
+use Rattle.rip_lawful.proofs.Done.{done_idle, ended_has, not_done_busy}
 use Rattle.rip_replica.specs.Cuts.{CutAfter}
 use Rattle.rip_replica.specs.Standing.{spot}
 use Rattle.rip_session.specs.Application.{doing_of, runs_of}
 use Rattle.rip_work.specs.declared.items.PageItems.{PageItems}
 use Rattle.rip_work.specs.Plans.{left_of_work, work_plan}
 use Rattle.rip_work.specs.Serving.{may_serve}
-use Rattle.rip_used.specs.Within.{open_in}
-use Rattle.rip_used.proofs.Opened.{same_open}
+use Rattle.rip_used.specs.Within.{open_in, used_in}
+use Rattle.rip_used.proofs.Opened.{none_open, same_open}
 use Rattle.rip_used.proofs.counts.used_by_session.Goals as goal
 
 pub returns-clause-page : goal.returns-clause-page
@@ -35,4 +35,30 @@ returns-clause-cut c = λ app st at undone.
       cut = subst (λ (d : ℕ). CutAfter (doing_of app st.seed st.time) st.batches st.given st.units d r.heap r.host) (same_open app r.place n.evaluator n.phase)
           (busy_cut (runs_of app) (doing_of app) may_serve to st busy);
       used = c.used_by.ensures.used;
+    }
+
+pub returns-clause-idle : goal.returns-clause-idle
+returns-clause-idle c = λ app st at done lives.
+    let r = c.args.session.now.replica in
+    let n = r.runner in
+    let to = spot (λ (items : PageItems). work_plan items.batches.batch) left_of_work r in
+    let idle = done_idle (runs_of app) (doing_of app) may_serve to st at.stage.stands done lives in
+    record {
+      world = r.heap;
+      page = r.host;
+      stands = record { cost = idle.cost; behind = idle.behind };
+      used = c.used_by.ensures.used ∙ ap (λ (d : ℕ). used_in r.heap d r.host) (none_open r.place n.phase n.evaluator idle.place);
+    }
+
+pub returns-clause-ended : goal.returns-clause-ended
+returns-clause-ended c = λ app st at ended.
+    let r = c.args.session.now.replica in
+    let n = r.runner in
+    let to = spot (λ (items : PageItems). work_plan items.batches.batch) left_of_work r in
+    let has = ended_has (runs_of app) (doing_of app) may_serve to st at.stage.stands ended in
+    record {
+      world = r.heap;
+      page = r.host;
+      stands = has.stands;
+      used = c.used_by.ensures.used ∙ ap (λ (d : ℕ). used_in r.heap d r.host) (none_open r.place n.phase n.evaluator has.place);
     }

@@ -11,6 +11,7 @@ use Rattle.rip_replica.specs.Serving.{IsServed, given_to}
 use Rattle.rip_replica.specs.Standing.{Spot, Waits, spot}
 use Rattle.rip_replica.proofs.SliceLemmas.{Went, came_busy, came_done, came_lacks, came_unserved, went_call, went_first, went_on}
 use Rattle.rip_replica.proofs.ResumeLemmas.{at_last, ended, memory_at, within_number}
+use Rattle.rip_replica.proofs.NumberLemmas.{either_idle, ended_idle}
 use Rattle.rip_replica.proofs.RoomLemmas.{call_ended, call_here, ends_lives, lacks_lives, mismatch_told, rooms_served}
 use Rattle.rip_replica.proofs.replica.Replica.go_on.Goals as goal
 
@@ -79,8 +80,9 @@ returns-in-Ends-clause-slice g c = λ d next from base ahead service calls agree
     let R = g.V.Service.replies_as c.loop-units.service service in
     ended e d g.I.Works.may_serve c.args.self.now.number next from base (from + c.args.slice.now.units) ahead service calls c.args.slice.now c.args.made.now c.loop-units.made
     at to last c.loop-units.left R c.in-Ends.close went g.I.Works.ending agrees.endings
+    (ap (λ r. r.planner.batch.items) c.end.ensures.kept.0) c.end.ensures.kept.1 c.end.ensures.kept.2
     c.in-Ends.ensures.onward.0 c.in-Ends.ensures.onward.1 ends c.end.result
-    (λ is. mismatch_told d.ending to.all c.in-Ends.close to.page (c.end.ensures.memory to.begun is) (λ k. ap (λ f. ends_at_mismatch (Some (f to.all (Mismatch k) to.page))) agrees.endings ∙ g.met.I.Works.differs to.all k to.page)) c.end.ensures.ends
+    (c.end.ensures.memory to.begun) (λ mismatch. mismatch_told d.ending to.all c.in-Ends.close to.page mismatch (λ k. ap (λ f. ends_at_mismatch (Some (f to.all (Mismatch k) to.page))) agrees.endings ∙ g.met.I.Works.differs to.all k to.page)) c.end.ensures.ends
 
 pub returns-in-Lacks-clause-slice : goal.returns-in-Lacks-clause-slice
 returns-in-Lacks-clause-slice g c = λ d next from base ahead service calls agrees stands replies.
@@ -91,7 +93,8 @@ returns-in-Lacks-clause-slice g c = λ d next from base ahead service calls agre
     let went = c.loop-units.invariant.went d next from base ahead service calls agrees stands replies in
     let R = g.V.Service.replies_as c.loop-units.service service in
     memory_at e d g.I.Works.may_serve c.args.self.now.number next from base (from + c.args.slice.now.units) ahead service calls c.args.slice.now c.args.made.now c.loop-units.made
-    to last R c.lack.result (Memory c.turn.new.self.runner.planner.begun) c.lack.ensures.lacks
+    to last R c.lack.result (Memory c.turn.new.self.runner.planner.begun)
+    (ap (λ r. r.planner.batch.items) c.lack.ensures.kept.0) c.lack.ensures.kept.1 c.lack.ensures.kept.2 c.lack.ensures.lacks
     (came_lacks e d g.I.Works.may_serve c.args.self.now.number next from base (from + c.args.slice.now.units) ahead service calls c.args.slice.now c.args.made.now c.loop-units.made
     at to c.loop-units.left R went c.in-Lacks.ensures.onward.0 c.in-Lacks.ensures.onward.1
     (c.in-Lacks.ensures.turns d g.I.Works.may_serve c.args.self.now.number next from went.new_base went.spent went.later went.stands)
@@ -154,6 +157,8 @@ returns-in-Err-clause-slice g c = λ d next from base ahead service calls agrees
     let R = g.V.Service.replies_as c.serve.new.service service in
     memory_at e d g.I.Works.may_serve c.args.self.now.number next from base limit ahead service calls c.args.slice.now c.args.made.now c.serve.new.made
     to last R c.lack-in-Err.result (Memory c.turn.new.self.runner.planner.begun)
+    (ap (λ r. r.planner.batch.items) (c.lack-in-Err.ensures.kept.0 ∙ c.in-Err.ensures.kept.0))
+    (c.lack-in-Err.ensures.kept.1 ∙ c.in-Err.ensures.kept.1) (c.lack-in-Err.ensures.kept.2 ∙ c.in-Err.ensures.memory)
     (c.lack-in-Err.ensures.lacks ∙ ap (λ r. Finished (Some (Memory r.planner.begun))) c.in-Err.ensures.kept.0)
     (came_unserved e d g.I.Works.may_serve c.args.self.now.number next from base limit ahead service calls c.args.slice.now c.args.made.now c.loop-units.made c.serve.new.made
     at to c.loop-units.left c.in-Calls.units (g.V.Service.replies_as c.loop-units.service service) R went c.in-Calls.ensures.onward.0 c.in-Calls.ensures.onward.2
@@ -207,3 +212,15 @@ returns-in-Lacks-clause-rooms g c = λ roomed. lacks_lives _ c.lack.result _ c.l
 
 pub returns-in-Err-clause-rooms : goal.returns-in-Err-clause-rooms
 returns-in-Err-clause-rooms g c = λ roomed. lacks_lives _ c.lack-in-Err.result _ c.lack-in-Err.ensures.lacks
+
+pub returns-in-Ends-clause-idle : goal.returns-in-Ends-clause-idle
+returns-in-Ends-clause-idle g c =
+    either_idle c.end.result (g.I.Works.ending c.turn.new.self.runner.planner.batch.items c.in-Ends.close c.turn.new.self.host) (Memory c.turn.new.self.runner.planner.begun) c.end.new.self.place
+    c.end.ensures.ends (c.end.ensures.place c.in-Ends.ensures.idle)
+
+pub returns-in-Lacks-clause-idle : goal.returns-in-Lacks-clause-idle
+returns-in-Lacks-clause-idle g c = ended_idle c.lack.result (Memory c.turn.new.self.runner.planner.begun) c.lack.new.self.place c.lack.ensures.lacks c.lack.ensures.place
+
+pub returns-in-Err-clause-idle : goal.returns-in-Err-clause-idle
+returns-in-Err-clause-idle g c =
+    ended_idle c.lack-in-Err.result (Memory c.serve.new.self.runner.planner.begun) c.lack-in-Err.new.self.place c.lack-in-Err.ensures.lacks c.lack-in-Err.ensures.place

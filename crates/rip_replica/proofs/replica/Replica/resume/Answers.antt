@@ -17,7 +17,7 @@ returns-clause-resumed g c = λ doing st service calls agrees number busy some r
     let B : ℕ → Type 0 = λ b. Stands e d g.I.Works.may_serve b next at st.units busy.base st.units busy.ahead in
     let S : ℕ → Type 0 = λ b. Sliced (IsRoomed e g.E.Evaluator.has_room g.I.Items.room g.I.Items.need g.I.Items.under_way g.I.Works.served (IsTrue g.H.Host.may_want_memory) c.args.self.now.runner c.args.self.now.host) e d g.I.Works.may_serve b next to st.units busy.base (st.units + c.args.slice.now.units) busy.ahead service calls c.args.slice.now c.args.made.now c.go_on.new.made c.go_on.result R in
     resumed e doing g.I.Works.may_serve at to st service calls c.args.slice.now c.args.made.now c.go_on.new.made c.go_on.result R busy
-    (subst S number (c.go_on.ensures.slice d next st.units busy.base busy.ahead service calls agrees (subst B (sym number) busy.stands) replies)) some roomed (ap (λ b. b.items) c.go_on.ensures.batch)
+    (subst S number (c.go_on.ensures.slice d next st.units busy.base busy.ahead service calls agrees (subst B (sym number) busy.stands) replies)) some roomed (ap (λ b. b.items) c.go_on.ensures.batch) c.go_on.ensures.idle
 
 pub returns-clause-memory : goal.returns-clause-memory
 returns-clause-memory g c = λ doing st service calls agrees number busy replies.

@@ -78,7 +78,8 @@ returns-in-Finished-clause-page g c = λ number keeps.
 pub returns-in-Finished-clause-idle : goal.returns-in-Finished-clause-idle
 returns-in-Finished-clause-idle g c =
     let P : Turn → Type 0 = λ turn. StandsIdle turn c.place_behind-self.result in
-    subst P (sym c.turn_behind.ensures) (closed_idle c.in-Finished.close c.in-Finished.left c.place_behind-self.result)
+    let Q : Place → Type 0 = λ place. StandsIdle (turn_behind c.in-Finished.close c.in-Finished.left) place in
+    subst P (sym c.turn_behind.ensures) (subst Q (sym c.place_behind-self.ensures) (closed_idle c.in-Finished.close c.in-Finished.left))
 
 pub returns-in-Busy-clause-memory : goal.returns-in-Busy-clause-memory
 returns-in-Busy-clause-memory g c = λ keeps none rooms.
