@@ -1,7 +1,7 @@
 -- How clients stand in code, and what came of telling.
-use Rattle.std.specs.Prelude.{◌≡◌, map, Result, Ok, Err}
+use Rattle.std.specs.Prelude.{◌≡◌, map, Option, None, Some, Result, Ok, Err}
 use Rattle.rip_runs.specs.declared.close.Close.{Close}
-use Rattle.rip_runs.specs.declared.close.Close.TheVariants.{Fine}
+use Rattle.rip_runs.specs.declared.close.Close.TheVariants.{Fine, Refused, Mismatch, Stopped}
 use Rattle.rip_wire.specs.Items.{Reported, event, reply, reported_of, HasDetail}
 use Rattle.rip_wire.specs.declared.gesture.Gesture.{Gesture}
 use Rattle.rip_wire.specs.declared.gesture.Gesture.TheVariants.{Event, Flush}
@@ -59,3 +59,12 @@ abbrev pub how_told : {T : Type 0} → Result T Stop → HowTold
 how_told (Ok done) = how.Whole
 how_told (Err (Closed close)) = how.Ended close
 how_told (Err Memory) = how.Memory
+
+-- the end of a client whose gesture was told so, if it is one
+abbrev pub end_of : HowTold → Option HowTold
+end_of how.Whole = None
+end_of (how.Ended Fine) = None
+end_of (how.Ended (Refused item kind)) = Some (how.Ended (Refused item kind))
+end_of (how.Ended (Mismatch item)) = Some (how.Ended (Mismatch item))
+end_of (how.Ended (Stopped item stop)) = Some (how.Ended (Stopped item stop))
+end_of how.Memory = Some how.Memory

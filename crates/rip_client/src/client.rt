@@ -1,8 +1,9 @@
-ghost use Rattle.std.specs.Prelude.{◌≡◌, ◌≢◌, ◌+◌, ◌++◌, ◌∷◌, [], ℕ, List as Sequence, IfOk, IfErr, OnOk, if◌then◌else◌};
+ghost use Rattle.std.specs.Prelude.{◌≡◌, ◌≢◌, ◌+◌, ◌++◌, ◌∷◌, [], ℕ, List as Sequence, None, Some, IfOk, IfErr, OnOk, if◌then◌else◌};
 ghost use Rattle.rip_runs.specs.declared.close.Close.{Close as Closes};
 ghost use Rattle.rip_wire.specs.Items.{reported_of};
 ghost use Rattle.rip_client.specs.Truth.{IsPut, Then, waiting_of, TellsCall, TellsCalls, TellsEvent, TellsGesture, TellsItem, TellsList, TellsReplies};
-ghost use Rattle.rip_client.specs.Sizes.{Comes, IsGesture, IsTold, MayBeTold, ToldSo, how_told, place_of};
+ghost use Rattle.rip_client.specs.Sizes.{Comes, IsGesture, IsTold, MayBeTold, ToldSo, end_of, how_told, place_of};
+ghost use Rattle.rip_client.specs.declared.client.HowTold.{HowTold as Ways};
 ghost use Rattle.rip_client.specs.Bytes.{batches_of, size_of};
 
 use crate::actor::{Actor, WaitingCall};
@@ -22,6 +23,8 @@ pub struct Client<A> {
     pub(crate) waiting: Vec<u64>,
     /// The list of the gesture under way.
     pub(crate) list: Telling,
+    /// How the last gesture was told, where the client is at its end.
+    pub(crate) over: Option<HowTold>,
 }
 
 /// How a gesture was told.
@@ -40,6 +43,19 @@ pub enum HowTold {
 pub struct Told {
     pub batches: Vec<ToldBatch>,
     pub how: HowTold,
+}
+
+impl Told {
+    /// No batch.
+    fn nothing(alloc: Global, how: HowTold) -> Told
+        ensures batches { result.batches.items ≡ [] }
+        ensures how { result.how ≡ how }
+    {
+        Told {
+            batches: Vec::new(alloc),
+            how,
+        }
+    }
 }
 
 /// Why a list breaks off.
@@ -65,16 +81,43 @@ impl<A> Client<A> {
         ensures actor { result.actor ≡ actor }
         ensures waiting { result.waiting.items ≡ [] }
         ensures number { result.list.number ≡ 1 }
+        ensures over { result.over ≡ None }
     {
         Client {
             actor,
             waiting: Vec::new(alloc),
             list: Telling::begin(alloc, 1),
+            over: None,
         }
     }
 
-    /// The batches that report a gesture. Each call that is told is given its reply.
-    pub fn gesture<G>(
+    /// The batches that report a gesture. Each call that is told is given its reply. A gesture that is not told whole is
+    /// the client's end: each later one is answered likewise, with no batch, and changes nothing.
+    pub fn gesture<G>(&mut self, alloc: Global, giver: &mut G, gesture: &Gesture) -> Told
+    where
+        A: Actor<G>,
+        requires { IsGesture gesture.now }
+        ensures told { self.old.over ≡ None → (close : Closes) → ToldSo result.how close
+            → TellsGesture A.session gesture.now self.old.actor giver.old self.old.list.number
+            self.old.waiting.items close
+            (batches_of result.batches.items) self.new.actor giver.new self.new.list.number self.new.waiting.items }
+        ensures over { self.old.over ≡ None → self.new.over ≡ end_of result.how }
+        ensures later { (how : Ways) → self.old.over ≡ Some how → (result.how ≡ how)
+            × (result.batches.items ≡ []) × (self.new ≡ self.old) × (giver.new ≡ giver.old) }
+    {
+        if let Some(how) = self.over {
+            return Told::nothing(alloc, how);
+        }
+        let told = match self.tell_batches(alloc, giver, gesture) {
+            Ok(told) => told,
+            Err(NoMemory) => Told::nothing(alloc, HowTold::Memory),
+        };
+        self.over = end_of(told.how);
+        told
+    }
+
+    /// The same of a client that is not at its end.
+    fn tell_batches<G>(
         &mut self,
         alloc: Global,
         giver: &mut G,
@@ -252,5 +295,15 @@ fn how_told(told: Result<(), Stop>) -> HowTold
         Ok(()) => HowTold::Whole,
         Err(Stop::Closed(close)) => HowTold::Ended(close),
         Err(Stop::Memory) => HowTold::Memory,
+    }
+}
+
+/// The end of a client whose gesture was told so, if it is one.
+fn end_of(how: HowTold) -> Option<HowTold>
+    ensures { result ≡ end_of how }
+{
+    match how {
+        HowTold::Whole | HowTold::Ended(Close::Fine) => None,
+        HowTold::Ended(_) | HowTold::Memory => Some(how),
     }
 }

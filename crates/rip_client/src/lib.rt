@@ -11,6 +11,7 @@
 //! | [`Actor`], a session of which items are played whole | `Truth.Playing`: how items come out, and which call waits |
 //! | [`Client`] | contracts see its fields; where it stands in a list is a `Truth.Place` |
 //! | [`Client::gesture`] | `Truth.TellsGesture`, by `Truth.TellsList`: the batches of a gesture, and how it was told |
+//! | where a client is at its end | `Sizes.end_of`: a gesture was not told whole, and each later one is answered likewise |
 //! | which batch an item is put into | `Truth.IsPut`: into the open one where `Truth.Fits` says that it has room |
 //!
 //! A layer above may rest on this: a client tells what its session does and nothing else, whatever gives the replies. A

@@ -6,14 +6,15 @@ use Rattle.std.proofs.Math.Seq.{drop-cons}
 use Rattle.std.proofs.lemmas.Grind.{flat_map-append}
 use Rattle.std.proofs.lemmas.List.{append-nil}
 use Rattle.rip_runs.specs.declared.close.Close.{Close}
-use Rattle.rip_runs.specs.declared.close.Close.TheVariants.{Fine, Refused, Stopped}
+use Rattle.rip_runs.specs.declared.close.Close.TheVariants.{Fine, Refused, Mismatch, Stopped}
 use Rattle.rip_runs.specs.declared.completion.Stop.{Stop}
 use Rattle.rip_store.specs.declared.store.Store.{Store}
 use Rattle.rip_wire.specs.Batches.{Contents}
 use Rattle.rip_said.specs.Said.{batch_line}
-use Rattle.rip_client.specs.Sizes.{ToldSo}
+use Rattle.rip_client.specs.Sizes.{ToldSo, end_of}
 use Rattle.rip_client.specs.Truth.{Playing, TellsGesture}
 use Rattle.rip_client.specs.declared.client.HowTold.{HowTold}
+use Rattle.rip_client.specs.declared.client.HowTold.TheVariants as how
 use Rattle.rip_trace.specs.declared.gestures.LinedGesture.{LinedGesture}
 use Rattle.rip_whole.specs.declared.play.Over.{Over as Outcome}
 use Rattle.rip_drive.specs.Drivers.{DrivesFrom, EndsSo, IsDriven, IsOpenedAndRefused, IsRefused, Leads, Opening, RefusesFrom, RefusesSo, TellsSo}
@@ -76,6 +77,15 @@ pub refuses_so : {A : Type 0} (x : Playing A Store) (o n : Driver A) (lined : Li
 refuses_so x o n lined how (refusal.Line k) batches told ends others =
     (batches, subst (λ m. DrivesFrom x o (lined ∷ others) batches (refused m)) (sym ends.0) (driving.refuses lined others _ _ _ _ _ _ _ _ batches ends.1 ends.2 (told (Refused ends.1 ends.2) ends.3)))
 refuses_so x o n lined how refusal.Memory batches told ends others = tt
+
+-- a client whose gesture was told to its end goes on
+pub fine_goes_on : (how : HowTold) → ToldSo how Fine → end_of how ≡ None
+fine_goes_on how.Whole fine = refl
+fine_goes_on (how.Ended Fine) fine = refl
+fine_goes_on (how.Ended (Refused item kind)) fine = cc
+fine_goes_on (how.Ended (Mismatch item)) fine = cc
+fine_goes_on (how.Ended (Stopped item stop)) fine = cc
+fine_goes_on how.Memory fine = absurd fine
 
 -- ---- gestures, by the index of the next
 

@@ -1,4 +1,4 @@
-ghost use Rattle.std.specs.Prelude.{◌≡◌, ◌++◌, ◌∷◌, All, IfErr, IfOk, List as Items, OnOk};
+ghost use Rattle.std.specs.Prelude.{◌≡◌, ◌++◌, ◌∷◌, All, IfErr, IfOk, List as Items, None, OnOk};
 ghost use Rattle.rip_client.specs.Bytes.{batches_of};
 ghost use Rattle.rip_client.specs.Sizes.{IsGesture};
 ghost use Rattle.rip_trace.specs.declared.gestures.LinedGesture.{LinedGesture as Lined};
@@ -115,12 +115,14 @@ fn tell_all<A: Actor<Store> + Drop>(
 impl<A: Actor<Store> + Drop> Driver<A> {
     /// Tells a gesture, and answers what ended the session there, if anything did.
     fn tell(&mut self, alloc: Global, lined: &LinedGesture) -> Result<Option<Stop>, DriveRefusal>
-        requires { IsGesture lined.now.gesture }
+        requires gesture { IsGesture lined.now.gesture }
+        requires on { self.old.client.over ≡ None }
         ensures told { IfOk result (λ stop. TellsSo A.session lined.now self.old self.new stop) }
+        ensures on { IfOk result (λ stop. stop ≡ None → self.new.client.over ≡ None) }
         ensures refused { IfErr result (λ why. (others : Items Lined)
             → RefusesFrom A.session self.old (lined.now ∷ others) why) }
     {
-        let told = self.client.gesture(alloc, &mut self.store, &lined.gesture)?;
+        let told = self.client.gesture(alloc, &mut self.store, &lined.gesture);
         let stop = stop_of(told.how, lined.line)?;
         write_batches(alloc, &mut self.text, told.batches.as_slice())?;
         Ok(stop)

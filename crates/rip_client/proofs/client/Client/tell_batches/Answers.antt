@@ -5,7 +5,7 @@ use Rattle.rip_client.specs.Bytes.{batches_of}
 use Rattle.rip_client.specs.Sizes.{place_of}
 use Rattle.rip_client.specs.Truth.{TellsList}
 use Rattle.rip_client.proofs.Telling.{told_close}
-use Rattle.rip_client.proofs.client.Client.gesture.Goals as goal
+use Rattle.rip_client.proofs.client.Client.tell_batches.Goals as goal
 
 pub returns : goal.returns
 returns g c = λ close how.
