@@ -14,8 +14,7 @@ use Rattle.rip_turn.specs.Turning.{Outer, outer, source}
 use Rattle.rip_serve.specs.declared.serving.Stop.{Stop}
 use Rattle.rip_serve.specs.declared.serving.Stop.TheVariants.{Idle}
 use Rattle.rip_site.specs.Sites.{ServesApp}
-use Rattle.rip_generate.specs.Served.{IsLogOf, IsServed, brought}
-use Rattle.rip_generate.specs.declared.serving.TheConstants.{TURNS}
+use Rattle.rip_generate.specs.Served.{IsLogOf, IsServed, brought, most_turns}
 
 -- what forms in memory tell
 abbrev pub told_by : DoorState → ClockState → WordsState → SinkState → Outer
@@ -32,11 +31,11 @@ told_same given door clock words sink one two three four =
 
 pub log_of : (app : Loaded) (given : Given) (door : DoorState) (clock : ClockState) (words : WordsState) (sink : SinkState) (how : Stop) (end : Outer) (log : List ℕ) (came : List TraceKnock)
     → door ≡ new_door given.knocks [] [] → clock ≡ new_clock given.moments → words ≡ new_words given.words → sink ≡ new_sink [] → how ≡ Idle
-    → ServesApp app TURNS how (told_by door clock words sink) end → end.seen.held ≡ Some log
+    → ServesApp app most_turns how (told_by door clock words sink) end → end.seen.held ≡ Some log
     → end.seen.telling.told ≡ Some (map knocked came) → IsLogOf app given log
 log_of app given door clock words sink how end log came is_door is_clock are_words is_sink idle serves put told =
     let old = told_same given door clock words sink is_door is_clock are_words is_sink in
-    record { end = end; serves = subst (λ (o : Outer). ServesApp app TURNS Idle o end) old (subst (λ (h : Stop). ServesApp app TURNS h (told_by door clock words sink) end) idle serves); put = put; came = came; never_gone = told }
+    record { end = end; serves = subst (λ (o : Outer). ServesApp app most_turns Idle o end) old (subst (λ (h : Stop). ServesApp app most_turns h (told_by door clock words sink) end) idle serves); put = put; came = came; never_gone = told }
 
 pub served_so : (app : Loaded) (text : List ℕ) (given : Given) (log : List ℕ) (history : List Recorded) → IsTrace text given → IsLogOf app given log → log ≡ history_text history → IsHistory history → IsServed app text history
 served_so app text given log history gives is_log is in_range = record { given = given; gives = gives; is_log = subst (λ t. IsLogOf app given t) is is_log; in_range = in_range }

@@ -13,7 +13,6 @@ use Rattle.rip_turn.specs.Turning.{Outer, outer, source}
 use Rattle.rip_serve.specs.declared.serving.Stop.TheVariants.{Idle}
 use Rattle.rip_site.specs.Sites.{ServesApp}
 use Rattle.rip_generate.specs.Form.{IsForm}
-use Rattle.rip_generate.specs.declared.serving.TheConstants.{TURNS}
 
 -- what a trace brings: its knocks come at a door that never fails, to which nothing was told or sent yet; its moments and
 -- words come in turn, where the last moment stands, and behind the last word j comes j; and nothing was put
@@ -25,11 +24,15 @@ brought given =
     (source None (λ j. Some (word_at (new_words given.words) j)))
     0 0
 
+-- so many turns are more than any generated work takes
+abbrev pub most_turns : ℕ
+most_turns = 1000000000
+
 -- the application was served to what the trace brings until nothing was to be done any more, and this was put; all that the
 -- door told are knocks: no send found its connection gone
 pub record IsLogOf (app : Loaded) (given : Given) (log : List ℕ) : Type 0 where
   pub end : Outer
-  pub serves : ServesApp app TURNS Idle (brought given) end
+  pub serves : ServesApp app most_turns Idle (brought given) end
   pub put : end.seen.held ≡ Some log
   pub came : List TraceKnock
   pub never_gone : end.seen.telling.told ≡ Some (map knocked came)

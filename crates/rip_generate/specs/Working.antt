@@ -1,5 +1,5 @@
 -- Work as code has it.
-use Rattle.std.specs.Prelude.{◌≡◌, ℕ, Bool, List, ◌++◌, map, Option, Some, None, option_map}
+use Rattle.std.specs.Prelude.{◌≡◌, ℕ, Bool, List, ◌++◌, map, Option, Some, None, option_map, slice_get}
 use Rattle.rip_runs.specs.declared.close.Close.{Close}
 use Rattle.rip_wire.specs.declared.gesture.Gesture.{Gesture}
 use Rattle.rip_client.specs.Sizes.{ToldSo}
@@ -22,19 +22,24 @@ stand_of c = record { session = c.actor; number = c.list.number; waiting = c.wai
 abbrev pub stage_of : {O A G : Type 0} → Work O A G → Stage A G
 stage_of w = record { stands = map (option_map stand_of) w.clients.items; giver = w.giver; lied = w.lied }
 
+-- no client is at its end
+abbrev pub AreOn : {A : Type 0} → List (Option (Client A)) → Type 0
+AreOn clients = (place : ℕ) (c : Client _) → slice_get clients place ≡ Some (Some c) → c.over ≡ None
+
 -- so many sessions were opened
 abbrev pub OpensTo : {O A G : Type 0} → Sessions A G → ℕ → Work O A G → Type 0
-OpensTo x place w = Opened x place (stage_of w) w.text
+OpensTo x place w = Opened x place (stage_of w) w.text × AreOn w.clients.items
 
 -- so many rounds of a plan were played, and of the next so many sessions told their gesture
 abbrev pub PlaysTo : {O A G : Type 0} → Sessions A G → Plan → ℕ → ℕ → Work O A G → Type 0
-PlaysTo x plan round place w = Played x plan round place (stage_of w) w.text
+PlaysTo x plan round place w = Played x plan round place (stage_of w) w.text × AreOn w.clients.items
 
 -- the session at a place told a gesture
 pub record TellsSo {O A G : Type 0} (x : Sessions A G) (place : ℕ) (gesture : Gesture) (lies : Bool) (w n : Work O A G) : Type 0 where
   pub lines : List ℕ
   pub plays : Plays x place gesture (stage_of w) lies (stage_of n) lines
   pub text : n.text ≡ w.text ++ lines
+  pub on : AreOn n.clients.items
 
 -- what is taken out of a place
 abbrev pub taken : {A : Type 0} → Option (Option A) → Option A

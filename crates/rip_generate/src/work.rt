@@ -2,7 +2,7 @@ ghost use Rattle.std.specs.Prelude.{◌≡◌, ◌+◌, ◌<◌, false, true, se
 ghost use Rattle.rip_client.specs.Sizes.{IsGesture};
 ghost use Rattle.rip_gen.specs.Plans.{IsPlan};
 ghost use Rattle.rip_generate.specs.Work.{AreLinesOf, is_fine, may_lie};
-ghost use Rattle.rip_generate.specs.Working.{GoesOn, OpensTo, PlaysTo, TellsSo, sessions_by, taken};
+ghost use Rattle.rip_generate.specs.Working.{AreOn, GoesOn, OpensTo, PlaysTo, TellsSo, sessions_by, taken};
 
 use crate::lie::lie_in;
 use crate::trace::{write_open, write_told};
@@ -147,14 +147,15 @@ impl<O: Opens<A, G> + Drop, A: Actor<G> + Drop, G: Drop> Work<O, A, G> {
 
     /// Tells a gesture of a session, if it has not ended.
     fn tell(&mut self, alloc: Global, place: u32, gesture: &Gesture) -> Result<(), NoMemory>
-        requires { IsGesture gesture.now }
+        requires gesture { IsGesture gesture.now }
+        requires on { AreOn self.old.clients.items }
         ensures { OnOk result (TellsSo (sessions_by A.session O.opens O.gives) place gesture.now
             false self.old self.new) }
     {
         let Some(mut client) = self.take(place) else {
             return Ok(());
         };
-        let told = client.gesture(alloc, &mut self.giver, gesture)?;
+        let told = client.gesture(alloc, &mut self.giver, gesture);
         let goes_on = goes_on(told.how)?;
         write_told(alloc, &mut self.text, place, told.batches.as_slice())?;
         self.put(place, kept(client, goes_on));
@@ -164,7 +165,8 @@ impl<O: Opens<A, G> + Drop, A: Actor<G> + Drop, G: Drop> Work<O, A, G> {
     /// The same of the liar, which lies if it tells a call, and then has ended. What it tells is kept from the others:
     /// its calls are given replies apart.
     fn tell_lying(&mut self, alloc: Global, place: u32, gesture: &Gesture) -> Result<(), NoMemory>
-        requires { IsGesture gesture.now }
+        requires gesture { IsGesture gesture.now }
+        requires on { AreOn self.old.clients.items }
         ensures { OnOk result (TellsSo (sessions_by A.session O.opens O.gives) place gesture.now
             true self.old self.new) }
     {
@@ -172,7 +174,7 @@ impl<O: Opens<A, G> + Drop, A: Actor<G> + Drop, G: Drop> Work<O, A, G> {
             return Ok(());
         };
         let mut giver = self.opener.giver(alloc)?;
-        let told = client.gesture(alloc, &mut giver, gesture)?;
+        let told = client.gesture(alloc, &mut giver, gesture);
         let goes_on = goes_on(told.how)?;
         let lie = lie_in(alloc, told.batches)?;
         write_told(alloc, &mut self.text, place, lie.batches.as_slice())?;

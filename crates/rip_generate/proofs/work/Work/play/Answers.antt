@@ -23,3 +23,9 @@ pub returns : goal.returns
 returns g c =
     plays_over (sessions_by g.A.Actor.session g.O.Opens.opens g.O.Opens.gives) c.args.plan.now c.args.round c.loop-place.place c.loop-place.self c.loop-place.invariant
     (omega (arith, c.loop-place-test.false, c.loop-place.auto.place-end, c.sessions-place-end.ensures))
+
+pub tell_lying-requires-clause-on : goal.tell_lying-requires-clause-on
+tell_lying-requires-clause-on g c = c.loop-place.invariant.1
+
+pub tell-requires-clause-on : goal.tell-requires-clause-on
+tell-requires-clause-on g c = c.loop-place.invariant.1
