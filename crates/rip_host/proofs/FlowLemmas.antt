@@ -241,23 +241,3 @@ here-room pool l stopped c (Some found) = refl
 pub next-room : (pool : Texts) (l : Listed) (stopped : Bool) (c d : Course) (next : Option Place) → (next, d) ≡ next_call pool l stopped c → d.nodes ≡ c.nodes
 next-room pool l stopped c d next e =
     ap (λ (n : Option Place × Course). n.1.nodes) e ∙ here-room pool l stopped c (called_here pool c.kind l c.next c.mark c.here)
-
--- A FLOW BEGINS
-
-pub flow-begins : (item : ℕ) (kind : Span) (target : ℕ) (done : ℕ → Going) (w : World) (s : Browser) (event : ℕ) (x : World) (r : Browser) (c d : Course) (bubbling : Bool)
-    → event_opened w s kind target ≡ Some (event, x, r) → bubbling ≡ bubbles x.pool kind → d ≡ begun r.dom kind target bubbling c
-    → flow item kind target done w s ≡ flow_left item event d (done event) x r
-flow-begins item kind target done w s event x r c d bubbling e b f =
-    ap (flow_of item kind target done w s) e
-    ∙ ap (λ t. along item event kind (stations r.dom target t) (done event) x r) (sym b)
-    ∙ ap (λ q. flow_left item event q (done event) x r) (sym f)
-
--- no event begins where its cell would pass the limit
-pub flow-exceeds : (item : ℕ) (kind : Span) (target : ℕ) (done : ℕ → Going) (w x : World) (s r : Browser) (refused : Refused)
-    → Opens (event_opened w s kind target) w s (Err refused) x r → IsLimit refused → flow item kind target done w s ≡ Over (Stopped item (AtLimit Cells)) w s
-flow-exceeds item kind target done w x s r (At limit) h l = ap (flow_of item kind target done w s) h.1
-flow-exceeds item kind target done w x s r Memory h l = absurd l
-
-pub opened-kept : (step : Option (ℕ × World × Browser)) (w x : World) (s r : Browser) (refused : Refused) → Opens step w s (Err refused) x r → (x ≡ w) × (r ≡ s)
-opened-kept step w x s r (At limit) h = (h.2, h.3)
-opened-kept step w x s r Memory h = (h.0, h.1)

@@ -18,7 +18,6 @@
 //! | [`Browser::make`] | `Opening.Begins` |
 //! | [`Browser::open_event`], [`Browser::event_at`], [`Browser::stopped`], [`Browser::prevented`] | `Flow.event_opened`, `Flow.reached`, `Flow.is_stopped`, `Flow.is_prevented` |
 //! | the flow of an event as a plan | `Flow.flow`; what is left of one under way, `Flow.flow_left` |
-//! | [`begin_flow`] | the flow that is left is `Flow.flow` |
 //! | [`next_call`] | `Flow.flow_ahead`: the next call and what is left behind it |
 //! | [`Events`] | contracts see `Events.Occurred` |
 //! | the heaps that a browser goes with, and what each answer keeps | `Visit.Fits`, `Visit.KeepsBrowser` |
@@ -47,7 +46,7 @@ pub use browser::Browser;
 pub use call::HostCall;
 pub use event_members::{EventMember, bubbles, can_be_cancelled};
 pub use events::{Event, Events};
-pub use flow::{begin_flow, next_call};
+pub use flow::next_call;
 pub use form_members::FormMember;
 pub use listening::Handler;
 pub use owner::Owner;

@@ -1,4 +1,4 @@
-ghost use Rattle.std.specs.Prelude.{◌≡◌, ◌≤◌, IfOk};
+ghost use Rattle.std.specs.Prelude.{◌≡◌, ◌≤◌, None, true, IfOk};
 
 use rip_events::Cursor;
 use rip_values::NoMemory;
@@ -20,7 +20,8 @@ pub struct Flow {
 impl Flow {
     /// No flow, with the room for one in a document of so many nodes.
     pub fn make(alloc: Global, nodes: u32) -> Result<Flow, NoMemory>
-        ensures { IfOk result (λ flow. flow.nodes ≡ nodes) }
+        ensures { IfOk result (λ flow. (flow.nodes ≡ nodes) × (flow.over ≡ true)
+            × (flow.turned ≡ None)) }
     {
         Ok(Flow {
             cursor: Cursor::make(alloc, nodes)?,

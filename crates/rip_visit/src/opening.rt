@@ -9,7 +9,7 @@ ghost use Rattle.rip_visit.specs.Opening.{left_of_opening, left_of_scripts, list
 use crate::flow::Flow;
 use crate::flowing::next_call;
 use rip_heap::Heap;
-use rip_host::{Browser, begin_flow};
+use rip_host::Browser;
 use rip_items::{FlowCall, Items};
 use rip_runs::{Close, Opening, Step, Stop};
 use rip_values::{FixedText, Limit, NoMemory, Refused, Value};
