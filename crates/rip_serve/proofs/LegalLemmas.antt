@@ -104,10 +104,10 @@ stopped acts old new s =
     subst (λ (t : List ℕ). Front t old.held new.held) all
     (Front-after (history_text (put_in s.done)) (history_text (put_in s.others)) old.held s.mid.held new.held s.did.held (in-part s.others s.mid new s.in_part))
 
-stops-in : (site : Site) (turn : ℕ) (s : State) (t : Coming) (old new : Seen) → StopsIn site turn s t old new
+stops-in : (site : Site) (turn : ℕ) (s : State) (t : Coming) (moments : List ℕ) (old new : Seen) → StopsIn site turn s t moments old new
     → Front (history_text (put_in (turn_acts site turn t s))) old.held new.held
-stops-in site turn s t old new (at_knock none nothing f) = Front-none (history_text (put_in (turn_acts site turn t s))) old.held new.held f.held
-stops-in site turn s t old new (behind knocked k st) =
+stops-in site turn s t moments old new (at_knock none nothing still silent f) = Front-none (history_text (put_in (turn_acts site turn t s))) old.held new.held f.held
+stops-in site turn s t moments old new (behind knocked k st) =
     subst (λ (h : Option (List ℕ)). Front (history_text (put_in (turn_acts site turn t s))) h new.held) k.held (stopped (turn_acts site turn t s) knocked new st)
 
 -- of the text of what a run would do up to the next turn a front is one of a legal history
@@ -136,7 +136,7 @@ turn-front site most old new lawful b =
     let text : Front (history_text (put_in (before ++ acts))) old.seen.held new.seen.held =
     subst (λ (t : List ℕ). Front t old.seen.held new.seen.held) (sym (log-append before acts))
     (Front-after (history_text (put_in before)) (history_text (put_in acts)) old.seen.held b.between.seen.held new.seen.held b.tells.held
-    (stops-in site (length b.turns + 1) s b.last.coming b.between.seen new.seen b.last.stops)) in
+    (stops-in site (length b.turns + 1) s b.last.coming b.last.moments b.between.seen new.seen b.last.stops)) in
     let f = front site b.turns b.last.coming old.seen.held new.seen.held lawful b.made b.go_on b.last.broken text in
     record {
       turns = b.turns;

@@ -59,8 +59,8 @@ stops_at_knock site turn s old new (inl fails) clock words =
     record {
       coming = t;
       broken = record { handled = tt; words = refl; advanced = inl refl };
-      stops = at_knock refl refl fails;
       moments = [];
+      stops = at_knock refl refl refl refl fails;
       at = inl refl;
       moment = clock;
       timely = omega arith;
@@ -71,10 +71,10 @@ stops_at_knock site turn s old new (inr stops) clock words =
     record {
       coming = t;
       broken = record { handled = tt; words = refl; advanced = inl refl };
+      moments = [];
       stops = behind stops.mid stops.knocks
           (stopped_more (knock_acts stops.knock s.connections ++ []) [] stops.mid new.seen
           (stopped_more (knock_acts stops.knock s.connections) [] stops.mid new.seen stops.stopped));
-      moments = [];
       at = inl refl;
       moment = clock;
       timely = omega arith;
@@ -95,10 +95,10 @@ stops_in_handling site turn time s is_closed halt k After knocked old new kn han
     record {
       coming = t;
       broken = record { handled = handled.handled; words = handled.draws_so; advanced = inl refl };
+      moments = time ∷ [];
       stops = behind kn.mid kn.knocks
           (stopped_more (knock_acts kn.knock s.connections ++ hs) [] kn.mid new.seen
           (stopped_then (knock_acts kn.knock s.connections) hs kn.mid knocked new.seen kn.did handled.acts));
-      moments = time ∷ [];
       at = inr refl;
       moment = clock;
       timely = timely;
@@ -123,10 +123,10 @@ stops_in_advance site turn time s is_closed a halt k After Next knocked mid old 
         words = handled.draws_so;
         advanced = inr (record { quiet = quiet; first = advanced.first; others = advanced.others; busy = advanced.busy_are; advanced = advanced.advanced });
       };
+      moments = time ∷ [];
       stops = behind kn.mid kn.knocks
           (stopped_then (knock_acts kn.knock s.connections ++ hs) (advances_acts site turn next advanced.advances) kn.mid mid new.seen
           (did_then (knock_acts kn.knock s.connections) hs kn.mid knocked mid kn.did handled.acts) advanced.acts);
-      moments = time ∷ [];
       at = inr refl;
       moment = clock;
       timely = timely;

@@ -102,17 +102,18 @@ pub record Turned (site : Site) (turn : ℕ) (s : State) (end : TurnEnd) (Stands
   pub ends : EndsSo end coming.knock (after_turn site turn coming s)
   pub tells : TellsTurn site turn s coming old new
 
--- a turn stops: the door fails as it is asked, or a front of what the turn does is done behind the knock
-pub data StopsIn (site : Site) (turn : ℕ) (s : State) (t : Coming) (old new : Seen) : Type 0 where
-  at_knock : t.knock ≡ None → turn_acts site turn t s ≡ [] → FailsAsked s old new → StopsIn site turn s t old new
-  behind : (knocked : Seen) → Knocks s t.knock old knocked → Stopped (turn_acts site turn t s) knocked new → StopsIn site turn s t old new
+-- a turn whose moment was told, or not yet, stops: the door fails as it is asked, and then neither moment nor words were
+-- asked for; or a front of what the turn does is done behind the knock
+pub data StopsIn (site : Site) (turn : ℕ) (s : State) (t : Coming) (moments : List ℕ) (old new : Seen) : Type 0 where
+  at_knock : t.knock ≡ None → turn_acts site turn t s ≡ [] → moments ≡ [] → t.words ≡ [] → FailsAsked s old new → StopsIn site turn s t moments old new
+  behind : (knocked : Seen) → Knocks s t.knock old knocked → Stopped (turn_acts site turn t s) knocked new → StopsIn site turn s t moments old new
 
 -- a turn was broken off; its moment was told, or not yet
 pub record Halted (site : Site) (turn : ℕ) (s : State) (old new : Outer) : Type 0 where
   pub coming : Coming
   pub broken : IsBrokenTurn site turn s coming
-  pub stops : StopsIn site turn s coming old.seen new.seen
   pub moments : List ℕ
+  pub stops : StopsIn site turn s coming moments old.seen new.seen
   pub at : (moments ≡ []) ⊎ (moments ≡ coming.moment ∷ [])
   pub moment : Gives moments old.clock new.clock
   pub timely : coming.moment < 2 ^ 53
