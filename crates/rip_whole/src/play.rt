@@ -1,4 +1,4 @@
-ghost use Rattle.std.specs.Prelude.{◌≡◌, ℕ, ◌+◌, ◌<◌, ◌≤◌, ◌++◌, ◌∷◌, [], List as Sequence, length, slice_get, Some, OnOk, IfOk};
+ghost use Rattle.std.specs.Prelude.{◌≡◌, ℕ, ◌+◌, ◌<◌, ◌≤◌, ◌++◌, ◌∷◌, [], List as Sequence, length, slice_get, Some, OnErr, OnOk, IfOk};
 ghost use Rattle.rip_heap.specs.Growth.{Grows};
 ghost use Rattle.rip_runner.specs.Going.{Rests, IsWithin, Keeps, going};
 ghost use Rattle.rip_course.specs.Services.{Called, Service as Meant};
@@ -48,6 +48,8 @@ pub fn put_item<H: Host, T: Drop, I: Works<H, T>, E>(
     ensures batch { OnOk result
         (replica.new.runner.planner.batch.items ≡ replica.old.runner.planner.batch.items ++ item
         ∷ []) }
+    ensures kept { OnErr result
+        (replica.new.runner.planner.batch.items ≡ replica.old.runner.planner.batch.items) }
     ensures items { (replica.new.runner.planner.items ≡ replica.old.runner.planner.items)
         × (replica.new.runner.planner.begun ≡ replica.old.runner.planner.begun) }
     ensures number { replica.new.number ≡ replica.old.number }
