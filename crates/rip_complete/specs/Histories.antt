@@ -7,8 +7,10 @@ use Rattle.rip_wire.specs.declared.gesture.Gesture.{Gesture}
 use Rattle.rip_log.specs.Entries.{Recorded, opened, admitted, served, done, closed, ended}
 use Rattle.rip_course.specs.Course.{IsCourse, Told, Turn}
 use Rattle.rip_course.specs.Parts.{Given, finishes}
+use Rattle.rip_course.specs.Run.{Coming, Site}
 use Rattle.rip_course.specs.Services.{Service}
 use Rattle.rip_course.specs.Sessions.{IsFrontOf, batches_in, given_in, opening_in}
+use Rattle.rip_legal.specs.Broken.{IsFrontOfRun}
 use Rattle.rip_session.specs.Application.{meaning_of_app}
 use Rattle.rip_truth.specs.Truthful.{is_lie}
 use Rattle.rip_complete.specs.Complete.{AreToldOf}
@@ -44,3 +46,10 @@ TruthIsServed =
     (app : Loaded) (service : Service) (limit : ℕ) (told : Told) (turns : List Turn) (history : List Recorded) (n : ℕ)
     → IsCourse (meaning_of_app app) service limit told turns history
     → IsTruthfulIn app history n → AllByRecursion (HasNoLie n) history
+
+-- so it is of each entry that a run of the application put which broke off, where the client is truthful in the history of which
+-- that is a front: by its last turn more may have been admitted and given than was put
+abbrev pub BrokenTruthIsServed : Type 0
+BrokenTruthIsServed =
+    (app : Loaded) (site : Site) (ts : List Coming) (t : Coming) (put : List Recorded) (n : ℕ) → site.meaning ≡ meaning_of_app app
+    → (run : IsFrontOfRun site ts t put) → IsTruthfulIn app run.next n → AllByRecursion (HasNoLie n) put

@@ -1,5 +1,5 @@
 ghost use Rattle.rip_complete.specs.Complete.{ClientsAreServed, RepliesAreDue, TruthfulAreComplete};
-ghost use Rattle.rip_complete.specs.Histories.{TruthIsServed};
+ghost use Rattle.rip_complete.specs.Histories.{BrokenTruthIsServed, TruthIsServed};
 
 /// A law, and no work: each reply that a client of an application tells is due where it is told, so its session is ended by
 /// no mismatch and by no bad report.
@@ -15,7 +15,9 @@ pub fn truthful_clients_are_complete()
 {}
 
 /// A law, and no work: in each legal course of an application, no entry says that a session was ended by a mismatch or by a
-/// bad report, where its batches that were admitted are the first of those that a truthful client tells.
+/// bad report, where its batches that were admitted are the first of those that a truthful client tells. Nor does an entry
+/// that a run put which broke off, where it is so in the history of which a front was put.
 pub fn truth_is_served()
-    ensures { TruthIsServed }
+    ensures whole { TruthIsServed }
+    ensures broken { BrokenTruthIsServed }
 {}

@@ -1,8 +1,8 @@
 -- The served calls of each session of a legal course.
 use Rattle.std.proofs.Common.{◌≡◌, ℕ, zero, suc, ◌+◌, ◌-◌, ◌<◌, ◌≤◌, Bool, true, false, cond, eqb, List, [], ◌∷◌, length, slice_get, Option, None, Some, refl, sym, ap, subst, ◌∙◌, arith}
 use Rattle.std.specs.Prelude.{is_some}
-use Rattle.std.specs.List.{AllByRecursion, list_any}
-use Rattle.std.proofs.lemmas.Bool.{le-leb}
+use Rattle.std.specs.List.{list_any}
+use Rattle.std.proofs.lemmas.Bool.{leb-false, lt-leb}
 use Rattle.rip_app.specs.App.{Loaded}
 use Rattle.rip_heap.specs.World.{World}
 use Rattle.rip_wire.specs.Batches.{Contents}
@@ -92,89 +92,73 @@ session_calm app seed time bs gs =
     let d : Doing Task Browser = doing_of app seed time in
     items_calm app seed time 0 (d.opening ∷ []) 1 1 (d.opening ∷ []) gs d.world d.page (λ hs x r. later_parts d 1 bs hs x r) (λ hs x r. later_calm app seed time 1 bs hs x r)
 
--- ---- each batch of a history was admitted by its last turn
+-- ---- the batches of a history are admitted one after another
 
-abbrev AreBy : ℕ → List ℕ → Type 0
-AreBy last ts = AllByRecursion (λ (t : ℕ). t ≤ last) ts
+-- these turns never fall, and none is below this
+abbrev pub Rises : ℕ → List ℕ → Type 0
+Rises low [] = Unit {0}
+Rises low (t ∷ ts) = (low ≤ t) × Rises t ts
 
-add_by : (b : Bool) (last t : ℕ) (ts : List ℕ) → t ≤ last → AreBy last ts → AreBy last (cond b (t ∷ ts) ts)
-add_by true last t ts one h = (one, h)
-add_by false last t ts one h = h
+rises_below : (low high : ℕ) (ts : List ℕ) → low ≤ high → Rises high ts → Rises low ts
+rises_below low high [] le r = tt
+rises_below low high (t ∷ ts) le r = (omega (arith, le, r.0), r.1)
 
-turns_by : (n low last : ℕ) (h : List Recorded) → AreWithin low last h → AreBy last (turns_in n h)
-turns_by n low last [] w = tt
-turns_by n low last (opened turn session id seed time ∷ h) w = add_by (eqb session n) last turn (turns_in n h) w.1 (turns_by n turn last h w.2)
-turns_by n low last (admitted turn session b ∷ h) w = add_by (eqb session n) last turn (turns_in n h) w.1 (turns_by n turn last h w.2)
-turns_by n low last (served turn session number k name args time answer ∷ h) w = turns_by n turn last h w.2
-turns_by n low last (done turn session number how ∷ h) w = turns_by n turn last h w.2
-turns_by n low last (closed turn session ∷ h) w = turns_by n turn last h w.2
-turns_by n low last (ended turn status ∷ h) w = turns_by n turn last h w.2
+rises_by : (b : Bool) (low t : ℕ) (ts : List ℕ) → low ≤ t → Rises t ts → Rises low (cond b (t ∷ ts) ts)
+rises_by true low t ts le r = (le, r)
+rises_by false low t ts le r = rises_below low t ts le r
 
-add_count : {A B : Type 0} (b : Bool) (x : A) (y : B) (xs : List A) (ys : List B) → length xs ≤ length ys → length (cond b (x ∷ xs) xs) ≤ length (cond b (y ∷ ys) ys)
-add_count true x y xs ys le = omega (arith, le)
-add_count false x y xs ys le = le
+turns_rise : (n low high : ℕ) (h : List Recorded) → AreWithin low high h → Rises low (turns_in n h)
+turns_rise n low high [] w = tt
+turns_rise n low high (opened turn session id seed time ∷ h) w = rises_by (eqb session n) low turn (turns_in n h) w.0 (turns_rise n turn high h w.2)
+turns_rise n low high (admitted turn session b ∷ h) w = rises_by (eqb session n) low turn (turns_in n h) w.0 (turns_rise n turn high h w.2)
+turns_rise n low high (served turn session number k name args time answer ∷ h) w = rises_below low turn (turns_in n h) w.0 (turns_rise n turn high h w.2)
+turns_rise n low high (done turn session number how ∷ h) w = rises_below low turn (turns_in n h) w.0 (turns_rise n turn high h w.2)
+turns_rise n low high (closed turn session ∷ h) w = rises_below low turn (turns_in n h) w.0 (turns_rise n turn high h w.2)
+turns_rise n low high (ended turn status ∷ h) w = rises_below low turn (turns_in n h) w.0 (turns_rise n turn high h w.2)
 
-more_count : {A B : Type 0} (b : Bool) (y : B) (xs : List A) (ys : List B) → length xs ≤ length ys → length xs ≤ length (cond b (y ∷ ys) ys)
-more_count true y xs ys le = omega (arith, le)
-more_count false y xs ys le = le
+-- so nothing comes of those behind one of which nothing does
+all_late : (last low : ℕ) (ts : List ℕ) (batch cost : ℕ) → Rises low ts → last < low → comes_by last cost (slice_get ts batch) ≡ false
+all_late last low [] batch cost r lt = refl
+all_late last low (t ∷ ts) zero cost r lt = lt-leb (turn_at t cost) last (let le = r.0 in omega (arith, le, lt))
+all_late last low (t ∷ ts) (suc batch) cost r lt = all_late last t ts batch cost r.1 (let le = r.0 in omega (arith, le, lt))
 
-turns_count : (n : ℕ) (h : List Recorded) → length (batches_in n h) ≤ length (turns_in n h)
-turns_count n [] = omega arith
-turns_count n (opened turn session id seed time ∷ h) = more_count (eqb session n) turn (batches_in n h) (turns_in n h) (turns_count n h)
-turns_count n (admitted turn session b ∷ h) = add_count (eqb session n) b turn (batches_in n h) (turns_in n h) (turns_count n h)
-turns_count n (served turn session number k name args time answer ∷ h) = turns_count n h
-turns_count n (done turn session number how ∷ h) = turns_count n h
-turns_count n (closed turn session ∷ h) = turns_count n h
-turns_count n (ended turn status ∷ h) = turns_count n h
-
-add_more : {A B : Type 0} (b : Bool) (x : A) (y : B) (xs : List A) (ys : List B) → length xs < length ys → length (cond b (x ∷ xs) xs) < length (cond b (y ∷ ys) ys)
-add_more true x y xs ys lt = omega (arith, lt)
-add_more false x y xs ys lt = lt
-
--- that of its opening is the first
-opened_count : (n : ℕ) (h : List Recorded) → is_some (opening_in n h) ≡ true → length (batches_in n h) < length (turns_in n h)
-opened_count n [] is = absurd (let e : false ≡ true = is in cc)
-opened_count n (opened turn session id seed time ∷ h) is = by (eqb session n) is (opened_count n h)
-  where
-    by : (b : Bool) → is_some (cond b (Some (seed, time)) (opening_in n h)) ≡ true → (is_some (opening_in n h) ≡ true → length (batches_in n h) < length (turns_in n h)) → length (batches_in n h) < length (cond b (turn ∷ turns_in n h) (turns_in n h))
-    by true e more = (let le = turns_count n h in omega (arith, le))
-    by false e more = more e
-opened_count n (admitted turn session b ∷ h) is = add_more (eqb session n) b turn (batches_in n h) (turns_in n h) (opened_count n h is)
-opened_count n (served turn session number k name args time answer ∷ h) is = opened_count n h is
-opened_count n (done turn session number how ∷ h) is = opened_count n h is
-opened_count n (closed turn session ∷ h) is = opened_count n h is
-opened_count n (ended turn status ∷ h) is = opened_count n h is
-
-starts_by : (last : ℕ) (ts : List ℕ) (b : ℕ) → AreBy last ts → b < length ts → comes_by last 1 (slice_get ts b) ≡ true
-starts_by last [] b h lt = absurd (omega (arith, lt))
-starts_by last (t ∷ ts) zero h lt = le-leb (turn_at t 1) last (let le = h.0 in omega (arith, le))
-starts_by last (t ∷ ts) (suc b) h lt = starts_by last ts b h.1 (omega (arith, lt))
+late_behind : (last low : ℕ) (ts : List ℕ) (batch other cost : ℕ) → Rises low ts → comes_by last 1 (slice_get ts batch) ≡ false → batch ≤ other
+    → comes_by last cost (slice_get ts other) ≡ false
+late_behind last low [] batch other cost r late le = refl
+late_behind last low (t ∷ ts) zero other cost r late le =
+    let lt = leb-false (turn_at t 1) last late in
+    all_late last t (t ∷ ts) other cost (omega arith, r.1) (omega (arith, lt))
+late_behind last low (t ∷ ts) (suc batch) zero cost r late le = absurd (omega (arith, le))
+late_behind last low (t ∷ ts) (suc batch) (suc other) cost r late le = late_behind last t ts batch other cost r.1 late (omega (arith, le))
 
 -- ---- the law
 
-serves_by : (app : Loaded) (last : ℕ) (h : List Recorded) (n : ℕ) → AreWithin 1 last h → (s : IsSessionOf (meaning_of_app app) last h n) → ServesIn app last h n (Some (s.seed, s.time))
-serves_by app last h n within s =
+-- of a session of any history, up to any turn by which it did what the meaning says
+serves_by : (app : Loaded) (last high : ℕ) (h : List Recorded) (n : ℕ) → AreWithin 1 high h → (s : IsSessionOf (meaning_of_app app) last h n) → ServesIn app last h n (Some (s.seed, s.time))
+serves_by app last high h n within s =
     let d : Doing Task Browser = doing_of app s.seed s.time in
     let bs : List Contents = batches_in n h in
     let gs : List Given = given_in n h in
     let turns : List ℕ = turns_in n h in
     let parts : List Part = session_parts d bs gs in
     let first : ServesPrefix _ d call_of bs gs = (applications_serve app s.seed s.time bs gs).0 in
-    let count : length bs < length turns = opened_count n h (ap is_some s.opening) in
     let calls : calls_in n h ≡ served_by last turns s.lacking parts = ap calls_among s.deeds ∙ lack_serves_none last turns s.lacking parts in
     subst (Serves d last turns (deeds_in n h) _ 1 1 _) (sym calls)
     (session_goes d last turns (deeds_in n h) s.lacking bs gs item_tells item_plain
     (λ q e. ap (wants_at q.batch q.item) s.deeds ∙ clear_before last turns s.lacking parts q (session_calm app s.seed s.time bs gs) e)
-    (λ b le. starts_by last turns b (turns_by n 1 last h within) (omega (arith, le, count)))
+    (λ batch other late le cost. late_behind last 1 turns batch other cost (turns_rise n 1 high h within) late le)
     first.made first.longest (applications_serve app s.seed s.time bs gs).1
     (record { lacks = lacks_first s.lacking parts s.may_lack; told = λ test is. ap (list_any test) s.deeds ∙ is }))
+
+pub session_serves : (app : Loaded) (last high : ℕ) (h : List Recorded) (n : ℕ) → AreWithin 1 high h → IsSessionOf (meaning_of_app app) last h n
+    → ServesIn app last h n (opening_in n h)
+session_serves app last high h n within s = subst (ServesIn app last h n) (sym s.opening) (serves_by app last high h n within s)
 
 pub histories_serve : HistoriesServePrefixes
 histories_serve app service limit told turns history course n = by (opening_in n history) refl
   where
-    by : (o : Option (ℕ × ℕ)) → opening_in n history ≡ o → ServesIn app (length turns) history n o
-    by None e = ap calls_among (course.others n e)
+    by : (o : Option (ℕ × ℕ)) → opening_in n history ≡ o → ServesIn app (length turns) history n (opening_in n history)
+    by None e = subst (ServesIn app (length turns) history n) (sym e) (ap calls_among (course.others n e))
     by (Some opening) e =
-        let s : IsSessionOf (meaning_of_app app) (length turns) history n = course.sessions n opening e in
-        subst (ServesIn app (length turns) history n) (sym s.opening ∙ e)
-        (serves_by app (length turns) history n (courses_are_in_order (meaning_of_app app) service limit told turns history course) s)
+        session_serves app (length turns) (length turns) history n (courses_are_in_order (meaning_of_app app) service limit told turns history course)
+        (course.sessions n opening e)

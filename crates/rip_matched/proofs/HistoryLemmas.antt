@@ -1,5 +1,5 @@
 -- The served calls of a session in a history, item by item.
-use Rattle.std.proofs.Common.{◌≡◌, ℕ, ◌+◌, ◌-◌, ◌≤◌, Bool, true, false, cond, List, [], ◌∷◌, ◌++◌, length, slice_get, Option, None, Some, refl, sym, ap, subst, ◌∙◌, arith}
+use Rattle.std.proofs.Common.{◌≡◌, ℕ, ◌+◌, ◌-◌, ◌≤◌, Bool, true, false, cond, List, [], ◌∷◌, ◌++◌, slice_get, Option, None, Some, refl, sym, ap, subst, ◌∙◌, arith}
 use Rattle.std.specs.Prelude.{IfSome, is_some}
 use Rattle.std.proofs.lemmas.Bool.{true≢false, false≢true, ne_eqb}
 use Rattle.rip_heap.specs.World.{World}
@@ -187,53 +187,87 @@ done_early (Some l) batch n cost ps k = by (is_before l q) refl
     by true e = e
     by false e = absurd (false≢true (subst (λ (x : Part). tells_call x.fact ≡ true) (sym (lacks_here l q ps e k)) k.call))
 
+-- nothing of the batch of this number comes by the last turn
+abbrev pub IsLate : ℕ → List ℕ → ℕ → Type 0
+IsLate last turns batch = (cost : ℕ) → comes_by last cost (slice_get turns batch) ≡ false
+
+-- nothing comes of batches behind one of which nothing does
+abbrev pub AreInOrder : ℕ → List ℕ → Type 0
+AreInOrder last turns = (batch other : ℕ) → comes_by last 1 (slice_get turns batch) ≡ false → batch ≤ other → IsLate last turns other
+
+-- so none of their calls is served
+late_serve_none : (d : Doing Task Browser) (last : ℕ) (turns : List ℕ) (did : List Deed) (batch : ℕ) (bs : List Contents) (at : Reached Browser) (spent k : ℕ)
+    → ((other : ℕ) → batch ≤ other → IsLate last turns other)
+    → Serves d last turns did at spent k (placed_in d batch bs) []
+late_serve_none d last turns did batch [] at spent k late = through at spent k
+late_serve_none d last turns did batch (b ∷ bs) at spent k late =
+    by (d.items b) (late_serve_none d last turns did (batch + 1) bs at spent k (λ other le. late other (omega (arith, le))))
+  where
+    by : (items : List Task) → Serves d last turns did at spent k (placed_in d (batch + 1) bs) []
+        → Serves d last turns did at spent k (placed batch 1 items ++ placed_in d (batch + 1) bs) []
+    by [] rest = rest
+    by (a ∷ items) rest =
+        let p : Placed Task = record { batch = batch; number = 1; item = a } in
+        is_later at spent k p (placed batch 2 items ++ placed_in d (batch + 1) bs) (late batch (omega arith) (spent_by d at spent p))
+
 items_go : (d : Doing Task Browser) (last : ℕ) (turns : List ℕ) (did : List Deed) (o : Option Lacking) (batch : ℕ) (all : List Task) (n cost : ℕ) (items : List Task) (gs : List Given) (w : World) (s : Browser)
     (next : List Given → World → Browser → List Part) (xs : List (Placed Task)) (spent k : ℕ)
-    → Case d did o → 1 ≤ n → spent_before n spent ≡ cost → comes_by last cost (slice_get turns batch) ≡ true
+    → Case d did o → 1 ≤ n → spent_before n spent ≡ cost
+    → (comes_by last cost (slice_get turns batch) ≡ false → (at : Reached Browser) (u m : ℕ) → Serves d last turns did at u m xs [])
     → ((hs : List Given) (x : World) (r : Browser) (u m : ℕ) → Known d (record { world = x; page = r; given = hs }) m xs → Ahead last turns did o (next hs x r)
     → Serves d last turns did (record { world = x; page = r; given = hs }) u m xs (served_by last turns o (next hs x r)))
     → Known d (record { world = w; page = s; given = gs }) k (placed batch n items ++ xs)
     → Ahead last turns did o (items_parts d batch all n cost items gs w s next)
     → Serves d last turns did (record { world = w; page = s; given = gs }) spent k (placed batch n items ++ xs) (served_by last turns o (items_parts d batch all n cost items gs w s next))
-items_go d last turns did o batch all n cost [] gs w s next xs spent k c above before come rest known ahead =
-    let q : Part = part_of batch n cost (finishes None) in
-    let e : early o q ≡ true = done_early o batch n cost (next gs w s) ahead.lacks in
-    subst (Serves d last turns did (record { world = w; page = s; given = gs }) spent k xs) (sym (served_more last turns o q (next gs w s) false e come refl))
-    (rest gs w s spent k known (ahead_behind last turns did o q (next gs w s) e come ahead))
-items_go d last turns did o batch all n cost (a ∷ items) gs w s next xs spent k c above before come rest known ahead =
+items_go d last turns did o batch all n cost [] gs w s next xs spent k c above before late rest known ahead = by (comes last turns q) refl
+  where
+    at : Reached Browser
+    at = record { world = w; page = s; given = gs }
+
+    q : Part
+    q = part_of batch n cost (finishes None)
+
+    e : early o q ≡ true
+    e = done_early o batch n cost (next gs w s) ahead.lacks
+
+    by : (b : Bool) → comes last turns q ≡ b → Serves d last turns did at spent k xs (served_by last turns o (q ∷ next gs w s))
+    by true come =
+        subst (Serves d last turns did at spent k xs) (sym (served_more last turns o q (next gs w s) false e come refl))
+        (rest gs w s spent k known (ahead_behind last turns did o q (next gs w s) e come ahead))
+    by false come = subst (Serves d last turns did at spent k xs) (sym (served_late last turns o q (next gs w s) come)) (late come at spent k)
+items_go d last turns did o batch all n cost (a ∷ items) gs w s next xs spent k c above before late rest known ahead =
     item_goes d last turns did o batch all n cost a gs w s (placed batch (n + 1) items ++ xs) spent k (whole_item d batch a n w s (first_given gs))
     (λ u x r. items_parts d batch all (n + 1) u items (given_behind (d.fact a) gs) x r next) c refl before known ahead
     (λ u x r m came more behind.
     items_go d last turns did o batch all (n + 1) u items (given_behind (d.fact a) gs) x r next xs u m c (omega (arith, above))
-    (ap (λ (b : Bool). cond b 1 u) (ne_eqb (n + 1) 1 (λ e. omega (arith, e, above)))) came rest more behind)
+    (ap (λ (b : Bool). cond b 1 u) (ne_eqb (n + 1) 1 (λ e. omega (arith, e, above)))) (λ later. absurd (true≢false (sym came ∙ later))) rest more behind)
 
-later_go : (d : Doing Task Browser) (last : ℕ) (turns : List ℕ) (did : List Deed) (o : Option Lacking) (most batch : ℕ) (bs : List Contents) (gs : List Given) (w : World) (s : Browser) (spent k : ℕ)
-    → Case d did o → ((b : ℕ) → b ≤ most → comes_by last 1 (slice_get turns b) ≡ true) → batch + length bs ≤ most + 1
+later_go : (d : Doing Task Browser) (last : ℕ) (turns : List ℕ) (did : List Deed) (o : Option Lacking) (batch : ℕ) (bs : List Contents) (gs : List Given) (w : World) (s : Browser) (spent k : ℕ)
+    → Case d did o → AreInOrder last turns
     → Known d (record { world = w; page = s; given = gs }) k (placed_in d batch bs)
     → Ahead last turns did o (later_parts d batch bs gs w s)
     → Serves d last turns did (record { world = w; page = s; given = gs }) spent k (placed_in d batch bs) (served_by last turns o (later_parts d batch bs gs w s))
-later_go d last turns did o most batch [] gs w s spent k c starts within known ahead =
+later_go d last turns did o batch [] gs w s spent k c order known ahead =
     subst (Serves d last turns did (record { world = w; page = s; given = gs }) spent k []) (sym (served_none last turns o)) (through (record { world = w; page = s; given = gs }) spent k)
-later_go d last turns did o most batch (b ∷ bs) gs w s spent k c starts within known ahead =
-    let more : length (b ∷ bs) ≡ length bs + 1 = omega arith in
+later_go d last turns did o batch (b ∷ bs) gs w s spent k c order known ahead =
     items_go d last turns did o batch (d.items b) 1 1 (d.items b) gs w s (λ hs x r. later_parts d (batch + 1) bs hs x r) (placed_in d (batch + 1) bs) spent k c (omega arith) refl
-    (starts batch (omega (arith, within, more)))
-    (λ hs x r u m. later_go d last turns did o most (batch + 1) bs hs x r u m c starts (omega (arith, within, more))) known ahead
+    (λ late at u m. late_serve_none d last turns did (batch + 1) bs at u m (λ other le. order batch other late (omega (arith, le))))
+    (λ hs x r u m. later_go d last turns did o (batch + 1) bs hs x r u m c order) known ahead
 
 -- ---- a session
 
 pub session_goes : (d : Doing Task Browser) (last : ℕ) (turns : List ℕ) (did : List Deed) (o : Option Lacking) (bs : List Contents) (gs : List Given)
     → ((a : Task) → serves_call (d.fact a) ≡ is_some (call_of a)) → ((a : Task) → tells_call (d.fact a) ≡ serves_call (d.fact a))
     → ((q : Part) → early o q ≡ true → wants_at q.batch q.item did ≡ false)
-    → ((b : ℕ) → b ≤ length bs → comes_by last 1 (slice_get turns b) ≡ true)
+    → AreInOrder last turns
     → AreMade browser_rules d call_of (opened d gs) (handled d (opened d gs) (items_of d bs))
     → AreLongest browser_rules d call_of (opened d gs) (items_of d bs)
     → AreNumbered call_of 1 (handled d (opened d gs) (items_of d bs))
     → Ahead last turns did o (session_parts d bs gs)
     → Serves d last turns did (opened d gs) 1 1 (items_of d bs) (served_by last turns o (session_parts d bs gs))
-session_goes d last turns did o bs gs tells plain clear starts made longest numbered ahead =
+session_goes d last turns did o bs gs tells plain clear order made longest numbered ahead =
     let c : Case d did o = record { tells = tells; plain = plain; clear = clear } in
     items_go d last turns did o 0 (d.opening ∷ []) 1 1 (d.opening ∷ []) gs d.world d.page (λ hs x r. later_parts d 1 bs hs x r) (placed_in d 1 bs) 1 1 c (omega arith) refl
-    (starts 0 (omega arith))
-    (λ hs x r u m. later_go d last turns did o (length bs) 1 bs hs x r u m c starts (omega arith))
+    (λ late at u m. late_serve_none d last turns did 1 bs at u m (λ other le. order 0 other late (omega arith)))
+    (λ hs x r u m. later_go d last turns did o 1 bs hs x r u m c order)
     (record { made = made; longest = longest; numbered = numbered }) ahead

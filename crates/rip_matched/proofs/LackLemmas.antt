@@ -1,5 +1,5 @@
 -- Parts that tell of a call are those of items that report one.
-use Rattle.std.proofs.Common.{◌≡◌, ◌⊎◌, inl, inr, ℕ, ◌+◌, ◌-◌, Bool, true, false, List, [], ◌∷◌, ◌++◌, Option, None, Some, if◌then◌else◌, refl, sym, subst}
+use Rattle.std.proofs.Common.{◌≡◌, inl, inr, ℕ, ◌+◌, ◌-◌, Bool, true, false, List, [], ◌∷◌, ◌++◌, Some, if◌then◌else◌, refl, sym, subst}
 use Rattle.std.proofs.lemmas.Bool.{true≢false}
 use Rattle.std.specs.List.{AllByRecursion}
 use Rattle.rip_app.specs.App.{Loaded}
@@ -8,12 +8,11 @@ use Rattle.rip_wire.specs.Batches.{Contents}
 use Rattle.rip_host.specs.declared.browser.Browser.{Browser}
 use Rattle.rip_runs.specs.declared.close.Close.{Close}
 use Rattle.rip_runs.specs.declared.close.Close.TheVariants.{Fine, Refused, Mismatch, Stopped}
-use Rattle.rip_runs.specs.declared.completion.Stop.{Stop}
 use Rattle.rip_runs.specs.declared.completion.Stop.TheVariants.{Fault as AtFault, Limit as AtLimit}
 use Rattle.rip_runs.specs.Plan.{Plan}
-use Rattle.rip_runner.specs.Play.{Closes, Holds, Played, play}
+use Rattle.rip_runner.specs.Play.{Closes, Holds, Played}
 use Rattle.rip_course.specs.Parts.{Fact, finishes, passes, serves, Given, IsLack, Lacking, Part, behind, ends_at_mismatch, is_before, serves_call, tells_call}
-use Rattle.rip_replica.specs.Parts.{Doing, after_item, first_given, given_behind, is_fine, items_parts, later_parts, part_of, session_parts, whole_item}
+use Rattle.rip_replica.specs.Parts.{Doing, after_item, first_given, given_behind, is_fine, items_parts, later_parts, part_of, whole_item}
 use Rattle.rip_replica.specs.Plays.{IsItemPlan}
 use Rattle.rip_replica.specs.Rooms.{IsMismatch}
 use Rattle.rip_replica.proofs.ItemLemmas.{mismatch_serves}

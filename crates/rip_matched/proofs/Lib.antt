@@ -1,3 +1,4 @@
+pub mod BrokenLaw
 pub mod CallLemmas
 pub mod HistoryLaw
 pub mod HistoryLemmas

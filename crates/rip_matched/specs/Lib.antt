@@ -1,3 +1,4 @@
+pub mod Broken
 pub mod Histories
 pub mod Lacks
 pub mod Matched

@@ -1,3 +1,4 @@
+ghost use Rattle.rip_matched.specs.Broken.{BrokenRunsServePrefixes};
 ghost use Rattle.rip_matched.specs.Histories.{CallsAreOne, HistoriesServePrefixes};
 ghost use Rattle.rip_matched.specs.Lacks.{LacksAreAtCalls};
 ghost use Rattle.rip_matched.specs.Matched.{ApplicationsServePrefixes};
@@ -20,4 +21,11 @@ pub fn lacks_are_at_calls()
 pub fn histories_serve_prefixes()
     ensures prefix { HistoriesServePrefixes }
     ensures one { CallsAreOne }
+{}
+
+/// A law, and no work: so it is where a run of an application breaks off. What it put is a front of a history in which the
+/// served calls of each session are those, up to the turn that broke off or the one before; and the calls that it put are the
+/// first of them.
+pub fn broken_runs_serve_prefixes()
+    ensures { BrokenRunsServePrefixes }
 {}
