@@ -20,7 +20,7 @@ use Rattle.rip_course.specs.declared.standing.Standing.{Standing}
 use Rattle.rip_course.proofs.DecisionLemmas.{admits_next, closes_idle}
 use Rattle.rip_course.proofs.RequestLemmas.{Admitting, admissions_are, not_admitted}
 use Rattle.rip_legal.proofs.ViewLemmas.{Seen, seen_join}
-use Rattle.rip_paced.specs.Paced.{IsDecided, IsInPace, IsMet, Request, Wish, batch_told, closing, count_behind, ends, handles, is_session, nothing, request_of, wish_in}
+use Rattle.rip_paced.specs.Paced.{IsDecided, IsInPace, IsMet, Request, Wish, batch_told, closing, count_behind, ends, handles, is_session, nothing, request_of, wish_in, wish_read}
 use Rattle.rip_paced.specs.Paced as paced
 use Rattle.rip_paced.proofs.Idle.{Told, told_idle}
 
@@ -77,12 +77,21 @@ session_is : (n : ℕ) (o : Option ℕ) → is_session n o ≡ true → o ≡ So
 session_is n None e = absurd (false≢true e)
 session_is n (Some k) e = ap Some (eqb-true k n e)
 
--- a request in pace is met
-pub request_met : (m : Meaning) (u limit n count : ℕ) (h : List Recorded) (stages : List Stage) (told : List Contents) → Told m u n h stages count told
+-- where memory was wanting before a request was read, that is answered
+early_fails : (limit : ℕ) (h : List Recorded) (asked : Asked) (drawn : Drawn) → decide limit h asked drawn early ≡ fails 503 (codes "memory")
+early_fails limit h page drawn = refl
+early_fails limit h (batch id b) drawn = refl
+early_fails limit h (quit id) drawn = refl
+
+none_met : (limit n count : ℕ) (h : List Recorded) (asked : Asked) (drawn : Drawn) (lack : Lack) → IsMet n count (request_of limit h (asking asked drawn lack)) nothing
+none_met limit n count h asked drawn lack is = ap (decide limit h asked drawn) is ∙ early_fails limit h asked drawn
+
+-- a request in pace that was read is met
+read_met : (m : Meaning) (u limit n count : ℕ) (h : List Recorded) (stages : List Stage) (told : List Contents) → Told m u n h stages count told
     → (asked : Asked) (drawn : Drawn) (lack : Lack) → IsInPace n count h (wish_in n h asked)
     → IsMet n count (request_of limit h (asking asked drawn lack)) (wish_in n h asked)
-request_met m u limit n count h stages told w page drawn lack pace = tt
-request_met m u limit n count h stages told w (batch id b) drawn lack pace = by (is_session n (named_by id h)) refl b pace
+read_met m u limit n count h stages told w page drawn lack pace = none_met limit n count h page drawn lack
+read_met m u limit n count h stages told w (batch id b) drawn lack pace = by (is_session n (named_by id h)) refl b pace
   where
     by : (t : Bool) → is_session n (named_by id h) ≡ t → (o : Option Contents) → IsInPace n count h (cond t (handles o) nothing)
         → IsMet n count (request_of limit h (asking (batch id o) drawn lack)) (cond t (handles o) nothing)
@@ -91,15 +100,23 @@ request_met m u limit n count h stages told w (batch id b) drawn lack pace = by 
         let i = told_idle m u n h stages count told w p.1 in
         let s = i.standing in
         batch_decided limit n h id c drawn lack s s.ended (session_is n (named_by id h) e) i.stands i.done (p.0 ∙ ap (λ (k : ℕ). k + 1) (sym i.last)) refl
-    by false e o p = tt
-request_met m u limit n count h stages told w (quit id) drawn lack pace = by (is_session n (named_by id h)) refl
+    by false e o p = none_met limit n count h (batch id o) drawn lack
+read_met m u limit n count h stages told w (quit id) drawn lack pace = by (is_session n (named_by id h)) refl
   where
     by : (t : Bool) → is_session n (named_by id h) ≡ t → IsMet n count (request_of limit h (asking (quit id) drawn lack)) (cond t ends nothing)
     by true e = λ done.
         let i = told_idle m u n h stages count told w done in
         let s = i.standing in
         close_decided limit n count h id drawn lack s s.ended (session_is n (named_by id h) e) i.stands i.done i.last refl
-    by false e = tt
+    by false e = none_met limit n count h (quit id) drawn lack
+
+-- a request in pace is met
+pub request_met : (m : Meaning) (u limit n count : ℕ) (h : List Recorded) (stages : List Stage) (told : List Contents) → Told m u n h stages count told
+    → (asked : Asked) (drawn : Drawn) (lack : Lack) → IsInPace n count h (wish_read lack (wish_in n h asked))
+    → IsMet n count (request_of limit h (asking asked drawn lack)) (wish_read lack (wish_in n h asked))
+request_met m u limit n count h stages told w asked drawn no_lack pace = read_met m u limit n count h stages told w asked drawn no_lack pace
+request_met m u limit n count h stages told w asked drawn early pace = none_met limit n count h asked drawn early
+request_met m u limit n count h stages told w asked drawn late pace = read_met m u limit n count h stages told w asked drawn late pace
 
 -- ---- the batches
 
@@ -138,16 +155,27 @@ quit_admits_none limit h id drawn early p = p
 quit_admits_none limit h id drawn late p = p
 quit_admits_none limit h id drawn no_lack p = named_admits_none h (named_by id h) p
 
--- a batch that is admitted to the session was told to it
-pub admitted_told : (limit n : ℕ) (h : List Recorded) (asked : Asked) (drawn : Drawn) (lack : Lack) (b : Contents)
+early_admits_none : (limit : ℕ) (h : List Recorded) (asked : Asked) (drawn : Drawn) → Admitting (decide limit h asked drawn early) → ⊥
+early_admits_none limit h page drawn p = p
+early_admits_none limit h (batch id b) drawn p = p
+early_admits_none limit h (quit id) drawn p = p
+
+wished_told : (limit n : ℕ) (h : List Recorded) (asked : Asked) (drawn : Drawn) (lack : Lack) (b : Contents)
     → decide limit h asked drawn lack ≡ admits n b → wish_in n h asked ≡ handles (Some b)
-admitted_told limit n h page drawn lack b e = absurd (page_admits_none limit h drawn lack (not_admitted (decide limit h page drawn lack) n b e))
-admitted_told limit n h (quit id) drawn lack b e = absurd (quit_admits_none limit h id drawn lack (not_admitted (decide limit h (quit id) drawn lack) n b e))
-admitted_told limit n h (batch id o) drawn lack b e =
+wished_told limit n h page drawn lack b e = absurd (page_admits_none limit h drawn lack (not_admitted (decide limit h page drawn lack) n b e))
+wished_told limit n h (quit id) drawn lack b e = absurd (quit_admits_none limit h id drawn lack (not_admitted (decide limit h (quit id) drawn lack) n b e))
+wished_told limit n h (batch id o) drawn lack b e =
     let a = admissions_are limit h id o drawn lack n b e in
     ap (λ (k : Option ℕ). cond (is_session n k) (handles o) nothing) a.session
     ∙ ap (λ (t : Bool). cond t (handles o) nothing) (eq-eqb n n refl)
     ∙ ap handles a.asked_for
+
+-- a batch that is admitted to the session was told to it
+pub admitted_told : (limit n : ℕ) (h : List Recorded) (asked : Asked) (drawn : Drawn) (lack : Lack) (b : Contents)
+    → decide limit h asked drawn lack ≡ admits n b → wish_read lack (wish_in n h asked) ≡ handles (Some b)
+admitted_told limit n h asked drawn no_lack b e = wished_told limit n h asked drawn no_lack b e
+admitted_told limit n h asked drawn early b e = absurd (early_admits_none limit h asked drawn (not_admitted (decide limit h asked drawn early) n b e))
+admitted_told limit n h asked drawn late b e = wished_told limit n h asked drawn late b e
 
 -- the batches that were told by a request
 abbrev pub told_by : Wish → List Contents
@@ -158,13 +186,13 @@ batches_more n h es = ap (λ (v : Seen). v.batches) (seen_join n h es)
 
 -- the session's batches are the first of those that were told, behind the request too
 pub front_after : (m : Meaning) (u limit moment n count : ℕ) (h : List Recorded) (stages : List Stage) (told : List Contents) → Told m u n h stages count told
-    → (asked : Asked) (drawn : Drawn) (lack : Lack) → IsInPace n count h (wish_in n h asked)
+    → (asked : Asked) (drawn : Drawn) (lack : Lack) → IsInPace n count h (wish_read lack (wish_in n h asked))
     → (d : Decision) → decide limit h asked drawn lack ≡ d
-    → (more : List Contents) × (told ++ told_by (wish_in n h asked) ≡ batches_in n (h ++ decided_entries (u + 1) moment d) ++ more)
+    → (more : List Contents) × (told ++ told_by (wish_read lack (wish_in n h asked)) ≡ batches_in n (h ++ decided_entries (u + 1) moment d) ++ more)
 front_after m u limit moment n count h stages told w asked drawn lack pace d e = by d e
   where
     wish : Wish
-    wish = wish_in n h asked
+    wish = wish_read lack (wish_in n h asked)
 
     same : (es : List Recorded) → batches_in n es ≡ [] → (more : List Contents) × (told ++ told_by wish ≡ batches_in n (h ++ es) ++ more)
     same es none = (

@@ -39,10 +39,10 @@ all_filter P test (d ∷ cs) h = by (test d) (all_filter P test cs h.1)
     by true rest = (h.0, rest)
     by false rest = rest
 
-all_without : (P : Connection → Type 0) (c : ℕ) (cs : List Connection) → AllByRecursion P cs → AllByRecursion P (without c cs)
+pub all_without : (P : Connection → Type 0) (c : ℕ) (cs : List Connection) → AllByRecursion P cs → AllByRecursion P (without c cs)
 all_without P c cs h = all_filter P (λ (d : Connection). not (eqb d.number c)) cs h
 
-all_changed : (P Q : Connection → Type 0) (c : ℕ) (f : Connection → Connection) → ((d : Connection) → P d → d.number ≡ c → Q (f d)) → ((d : Connection) → P d → (d.number ≡ c → ⊥) → Q d)
+pub all_changed : (P Q : Connection → Type 0) (c : ℕ) (f : Connection → Connection) → ((d : Connection) → P d → d.number ≡ c → Q (f d)) → ((d : Connection) → P d → (d.number ≡ c → ⊥) → Q d)
     → (cs : List Connection) → AllByRecursion P cs → AllByRecursion Q (changed c f cs)
 all_changed P Q c f own other [] h = tt
 all_changed P Q c f own other (d ∷ cs) h = (by (eqb d.number c) refl, all_changed P Q c f own other cs h.1)
@@ -51,7 +51,7 @@ all_changed P Q c f own other (d ∷ cs) h = (by (eqb d.number c) refl, all_chan
     by true e = own d h.0 (eqb-true d.number c e)
     by false e = other d h.0 (eqb-false d.number c e)
 
-all_push : (P : Connection → Type 0) (cs : List Connection) (d : Connection) → AllByRecursion P cs → P d → AllByRecursion P (cs ++ d ∷ [])
+pub all_push : (P : Connection → Type 0) (cs : List Connection) (d : Connection) → AllByRecursion P cs → P d → AllByRecursion P (cs ++ d ∷ [])
 all_push P [] d h p = (p, tt)
 all_push P (c ∷ cs) d h p = (h.0, all_push P cs d h.1 p)
 

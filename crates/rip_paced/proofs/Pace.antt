@@ -21,7 +21,7 @@ use Rattle.rip_legal.proofs.FitLemmas.{AllFit, decided_fit, handled_fit}
 use Rattle.rip_legal.proofs.MadeLemmas.{advanced_made, busy_rises}
 use Rattle.rip_legal.proofs.RunLemmas.{run_fits}
 use Rattle.rip_legal.proofs.ViewLemmas.{Seen, seen_join}
-use Rattle.rip_paced.specs.Paced.{AreMet, BatchesAreAnswered, KeepsPace, PacedAreServed, Request, batch_told, batches_told, count_behind, requests_from, requests_in, wish_in, wish_of}
+use Rattle.rip_paced.specs.Paced.{AreMet, BatchesAreAnswered, KeepsPace, PacedAreServed, Request, batch_told, batches_told, count_behind, requests_from, requests_in, wish_in, wish_of, wish_read}
 use Rattle.rip_paced.proofs.Deciding.{front_after, request_met, size_after, told_by}
 use Rattle.rip_paced.proofs.Idle.{Told}
 
@@ -62,14 +62,14 @@ record Handed (limit u moment n count : ℕ) (h : List Recorded) (told : List Co
 -- one request before others
 handed_first : (m : Meaning) (limit u moment n count : ℕ) (h : List Recorded) (stages : List Stage) (told : List Contents) (x : Handled) (xs : List Handled)
     → Told m u n h stages count told → KeepsPace n count (requests_in limit (u + 1) moment h (x ∷ xs))
-    → Handed limit u moment n (count_behind count (wish_in n h x.asked)) (h ++ decided_entries (u + 1) moment (decide limit h x.asked x.drawn x.lack)) (told ++ told_by (wish_in n h x.asked)) xs
+    → Handed limit u moment n (count_behind count (wish_read x.lack (wish_in n h x.asked))) (h ++ decided_entries (u + 1) moment (decide limit h x.asked x.drawn x.lack)) (told ++ told_by (wish_read x.lack (wish_in n h x.asked))) xs
     → Handed limit u moment n count h told (x ∷ xs)
 handed_first m limit u moment n count h stages told x xs w pace rest = record {
   met = (request_met m u limit n count h stages told w x.asked x.drawn x.lack pace.0, rest.met);
-  size = ap length (told_first told (batch_told (wish_in n h x.asked)) others) ∙ rest.size;
+  size = ap length (told_first told (batch_told (wish_read x.lack (wish_in n h x.asked))) others) ∙ rest.size;
   more = rest.more;
   front =
-      told_first told (batch_told (wish_in n h x.asked)) others ∙ rest.front
+      told_first told (batch_told (wish_read x.lack (wish_in n h x.asked))) others ∙ rest.front
       ∙ ap (λ (g : List Recorded). batches_in n g ++ rest.more) (append_assoc h es (handled_entries limit (u + 1) moment (h ++ es) xs));
 }
   where
@@ -89,7 +89,7 @@ handed m lawful limit u moment n count h stages told [] w pace = record {
 }
 handed m lawful limit u moment n count h stages told (x ∷ xs) w pace =
     let d = decide limit h x.asked x.drawn x.lack in
-    let wish = wish_in n h x.asked in
+    let wish = wish_read x.lack (wish_in n h x.asked) in
     let after = front_after m u limit moment n count h stages told w x.asked x.drawn x.lack pace.0 d refl in
     let behind : Told m u n (h ++ decided_entries (u + 1) moment d) (decided_stages moment d stages) (count_behind count wish) (told ++ told_by wish) = record {
       fit = decided_fit m lawful limit u moment h stages x d refl w.fit;

@@ -10,7 +10,7 @@ use Rattle.rip_log.specs.Entries.{Recorded}
 use Rattle.rip_course.specs.Answering.{batch_answer, batch_body, json_answer}
 use Rattle.rip_course.specs.Course.{Handled, Turn, decided_entries, turn_entries}
 use Rattle.rip_course.specs.Parts.{IsLawful, ends_batch}
-use Rattle.rip_course.specs.Requests.{Asked, page, batch, quit, Lack, no_lack, Decision, admits, closes, decide, fails, gone, named_by}
+use Rattle.rip_course.specs.Requests.{Asked, page, batch, quit, Lack, no_lack, early, late, Decision, admits, closes, decide, fails, gone, named_by}
 use Rattle.rip_course.specs.Run.{Site, first_state, Coming}
 use Rattle.rip_course.specs.Runs.{AreTurns}
 use Rattle.rip_course.specs.Sessions.{Deed, IsFrontOf, batches_in, deeds_in}
@@ -71,8 +71,15 @@ wish_in n h page = nothing
 wish_in n h (batch id b) = if is_session n (named_by id h) then handles b else nothing
 wish_in n h (quit id) = if is_session n (named_by id h) then ends else nothing
 
+-- where memory was wanting before a request was read, nothing is asked of a session: it is answered alike, whatever it asks
+abbrev pub wish_read : Lack → Wish → Wish
+wish_read no_lack w = w
+wish_read early w = nothing
+wish_read late w = w
+
+-- what a request asks of the session of an ordinal
 abbrev pub wish_of : ℕ → Request → Wish
-wish_of n r = wish_in n r.before r.asked
+wish_of n r = wish_read r.lack (wish_in n r.before r.asked)
 
 -- the batch that is to be handled
 abbrev pub batch_told : Wish → Option Contents
@@ -104,7 +111,7 @@ count_behind count (handles b) = count + 1
 count_behind count ends = count
 
 -- of these requests, before which so many batches were told, those for batches of the session tell the next ones in order,
--- each once the one before it is done
+-- each once the one before it is done; one that was not read for want of memory may be asked again
 abbrev pub KeepsPace : ℕ → ℕ → List Request → Type 0
 KeepsPace n count [] = Unit {0}
 KeepsPace n count (r ∷ rs) = IsInPace n count r.before (wish_of n r) × KeepsPace n (count_behind count (wish_of n r)) rs
@@ -122,9 +129,10 @@ pub data IsDecided (n : ℕ) (r : Request) (wanted : Decision) : Type 0 where
 abbrev pub closing : ℕ → ℕ → Decision
 closing n count = closes n (answer_text (record { number = count; ended = Some Closed; served = [] }))
 
--- behind so many batches the next is admitted, and once the last is done the session is closed where that is asked
+-- behind so many batches the next is admitted, and once the last is done the session is closed where that is asked; where
+-- memory was wanting before the request was read, that is answered
 abbrev pub IsMet : ℕ → ℕ → Request → Wish → Type 0
-IsMet n count r nothing = Unit {0}
+IsMet n count r nothing = r.lack ≡ early → r.decision ≡ fails 503 (codes "memory")
 IsMet n count r (handles None) = Unit {0}
 IsMet n count r (handles (Some b)) = IsDecided n r (admits n b)
 IsMet n count r ends = was_done n count r.before ≡ true → IsDecided n r (closing n count)

@@ -1,5 +1,6 @@
 ghost use Rattle.rip_paced.specs.Answered.{AskersAreAnswered};
 ghost use Rattle.rip_paced.specs.Paced.{BatchesAreAnswered, PacedAreServed};
+ghost use Rattle.rip_paced.specs.Turned.{TurnsAreLeast};
 
 /// A law, and no work: a client that tells its session batch after batch, each once the one before it is done, has each
 /// admitted as the next, until the session ends or memory is wanting.
@@ -13,4 +14,10 @@ pub fn paced_clients_are_served()
 pub fn askers_are_answered()
     ensures there { AskersAreAnswered }
     ensures answer { BatchesAreAnswered }
+{}
+
+/// A law, and no work: in each run of the machine what is handled on a connection is handled in the first turn in which its
+/// bytes have come and no answer is owed on the connection to what was handled before.
+pub fn requests_are_handled_first()
+    ensures { TurnsAreLeast }
 {}

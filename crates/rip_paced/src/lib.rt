@@ -8,10 +8,11 @@
 //! | [`paced_clients_are_served`] | `Paced.PacedAreServed`: so it is in each run of the machine that a server follows |
 //! | the connection on which a session's last batch was asked for | `Answered.asker_of` |
 //! | [`askers_are_answered`] | `Answered.AskersAreAnswered`: in each turn of a run a batch that is done is answered on that connection, if it is still there, and on no other; `Paced.BatchesAreAnswered`: the answer has code 200, and tells its number and its served calls |
+//! | [`requests_are_handled_first`] | `Turned.TurnsAreLeast`: in each run what is handled on a connection is handled in the first turn in which it may be (`Handlings.AreHandled` of `rip_course`), by the bytes that came and the answers that are owed |
 //!
 //! A layer above may rest on this: it holds of any lawful meaning of sessions, whatever other clients ask.
 #![tactic(auto)]
 
 mod laws;
 
-pub use laws::{askers_are_answered, paced_clients_are_served};
+pub use laws::{askers_are_answered, paced_clients_are_served, requests_are_handled_first};
