@@ -1,11 +1,14 @@
 #!/usr/bin/env python3
-"""Tries how the program `ripley` shares turns: a run that is cut after each turn, and 64 sessions that are busy for long.
+"""Tries how the program `ripley` shares turns: a run that is cut after each turn, 64 sessions that are busy for long, and
+64 whose batches would take more than half an hour.
 
 usage: turns.py PROGRAM
 
 A run of N turns puts the lines of the first N turns of the whole run, with status 3, and no more. Of 64 sessions each of
 which tells a batch of about half a million units, all at once, each takes 1,000 units a turn, so all are done within some
-600 turns, in the order of their opening; and within a minute. The status is 0 where all is so.
+600 turns, in the order of their opening; and within a minute. Where each tells 64 clicks of 9,600,005 units, a run of 200
+turns is at its end within a minute too, with nothing of these batches done: no batch is run ahead of its turns. The status
+is 0 where all is so.
 """
 import pathlib
 import re
@@ -87,9 +90,37 @@ def long_batches(program):
 
 BUTTON = 6
 
+WORK = (
+    '<html><head></head><body><button>W</button><script>"use strict";'
+    'document.body.firstChild.addEventListener("click",function(){for(var i=0;i<1600000;i++){}},false);'
+    "</script></body></html>"
+)
+TURNS = 200
+
+
+def endless_batches(program):
+    """What is wrong with 64 sessions whose batches are far from done when the turns are spent."""
+    clicks = ",".join(['["event","click",4]'] * 64)
+    lines = [f"{word} {place}{more}" for place in range(SESSIONS) for word, more in (("open", ""), ("say", " get"))]
+    lines += [f'say {place} e {place + 1} {{"batch":1,"items":[{clicks}]}}' for place in range(SESSIONS)]
+    with tempfile.TemporaryDirectory() as room:
+        page, manifest, trace = (pathlib.Path(room) / name for name in ("page.html", "app.json", "trace.txt"))
+        page.write_text(WORK)
+        manifest.write_text(MANIFEST.replace('"told":["push","sums"]', ""))
+        trace.write_text("".join(f"{line}\n" for line in lines))
+        start = time.monotonic()
+        status, log = replayed(program, page, manifest, trace, f"--turns={TURNS}")
+        taken = time.monotonic() - start
+    expected = [f"{word} {2 * s} {s} " for s in range(1, SESSIONS + 1) for word in ("open", "done")]
+    expected += [f"batch {2 * SESSIONS + s} {s} 1 " for s in range(1, SESSIONS + 1)] + [f"end {TURNS} 3"]
+    is_so = len(log) == len(expected) and all(line.startswith(front) for line, front in zip(log, expected))
+    print(f"{SESSIONS} sessions cut after {TURNS} turns in {taken:.1f} seconds")
+    wrong = [] if status == 3 and is_so else [f"status {status}; {len(log)} lines: {log[-3:]}"]
+    return wrong + ([f"{taken:.0f} seconds"] if taken > SECONDS else [])
+
 
 def main():
-    wrong = cut_runs(sys.argv[1]) + long_batches(sys.argv[1])
+    wrong = cut_runs(sys.argv[1]) + long_batches(sys.argv[1]) + endless_batches(sys.argv[1])
     print("\n".join(wrong) or "turns are shared as they are to be")
     return 1 if wrong else 0
 
