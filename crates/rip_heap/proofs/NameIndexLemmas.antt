@@ -1,5 +1,5 @@
 -- What an index of names keeps when texts, values and names are added, and what a walk along one of its buckets finds.
-use Rattle.std.proofs.Common.{◌≡◌, ◌≢◌, ℕ, zero, suc, ◌+◌, ◌-◌, ◌<◌, ◌≤◌, Bool, true, false, cond, ◌⊎◌, inl, inr, List, [], ◌∷◌, ◌++◌, length, None, Some, refl, sym, ap, ◌∙◌, subst, arith, nat_lt, replicate, slice_get, take}
+use Rattle.std.proofs.Common.{◌≡◌, ◌≢◌, ℕ, zero, suc, ◌+◌, ◌-◌, ◌<◌, ◌≤◌, Bool, true, false, cond, ◌⊎◌, inl, inr, List, [], ◌∷◌, ◌++◌, length, None, Some, refl, sym, ap, ◌∙◌, subst, arith, nat_lt, replicate, drop, slice_get, slice_range, take}
 use Rattle.std.specs.Prelude.{remove, slice_index, slice_index_or, slice_set}
 use Rattle.std.specs.List.{position_or_len}
 use lib.Pointwise.{bytes_decides}
@@ -7,21 +7,21 @@ use Rattle.std.proofs.lemmas.Bool.{cases_Bool, cases_eq, cases_lt, cases_order}
 use Rattle.std.proofs.lemmas.Bool.Decides.{nat_tests}
 use Rattle.std.proofs.lemmas.List.Sums.{position_or_len_is}
 use Rattle.std.proofs.lemmas.List.Edits.{get_or-remove_above, get_or-remove_below, length-remove}
-use Rattle.std.proofs.lemmas.List.{get_or-replicate, get_or-set_other, get_or-set_same, get_or_append_left, get_or_at, length-append, length-replicate, length-set, take_all, take_more}
+use Rattle.std.proofs.lemmas.List.{get_or-replicate, get_or-set_other, get_or-set_same, get_or_append_left, get_or_at, length-append, length-replicate, length-set, take-append-drop, take-take, take_all, take_more}
 use Rattle.std.proofs.lemmas.Option.{none-some}
 use Rattle.rip_values.specs.declared.value.Span.{Span}
 use Rattle.rip_values.specs.declared.value.Value.{Value}
 use Rattle.rip_values.specs.declared.value.Value.TheVariants.{Undefined}
-use Rattle.rip_values.specs.Pool.{Texts, IsSpan, KeepsTexts, text_at}
+use Rattle.rip_values.specs.Pool.{Texts, IsSpan, KeepsTexts, cut_pool, text_at}
 use Rattle.rip_heap.specs.declared.name_indexes.NameIndexes.{NameIndexes}
 use Rattle.rip_heap.specs.declared.property.Property.{Property}
-use Rattle.rip_heap.specs.NameIndex.{bucket_of, bucket_at, name_at, AreIndexes, IsIndex, IsIndexAt, IsIndexOf, IsLast}
+use Rattle.rip_heap.specs.NameIndex.{bucket_of, bucket_at, name_at, AreIndexes, IsIndex, IsIndexAt, IsIndexOf, IsLast, first_texts}
 use Rattle.rip_heap.specs.IndexBlocks.{OthersStay, before_at, buckets_at, shifted}
 use Rattle.rip_heap.specs.Names.{same_text, place_of}
 use Rattle.rip_heap.specs.Objects.{with_value}
 use Rattle.rip_heap.specs.Stored.{Stored}
 use Rattle.rip_heap.proofs.IndexBlockLemmas.{others_same}
-use Rattle.rip_heap.proofs.ScopeRowLemmas.{part-length}
+use Rattle.rip_heap.proofs.ScopeRowLemmas.{part-append, part-length}
 
 -- WHAT STAYS
 
@@ -501,7 +501,7 @@ cut_shorter (suc k) [] = omega arith
 cut_shorter (suc k) (x ∷ xs) = omega (arith, cut_shorter k xs)
 
 -- where each text stands there are no fewer units
-kept_longer : (p q : Texts) → KeepsTexts p q → length p.units ≤ length q.units
+pub kept_longer : (p q : Texts) → KeepsTexts p q → length p.units ≤ length q.units
 kept_longer p q keeps =
     let whole : Span = record { start = 0; count = length p.units } in
     let same : length (text_at q whole) ≡ length (text_at p whole) = ap length (keeps whole (omega arith)) in
@@ -526,3 +526,35 @@ indexes_none p objects indexes none = record {
   each = λ i d lt. index_none p (slice_index_or objects i d).properties (buckets_at indexes.blocks i) (before_at indexes.blocks i) (ap length (none i));
   none = λ i le. none i;
 }
+
+-- THE FIRST TEXTS
+
+-- the first texts stand in all texts
+first_kept : (p : Texts) (n : ℕ) → KeepsTexts (first_texts p n) p
+first_kept p n span lies =
+    ap (λ units. slice_range units span.start (span.start + span.count)) (sym (take-append-drop n p.units))
+    ∙ part-append (take n p.units) (drop n p.units) span.start span.count lies
+
+-- what are indexes with the first texts alone are so with all
+pub indexes_of_first : (p : Texts) (n : ℕ) (objects : List Stored) (indexes : NameIndexes) → AreIndexes (first_texts p n) objects indexes → AreIndexes p objects indexes
+indexes_of_first p n objects indexes h = indexes_kept (first_texts p n) p objects indexes h (first_kept p n)
+
+-- where the first texts are all texts, what are indexes with these are so with those
+pub indexes_of_all : (p : Texts) (n : ℕ) (objects : List Stored) (indexes : NameIndexes) → n ≡ length p.units → AreIndexes p objects indexes → AreIndexes (first_texts p n) objects indexes
+indexes_of_all p n objects indexes all h =
+    indexes_kept p (first_texts p n) objects indexes h
+    (λ span lies. ap (λ units. slice_range units span.start (span.start + span.count)) (take_all n p.units (omega (arith, all))))
+
+-- the first texts are the same when more are added
+pub indexes_grown : (p q : Texts) (n : ℕ) (objects : List Stored) (indexes : NameIndexes) → n ≤ length p.units → KeepsTexts p q
+    → AreIndexes (first_texts p n) objects indexes → AreIndexes (first_texts q n) objects indexes
+indexes_grown p q n objects indexes within keeps h =
+    let all : 0 + n - 0 ≡ n = omega arith in
+    let same : take n q.units ≡ take n p.units = ap (λ k. take k q.units) (sym all) ∙ keeps (record { start = 0; count = n }) (omega (arith, within)) ∙ ap (λ k. take k p.units) all in
+    subst (λ units. AreIndexes (record { units = units; used = 0; limit = 0; text_limit = 0 }) objects indexes) (sym same) h
+
+-- the first texts are the same when those behind them are taken back
+pub indexes_cut : (p : Texts) (n end used : ℕ) (objects : List Stored) (indexes : NameIndexes) → n ≤ end
+    → AreIndexes (first_texts p n) objects indexes → AreIndexes (first_texts (cut_pool p end used) n) objects indexes
+indexes_cut p n end used objects indexes within h =
+    subst (λ units. AreIndexes (record { units = units; used = 0; limit = 0; text_limit = 0 }) objects indexes) (sym (take-take n end p.units within)) h

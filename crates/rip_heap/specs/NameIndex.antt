@@ -1,6 +1,6 @@
 -- How a heap finds the properties of an object by name: those whose names fall into one bucket hang together. No public
 -- clause cites this.
-use Rattle.std.specs.Prelude.{◌≡◌, ◌≢◌, ℕ, List, [], ◌∷◌, ◌+◌, ◌-◌, ◌*◌, ◌%◌, ◌^◌, ◌<◌, ◌≤◌, fold, length, slice_index, slice_index_or}
+use Rattle.std.specs.Prelude.{◌≡◌, ◌≢◌, ℕ, List, [], ◌∷◌, ◌+◌, ◌-◌, ◌*◌, ◌%◌, ◌^◌, ◌<◌, ◌≤◌, fold, length, slice_index, slice_index_or, take}
 use Rattle.rip_values.specs.declared.value.Span.{Span}
 use Rattle.rip_values.specs.declared.value.Value.TheVariants.{Undefined}
 use Rattle.rip_values.specs.Pool.{Texts, IsSpan, text_at}
@@ -54,3 +54,7 @@ IsIndexAt pool properties indexes at = IsIndexOf pool properties (buckets_at ind
 pub record AreIndexes (pool : Texts) (objects : List Stored) (indexes : NameIndexes) : Type 0 where
   pub each : (i : ℕ) (d : Stored) → i < length objects → IsIndexAt pool (slice_index_or objects i d).properties indexes i
   pub none : (i : ℕ) → length objects ≤ i → buckets_at indexes.blocks i ≡ []
+
+-- the first units of the texts, so many, in which the names of all indexes lie; charges and limits are left out
+abbrev pub first_texts : Texts → ℕ → Texts
+first_texts pool n = record { units = take n pool.units; used = 0; limit = 0; text_limit = 0 }

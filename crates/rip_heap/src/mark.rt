@@ -23,8 +23,8 @@ impl Heap {
         }
     }
 
-    /// Takes back the texts that were added since they stood there. It is for who added all of them, for want of memory,
-    /// and hands none of them out.
+    /// Takes back the texts that were added since they stood there. It is for who added all of them and hands none of
+    /// them out. The indexes of names stay, unless a property was added to an object since.
     pub fn cut_back(&mut self, mark: Mark)
         requires { CanBeCut mark self.old }
         ensures { self.new ≡ cut_world mark self.old }

@@ -28,11 +28,13 @@ pub struct NamedObjects {
     pool: Pool,
     rows: ObjectRows,
     indexes: NameIndexes,
+    // How many units the texts had when a property was last added to an object. No name in an index lies behind them.
+    names_end: u32,
 }
 
 impl Model for NamedObjects {
-    ghost use Rattle.std.specs.Prelude.{◌≡◌, length};
-    ghost use Rattle.rip_heap.specs.NameIndex.{AreIndexes};
+    ghost use Rattle.std.specs.Prelude.{◌≡◌, ◌≤◌, length};
+    ghost use Rattle.rip_heap.specs.NameIndex.{AreIndexes, first_texts};
     ghost use Rattle.rip_heap.specs.NamedObjects.{Named};
     ghost use Rattle.rip_heap.specs.Stored.{all_stored, objects_of};
 
@@ -45,7 +47,9 @@ impl Model for NamedObjects {
     } };
 
     ghost invariant = { λ n. record {
-      indexed : AreIndexes n.pool (all_stored n.rows.heads n.rows.properties) n.indexes;
+      named : n.names_end ≤ length n.pool.units;
+      indexed : AreIndexes (first_texts n.pool n.names_end)
+          (all_stored n.rows.heads n.rows.properties) n.indexes;
       listed : length n.rows.elements ≡ length (all_stored n.rows.heads n.rows.properties);
       kept : length n.rows.properties ≡ length n.rows.heads;
     } };
@@ -65,6 +69,7 @@ impl NamedObjects {
             pool,
             rows: ObjectRows::make(alloc, cells)?,
             indexes: NameIndexes::make(alloc, cells)?,
+            names_end: 0,
         })
     }
 
@@ -193,11 +198,12 @@ impl NamedObjects {
         ensures value { result.now ≡ self.old.pool }
     {
         self.indexes.clear();
+        self.names_end = 0;
         &mut self.pool
     }
 
-    /// Takes the texts back that were added since there were so many units, of which so many were charged. There are no
-    /// indexes any more.
+    /// Takes the texts back that were added since there were so many units, of which so many were charged. The indexes
+    /// stay, unless a property was added to an object since.
     pub fn cut_back(&mut self, end: u32, used: u32)
         requires fixed { length fixed_units ≤ end }
         requires end { end ≤ length self.old.pool.units }
@@ -205,7 +211,10 @@ impl NamedObjects {
         requires charged { self.old.pool.used + end ≤ used + length self.old.pool.units }
         ensures { self.new ≡ record self.old { pool = cut_pool self.old.pool end used } }
     {
-        self.indexes.clear();
+        if end < self.names_end {
+            self.indexes.clear();
+            self.names_end = 0;
+        }
         self.pool.cut_back(end, used);
     }
 
@@ -291,6 +300,7 @@ impl NamedObjects {
     {
         self.rows.push_property(at, Property { name, value });
         self.indexes.renew(&self.pool, at, self.rows.properties());
+        self.names_end = self.pool.end();
     }
 
     /// Takes the property at this place of an object away.

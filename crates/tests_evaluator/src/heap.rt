@@ -209,6 +209,36 @@ fn names_are_found_as_in_a_list(rt: HostRuntime) -> Result<(), Fail> {
     Ok(())
 }
 
+/// Names are found when texts are taken back, and a name that is taken back stands for what comes in its place.
+#[test]
+fn names_are_found_when_texts_are_taken_back(rt: HostRuntime) -> Result<(), Fail> {
+    let alloc = rt.alloc();
+    let mut heap = Heap::make(alloc, ROOMY)?;
+    let object = heap.new_object(alloc, None)?;
+    for k in 0..20 {
+        let name = heap.add_text(alloc, &name_in_a_bucket(k))?;
+        heap.put(alloc, object, name, number(k as i64))?;
+    }
+    let mark = heap.mark();
+    heap.add_text(alloc, &name_in_a_bucket(20))?;
+    heap.cut_back(mark);
+    assert_eq!(rt; heap.mark(), mark);
+    let gone = heap.add_text(alloc, &name_in_a_bucket(20))?;
+    heap.put(alloc, object, gone, number(20))?;
+    heap.cut_back(mark);
+    heap.add_text(alloc, &name_in_a_bucket(21))?;
+    for k in 0..22 {
+        let name = heap.add_text(alloc, &name_in_a_bucket(k))?;
+        let value = match k {
+            20 => None,
+            21 => Some(number(20)),
+            _ => Some(number(k as i64)),
+        };
+        assert_eq!(rt; heap.own(object, name), value, "{k}");
+    }
+    Ok(())
+}
+
 #[test]
 fn bindings_begin_without_a_value(rt: HostRuntime) -> Result<(), Fail> {
     let alloc = rt.alloc();

@@ -3,6 +3,8 @@ use Rattle.std.proofs.lemmas.List.{length-append}
 use Rattle.rip_heap.specs.ObjectRows.{Listed}
 use Rattle.rip_heap.specs.Rooms.{spending}
 use Rattle.rip_heap.specs.NameIndex.{IsIndexAt}
+use Rattle.rip_heap.specs.Stored.{all_stored}
+use Rattle.rip_heap.proofs.NameIndexLemmas.{indexes_of_all, indexes_of_first}
 use Rattle.rip_heap.proofs.StoredLemmas.{cost_keeps, front_of_more, heads_within, list_indexed, more_here, properties_edited, properties_kept}
 use Rattle.rip_heap.proofs.named_objects.NamedObjects.add_property.Goals as goal
 
@@ -17,7 +19,7 @@ renew-requires-clause-index c =
     let more = more_here c.self.inside.rows.properties c.properties.result.now.lists c.args.at (record { name = c.args.name; value = c.args.value }) (omega (arith, within, c.self.invariant.kept))
     (c.properties.ensures ∙ ap (λ (r : Listed). r.properties) c.push_property.ensures) in
     subst (λ ps. IsIndexAt c.self.inside.pool ps c.self.inside.indexes c.args.at) (sym (front_of_more _ _ _ more))
-    (list_indexed c.self.inside.pool c.self.inside.rows.heads c.self.inside.rows.properties c.self.inside.indexes c.args.at c.self.invariant.indexed c.self.invariant.kept within)
+    (list_indexed c.self.inside.pool c.self.inside.rows.heads c.self.inside.rows.properties c.self.inside.indexes c.args.at (indexes_of_first c.self.inside.pool c.self.inside.names_end (all_stored c.self.inside.rows.heads c.self.inside.rows.properties) c.self.inside.indexes c.self.invariant.indexed) c.self.invariant.kept within)
 
 pub renew-requires-clause-some : goal.renew-requires-clause-some
 renew-requires-clause-some c =
@@ -32,10 +34,15 @@ invariant_of-self c =
     let more = more_here c.self.inside.rows.properties c.properties.result.now.lists c.args.at (record { name = c.args.name; value = c.args.value }) (omega (arith, within, c.self.invariant.kept))
     (c.properties.ensures ∙ ap (λ (r : Listed). r.properties) c.push_property.ensures) in
     let all = properties_kept c.self.inside.pool c.self.inside.rows c.push_property.new.self c.args.at ((slice_index_or c.self.inside.rows.properties c.args.at []) ++ record { name = c.args.name; value = c.args.value } ∷ []) _ c.self.inside.indexes c.renew.new.self
-    c.self.invariant.indexed c.self.invariant.listed c.self.invariant.kept within c.push_property.ensures
+    (indexes_of_first c.self.inside.pool c.self.inside.names_end (all_stored c.self.inside.rows.heads c.self.inside.rows.properties) c.self.inside.indexes c.self.invariant.indexed) c.self.invariant.listed c.self.invariant.kept within c.push_property.ensures
     (subst (λ ps. IsIndexAt c.self.inside.pool ps c.renew.new.self c.args.at) more c.renew.ensures.index)
     c.renew.ensures.others in
-    record { indexed = all.indexed; listed = all.listed; kept = all.kept }
+    record {
+      named = omega (arith, c.end-self-inside.ensures.end);
+      indexed = indexes_of_all c.self.inside.pool c.end-self-inside.result (all_stored c.push_property.new.self.heads c.push_property.new.self.properties) c.renew.new.self c.end-self-inside.ensures.end all.indexed;
+      listed = all.listed;
+      kept = all.kept;
+    }
 
 pub returns-clause-edited : goal.returns-clause-edited
 returns-clause-edited c =

@@ -2,7 +2,8 @@ use Rattle.std.proofs.Common.{rules, ◌<◌, ◌∙◌, [], ap, length, slice_i
 use Rattle.rip_heap.specs.IndexBlocks.{before_at, buckets_at}
 use Rattle.rip_heap.specs.NameIndex.{IsIndex}
 use Rattle.rip_heap.specs.Names.{place_of}
-use Rattle.rip_heap.proofs.NameIndexLemmas.{index_there}
+use Rattle.rip_heap.specs.Stored.{all_stored}
+use Rattle.rip_heap.proofs.NameIndexLemmas.{index_there, indexes_of_first}
 use Rattle.rip_heap.proofs.StoredLemmas.{heads_within, list_indexed, place_call, place_inside}
 use Rattle.rip_heap.proofs.named_objects.NamedObjects.place.Goals as goal
 
@@ -14,7 +15,8 @@ find-requires c =
     let some : 0 < length buckets = search rules in
     subst (λ lists. IsIndex c.self.inside.pool (slice_index_or lists c.args.at []) buckets before) (sym c.properties.ensures)
     (index_there c.self.inside.pool (slice_index_or c.self.inside.rows.properties c.args.at []) buckets before some
-    (list_indexed c.self.inside.pool c.self.inside.rows.heads c.self.inside.rows.properties c.self.inside.indexes c.args.at c.self.invariant.indexed c.self.invariant.kept within))
+    (list_indexed c.self.inside.pool c.self.inside.rows.heads c.self.inside.rows.properties c.self.inside.indexes c.args.at
+    (indexes_of_first c.self.inside.pool c.self.inside.names_end (all_stored c.self.inside.rows.heads c.self.inside.rows.properties) c.self.inside.indexes c.self.invariant.indexed) c.self.invariant.kept within))
 
 pub returns-then-has-clause-place : goal.returns-then-has-clause-place
 returns-then-has-clause-place c =

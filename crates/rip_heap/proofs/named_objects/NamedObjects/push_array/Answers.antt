@@ -1,4 +1,5 @@
 use Rattle.std.proofs.Common.{[], ◌∙◌, ap, ◌+◌, length}
+use Rattle.rip_heap.specs.NameIndex.{first_texts}
 use Rattle.rip_heap.specs.NamedObjects.{with_another}
 use Rattle.rip_heap.specs.Stored.{object_of, stored_with}
 use Rattle.rip_heap.proofs.StoredLemmas.{another_kept, another_stands}
@@ -6,8 +7,8 @@ use Rattle.rip_heap.proofs.named_objects.NamedObjects.push_array.Goals as goal
 
 pub invariant_of-self : goal.invariant_of-self
 invariant_of-self c =
-    let all = another_kept c.self.inside.pool c.self.inside.rows c.add.new.self c.bare.result [] c.args.items.now c.self.inside.indexes c.self.invariant.indexed c.self.invariant.listed c.self.invariant.kept c.add.ensures in
-    record { indexed = all.indexed; listed = all.listed; kept = all.kept }
+    let all = another_kept (first_texts c.self.inside.pool c.self.inside.names_end) c.self.inside.rows c.add.new.self c.bare.result [] c.args.items.now c.self.inside.indexes c.self.invariant.indexed c.self.invariant.listed c.self.invariant.kept c.add.ensures in
+    record { named = c.self.invariant.named; indexed = all.indexed; listed = all.listed; kept = all.kept }
 
 pub returns : goal.returns
 returns c =

@@ -1,4 +1,5 @@
 use Rattle.std.proofs.Common.{[], ◌∙◌, ◌+◌, ap, arith, length, slice_index_or, slice_range, sym}
+use Rattle.rip_heap.specs.NameIndex.{first_texts}
 use Rattle.rip_heap.specs.NamedObjects.{Named, with_another}
 use Rattle.rip_heap.specs.Stored.{all_stored, object_of, stored_with}
 use Rattle.rip_heap.proofs.StoredLemmas.{another_kept, another_stands, elements_read}
@@ -11,9 +12,9 @@ add_piece-requires c =
 
 pub invariant_of-self : goal.invariant_of-self
 invariant_of-self c =
-    let all = another_kept c.self.inside.pool c.self.inside.rows c.add_piece.new.self c.bare.result [] (slice_range (slice_index_or c.self.inside.rows.elements c.args.at []) c.args.from c.args.to)
+    let all = another_kept (first_texts c.self.inside.pool c.self.inside.names_end) c.self.inside.rows c.add_piece.new.self c.bare.result [] (slice_range (slice_index_or c.self.inside.rows.elements c.args.at []) c.args.from c.args.to)
     c.self.inside.indexes c.self.invariant.indexed c.self.invariant.listed c.self.invariant.kept c.add_piece.ensures in
-    record { indexed = all.indexed; listed = all.listed; kept = all.kept }
+    record { named = c.self.invariant.named; indexed = all.indexed; listed = all.listed; kept = all.kept }
 
 pub returns : goal.returns
 returns c =

@@ -1,17 +1,18 @@
-use Rattle.std.proofs.Common.{ap, refl, subst, sym}
+use Rattle.std.proofs.Common.{ap, arith, refl, subst, sym}
 use Rattle.rip_values.specs.Pool.{KeepsTexts}
 use Rattle.rip_heap.specs.NamedObjects.{Named}
 use Rattle.rip_heap.specs.Stored.{all_stored}
-use Rattle.rip_heap.proofs.NameIndexLemmas.{indexes_kept}
+use Rattle.rip_heap.proofs.NameIndexLemmas.{indexes_grown, kept_longer}
 use Rattle.rip_heap.proofs.named_objects.NamedObjects.with_texts.Goals as goal
 
 pub invariant_of-self : goal.invariant_of-self
 invariant_of-self g c =
     let adds = c.requires.adds c.add.result _ c.add.new.arg2
     (record { shown = _; shows = ap (λ (n : Named). n.pool) c.self.view_is; left = _; called = c.add.ensures; leaves = refl }) in
+    let keeps = subst (λ p. KeepsTexts p c.add.new.arg2) (sym (ap (λ (n : Named). n.pool) c.self.view_is)) adds.texts in
     record {
-      indexed = indexes_kept c.self.inside.pool c.add.new.arg2 (all_stored c.self.inside.rows.heads c.self.inside.rows.properties) c.self.inside.indexes c.self.invariant.indexed
-          (subst (λ p. KeepsTexts p c.add.new.arg2) (sym (ap (λ (n : Named). n.pool) c.self.view_is)) adds.texts);
+      named = omega (arith, c.self.invariant.named, kept_longer c.self.inside.pool c.add.new.arg2 keeps);
+      indexed = indexes_grown c.self.inside.pool c.add.new.arg2 c.self.inside.names_end (all_stored c.self.inside.rows.heads c.self.inside.rows.properties) c.self.inside.indexes c.self.invariant.named keeps c.self.invariant.indexed;
       listed = c.self.invariant.listed;
       kept = c.self.invariant.kept;
     }
