@@ -1,1 +1,2 @@
+pub mod AddedTexts
 pub mod InPlace

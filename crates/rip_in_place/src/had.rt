@@ -7,6 +7,7 @@ ghost use Rattle.rip_members.specs.Reading.{read};
 ghost use Rattle.rip_ops.specs.Operators.{binary};
 ghost use Rattle.rip_runs.specs.Row.{Ends};
 ghost use Rattle.rip_in_place.specs.InPlace.{IsHad, IsWithin, RowIsHad};
+ghost use Rattle.rip_in_place.specs.AddedTexts.{AddsTexts};
 ghost use Rattle.rip_language.specs.Reading.{Loaded, part};
 ghost use Rattle.rip_language.specs.Rows.Expressions.{binary_row, conditional_row, gives, logical_row, name_row, operated, unary_row};
 ghost use Rattle.rip_language.specs.Rows.Members.{index_row, member_row};
@@ -16,15 +17,16 @@ use rip_heap::{Heap, Key, is_index, strictly_equal, to_boolean, to_number};
 use rip_language::{Source, found, is_decided, is_delete, is_type_of, truth_of};
 use rip_members::{Base, Read, base_of, read};
 use rip_ops::{
-    bits_and, bits_not, bits_or, bits_xor, difference, is_at_least, is_at_most, is_greater,
+    added, bits_and, bits_not, bits_or, bits_xor, difference, is_at_least, is_at_most, is_greater,
     is_less, loosely_equal, loosely_unequal, negative, product, quotient, remainder, shifted_left,
     shifted_right, shifted_right_unsigned, sum,
 };
 use rip_runs::{Completion, Part, Role};
 use rip_tree::Form;
 use rip_values::{BinaryOperator, Fault, Numeral, UnaryOperator, Value, Whole};
+use std::alloc::Global;
 
-/// A value that was had in place, with so many units, and with no change.
+/// A value that was had in place, with so many units, and with no change but texts that were added.
 #[derive(Clone, Copy)]
 pub(crate) struct Had {
     pub value: Value,
@@ -34,30 +36,35 @@ pub(crate) struct Had {
 /// The value of a part for which some depth is left, where all that it takes can be had in place: the nodes below it are
 /// no higher than this, and there are units for each. Of any part it may be none.
 #[cycle(had)]
-pub(crate) fn had_part(p: &Source, heap: &Heap, at: &Part, height: u32, left: u64) -> Option<Had>
+pub(crate) fn had_part(
+    p: &Source,
+    heap: &mut Heap,
+    at: &Part,
+    height: u32,
+    left: u64,
+) -> Option<Had>
     requires some { 0 < at.now.room }
     requires unit { 0 < left }
-    ensures had { IsHad p.now at.now heap.now result }
+    ensures had { IsHad p.now at.now heap.old result heap.new }
+    ensures texts { AddsTexts heap.old heap.new }
     ensures within { IsWithin left result }
 {
-    let had = had_by_form(p, heap, at, &p.form(at.node), height, left - 1)?;
-    Some(Had {
-        value: had.value,
-        units: had.units + 1,
-    })
+    had_by_form(p, heap, at, &p.form(at.node), height, left)
 }
 
-/// The same by the form of the node, for units that its parts take.
+/// The same by the form of the node.
 #[cycle(had)]
 pub(crate) fn had_by_form(
     p: &Source,
-    heap: &Heap,
+    heap: &mut Heap,
     at: &Part,
     form: &Form,
     height: u32,
     left: u64,
 ) -> Option<Had>
-    ensures had { RowIsHad p.now (row_by p.now at.now form.now heap.now) heap.now result }
+    requires unit { 0 < left }
+    ensures had { RowIsHad p.now (row_by p.now at.now form.now heap.old) result heap.new }
+    ensures texts { AddsTexts heap.old heap.new }
     ensures within { IsWithin left result }
 {
     match form {
@@ -81,13 +88,14 @@ pub(crate) fn had_by_form(
 #[cycle(had)]
 pub(crate) fn had_inside(
     p: &Source,
-    heap: &Heap,
+    heap: &mut Heap,
     at: &Part,
     node: u32,
     height: u32,
     left: u64,
 ) -> Option<Had>
-    ensures had { IsHad p.now (part at.now node) heap.now result }
+    ensures had { IsHad p.now (part at.now node) heap.old result heap.new }
+    ensures texts { AddsTexts heap.old heap.new }
     ensures within { IsWithin left result }
 {
     if height == 0 || left == 0 || at.room < 2 {
@@ -95,24 +103,21 @@ pub(crate) fn had_inside(
     }
     match p.form(node) {
         Form::Name(_) => match name_inside(p, heap, at, node) {
-            Some(value) => Some(Had { value, units: 1 }),
+            Some(value) => leaf(value),
             None => None,
         },
-        Form::Number(number) => Some(Had {
-            value: Value::Num(number),
-            units: 1,
-        }),
+        Form::Number(number) => leaf(Value::Num(number)),
         _ => had_part(p, heap, &at.inside(&at.inner(node)), height - 1, left),
     }
 }
 
 // LEAVES
 
-/// A row that ends with its value at once.
+/// A part that ends with its value at once.
 fn leaf(value: Value) -> Option<Had>
-    ensures { result ≡ Some (record { value = value; units = 0 }) }
+    ensures { result ≡ Some (record { value = value; units = 1 }) }
 {
-    Some(Had { value, units: 0 })
+    Some(Had { value, units: 1 })
 }
 
 /// The value of a name that is bound. Of a target the value is nobody's.
@@ -137,47 +142,53 @@ fn name_inside(p: &Source, heap: &Heap, at: &Part, node: u32) -> Option<Value>
 // OPERATORS
 
 #[cycle(had)]
-fn had_binary(p: &Source, heap: &Heap, at: &Part, height: u32, left: u64) -> Option<Had>
-    ensures had { RowIsHad p.now (binary_row p.now at.now heap.now) heap.now result }
+fn had_binary(p: &Source, heap: &mut Heap, at: &Part, height: u32, left: u64) -> Option<Had>
+    requires unit { 0 < left }
+    ensures had { RowIsHad p.now (binary_row p.now at.now heap.old) result heap.new }
+    ensures texts { AddsTexts heap.old heap.new }
     ensures within { IsWithin left result }
 {
     let op = p.operator(at.node);
     let right = p.child(at.node, 1);
-    let a = had_inside(p, heap, at, p.child(at.node, 0), height, left)?;
-    if makes_text(op, &a.value) {
-        return None;
-    }
-    let b = had_inside(p, heap, at, right, height, left - a.units)?;
-    let value = calculated(heap, op, a.value, b.value)?;
+    let a = had_inside(p, heap, at, p.child(at.node, 0), height, left - 1)?;
+    let b = had_inside(p, heap, at, right, height, left - 1 - a.units)?;
+    let value = calculated(p.alloc(), heap, op, a.value, b.value)?;
     Some(Had {
         value,
-        units: a.units + b.units,
+        units: 1 + a.units + b.units,
     })
 }
 
 #[cycle(had)]
-fn had_logical(p: &Source, heap: &Heap, at: &Part, height: u32, left: u64) -> Option<Had>
-    ensures had { RowIsHad p.now (logical_row p.now at.now heap.now) heap.now result }
+fn had_logical(p: &Source, heap: &mut Heap, at: &Part, height: u32, left: u64) -> Option<Had>
+    requires unit { 0 < left }
+    ensures had { RowIsHad p.now (logical_row p.now at.now heap.old) result heap.new }
+    ensures texts { AddsTexts heap.old heap.new }
     ensures within { IsWithin left result }
 {
     let second = p.child(at.node, 1);
-    let a = had_inside(p, heap, at, p.child(at.node, 0), height, left)?;
+    let a = had_inside(p, heap, at, p.child(at.node, 0), height, left - 1)?;
     if is_decided(p.logical_operator(at.node), truth_of(heap, &a.value)) {
-        return Some(a);
+        return Some(Had {
+            value: a.value,
+            units: 1 + a.units,
+        });
     }
-    let b = had_inside(p, heap, at, second, height, left - a.units)?;
+    let b = had_inside(p, heap, at, second, height, left - 1 - a.units)?;
     Some(Had {
         value: b.value,
-        units: a.units + b.units,
+        units: 1 + a.units + b.units,
     })
 }
 
 #[cycle(had)]
-fn had_conditional(p: &Source, heap: &Heap, at: &Part, height: u32, left: u64) -> Option<Had>
-    ensures had { RowIsHad p.now (conditional_row p.now at.now heap.now) heap.now result }
+fn had_conditional(p: &Source, heap: &mut Heap, at: &Part, height: u32, left: u64) -> Option<Had>
+    requires unit { 0 < left }
+    ensures had { RowIsHad p.now (conditional_row p.now at.now heap.old) result heap.new }
+    ensures texts { AddsTexts heap.old heap.new }
     ensures within { IsWithin left result }
 {
-    let test = had_inside(p, heap, at, p.child(at.node, 0), height, left)?;
+    let test = had_inside(p, heap, at, p.child(at.node, 0), height, left - 1)?;
     let place = if truth_of(heap, &test.value) { 1 } else { 2 };
     let last = had_inside(
         p,
@@ -185,71 +196,71 @@ fn had_conditional(p: &Source, heap: &Heap, at: &Part, height: u32, left: u64) -
         at,
         p.child(at.node, place),
         height,
-        left - test.units,
+        left - 1 - test.units,
     )?;
     Some(Had {
         value: last.value,
-        units: test.units + last.units,
+        units: 1 + test.units + last.units,
     })
 }
 
 #[cycle(had)]
-fn had_unary(p: &Source, heap: &Heap, at: &Part, height: u32, left: u64) -> Option<Had>
-    ensures had { RowIsHad p.now (unary_row p.now at.now heap.now) heap.now result }
+fn had_unary(p: &Source, heap: &mut Heap, at: &Part, height: u32, left: u64) -> Option<Had>
+    requires unit { 0 < left }
+    ensures had { RowIsHad p.now (unary_row p.now at.now heap.old) result heap.new }
+    ensures texts { AddsTexts heap.old heap.new }
     ensures within { IsWithin left result }
 {
     let op = p.unary_operator(at.node);
     if is_type_of(op) || is_delete(op) {
         return None;
     }
-    let a = had_inside(p, heap, at, p.child(at.node, 0), height, left)?;
+    let a = had_inside(p, heap, at, p.child(at.node, 0), height, left - 1)?;
     let value = operated(heap, op, a.value)?;
     Some(Had {
         value,
-        units: a.units,
+        units: 1 + a.units,
     })
 }
 
 // MEMBERS
 
 #[cycle(had)]
-fn had_member(p: &Source, heap: &Heap, at: &Part, height: u32, left: u64) -> Option<Had>
-    ensures had { RowIsHad p.now (member_row p.now at.now heap.now) heap.now result }
+fn had_member(p: &Source, heap: &mut Heap, at: &Part, height: u32, left: u64) -> Option<Had>
+    requires unit { 0 < left }
+    ensures had { RowIsHad p.now (member_row p.now at.now heap.old) result heap.new }
+    ensures texts { AddsTexts heap.old heap.new }
     ensures within { IsWithin left result }
 {
     if !is_read(at) {
         return None;
     }
-    let base = had_inside(p, heap, at, p.child(at.node, 0), height, left)?;
+    let base = had_inside(p, heap, at, p.child(at.node, 0), height, left - 1)?;
     let value = read_had(heap, base.value, Key::Name(p.literal(at.node)))?;
     Some(Had {
         value,
-        units: base.units,
+        units: 1 + base.units,
     })
 }
 
 #[cycle(had)]
-fn had_index(p: &Source, heap: &Heap, at: &Part, height: u32, left: u64) -> Option<Had>
-    ensures had { RowIsHad p.now (index_row p.now at.now heap.now) heap.now result }
+fn had_index(p: &Source, heap: &mut Heap, at: &Part, height: u32, left: u64) -> Option<Had>
+    requires unit { 0 < left }
+    ensures had { RowIsHad p.now (index_row p.now at.now heap.old) result heap.new }
+    ensures texts { AddsTexts heap.old heap.new }
     ensures within { IsWithin left result }
 {
     if !is_read(at) {
         return None;
     }
-    let subscript = had_inside(p, heap, at, p.child(at.node, 1), height, left)?;
-    let base = had_inside(
-        p,
-        heap,
-        at,
-        p.child(at.node, 0),
-        height,
-        left - subscript.units,
-    )?;
-    let key = key_had(heap, base.value, subscript.value)?;
-    let value = read_had(heap, base.value, key)?;
+    let subscript = p.child(at.node, 1);
+    let base = had_inside(p, heap, at, p.child(at.node, 0), height, left - 1)?;
+    let key = had_inside(p, heap, at, subscript, height, left - 1 - base.units)?;
+    let named = key_had(heap, base.value, key.value)?;
+    let value = read_had(heap, base.value, named)?;
     Some(Had {
         value,
-        units: base.units + subscript.units,
+        units: 1 + base.units + key.units,
     })
 }
 
@@ -323,16 +334,16 @@ fn operated(heap: &Heap, op: UnaryOperator, a: Value) -> Option<Value>
     }
 }
 
-/// Whether an operator makes a text of this value and any other, so that nothing is had of them.
-fn makes_text(op: BinaryOperator, a: &Value) -> bool
-    ensures { IsTrue result → op ≡ BinaryOperator.Add }
-{
-    matches!(op, BinaryOperator::Add) && matches!(a, Value::Text(_))
-}
-
-/// What an operator gives of two values where it makes no text, reads no object, and meets no fault.
-pub(crate) fn calculated(heap: &Heap, op: BinaryOperator, a: Value, b: Value) -> Option<Value>
-    ensures { IfSome result (λ v. binary heap.now op a b ≡ Gives v heap.now) }
+/// What an operator gives of two values where it reads no object, and meets no fault and no limit.
+pub(crate) fn calculated(
+    alloc: Global,
+    heap: &mut Heap,
+    op: BinaryOperator,
+    a: Value,
+    b: Value,
+) -> Option<Value>
+    ensures gives { IfSome result (λ v. binary heap.old op a b ≡ Gives v heap.new) }
+    ensures texts { AddsTexts heap.old heap.new }
 {
     match op {
         BinaryOperator::Less => truth(is_less(heap, a, b)),
@@ -347,10 +358,24 @@ pub(crate) fn calculated(heap: &Heap, op: BinaryOperator, a: Value, b: Value) ->
         _ => match a {
             Value::Num(x) => match b {
                 Value::Num(y) => of_wholes(op, x, y),
-                _ => None,
+                _ => of_text(alloc, heap, op, a, b),
             },
-            _ => None,
+            _ => of_text(alloc, heap, op, a, b),
         },
+    }
+}
+
+/// What `+` gives of a text and another value, or of two texts.
+fn of_text(alloc: Global, heap: &mut Heap, op: BinaryOperator, a: Value, b: Value) -> Option<Value>
+    ensures gives { IfSome result (λ v. binary heap.old op a b ≡ Gives v heap.new) }
+    ensures texts { AddsTexts heap.old heap.new }
+{
+    match op {
+        BinaryOperator::Add => match added(alloc, heap, a, b) {
+            Ok(v) => Some(v),
+            Err(_) => None,
+        },
+        _ => None,
     }
 }
 

@@ -6,7 +6,7 @@ ghost use Rattle.rip_values.specs.declared.value.Value.TheVariants.{Undefined};
 ghost use Rattle.rip_heap.specs.Outcome.{Gives};
 ghost use Rattle.rip_ops.specs.Operators.{binary};
 ghost use Rattle.rip_runs.specs.Row.{Ends, with_value};
-ghost use Rattle.rip_in_place.specs.InPlace.{IsDone, IsDoneWithin, RowIsDone};
+ghost use Rattle.rip_in_place.specs.InPlace.{IsDone, IsDoneWithin, IsTried, RowIsTried};
 ghost use Rattle.rip_language.specs.Reading.{child, child_at, children_from, form_of, operator, part, target_at};
 ghost use Rattle.rip_language.specs.Rows.Expressions.{assign_row, compound_row, gives, step_row, target_found, writes};
 ghost use Rattle.rip_language.specs.Rows.Statements.{block_row, branch_of, expression_row, if_row, is_declaration, is_for, return_end, return_row, var_row};
@@ -25,12 +25,28 @@ use rip_values::Value;
 
 /// What a part comes to for which some depth is left, where all that it takes can be done in place: the nodes below it are
 /// no higher than this, there are units for each, nothing is thrown, and no more than one name is written, at the end. Of
-/// any part it may be none, and then nothing is changed.
-#[cycle(in_place)]
+/// any part it may be none, and then nothing is changed: the texts that were made are taken back.
 pub fn done(p: &Source, heap: &mut Heap, at: &Part, height: u32, left: u64) -> Option<Completed>
     requires some { 0 < at.now.room }
     requires unit { 0 < left }
     ensures done { IsDone p.now at.now heap.old result heap.new }
+    ensures within { IsDoneWithin left result }
+    ensures grows { Grows heap.old heap.new }
+{
+    let mark = heap.mark();
+    let done = tried(p, heap, at, height, left);
+    if done.is_none() {
+        heap.cut_back(mark);
+    }
+    done
+}
+
+/// The same, where texts that were made stay where it is none.
+#[cycle(in_place)]
+fn tried(p: &Source, heap: &mut Heap, at: &Part, height: u32, left: u64) -> Option<Completed>
+    requires some { 0 < at.now.room }
+    requires unit { 0 < left }
+    ensures done { IsTried p.now at.now heap.old result heap.new }
     ensures within { IsDoneWithin left result }
     ensures grows { Grows heap.old heap.new }
 {
@@ -40,17 +56,11 @@ pub fn done(p: &Source, heap: &mut Heap, at: &Part, height: u32, left: u64) -> O
             Role::Value => valued(had_part(p, heap, at, height, left)),
             _ => done_reference(p, heap, at, height, left),
         },
-        Worth::Deed(_) => match done_by_form(p, heap, at, &p.form(at.node), height, left - 1) {
-            Some(done) => Some(Completed {
-                completion: done.completion,
-                units: done.units + 1,
-            }),
-            None => None,
-        },
+        Worth::Deed(_) => done_by_form(p, heap, at, &p.form(at.node), height, left),
     }
 }
 
-/// The same by the form of the node, for units that its parts take.
+/// The same by the form of the node.
 #[cycle(in_place)]
 fn done_by_form(
     p: &Source,
@@ -60,7 +70,8 @@ fn done_by_form(
     height: u32,
     left: u64,
 ) -> Option<Completed>
-    ensures done { RowIsDone p.now (row_by p.now at.now form.now heap.old) heap.old result
+    requires unit { 0 < left }
+    ensures done { RowIsTried p.now (row_by p.now at.now form.now heap.old) heap.old result
         heap.new }
     ensures within { IsDoneWithin left result }
     ensures grows { Grows heap.old heap.new }
@@ -90,23 +101,23 @@ fn done_inside(
     height: u32,
     left: u64,
 ) -> Option<Completed>
-    ensures done { IsDone p.now (part at.now node) heap.old result heap.new }
+    ensures done { IsTried p.now (part at.now node) heap.old result heap.new }
     ensures within { IsDoneWithin left result }
     ensures grows { Grows heap.old heap.new }
 {
     if height == 0 || left == 0 || at.room < 2 {
         return None;
     }
-    done(p, heap, &at.inside(&at.inner(node)), height - 1, left)
+    tried(p, heap, &at.inside(&at.inner(node)), height - 1, left)
 }
 
-/// A row that ends at once.
+/// A part that ends at once.
 fn ended(completion: Completion) -> Option<Completed>
-    ensures { result ≡ Some (record { completion = completion; units = 0 }) }
+    ensures { result ≡ Some (record { completion = completion; units = 1 }) }
 {
     Some(Completed {
         completion,
-        units: 0,
+        units: 1,
     })
 }
 
@@ -120,14 +131,15 @@ fn done_expression(
     height: u32,
     left: u64,
 ) -> Option<Completed>
-    ensures done { RowIsDone p.now (expression_row p.now at.now heap.old) heap.old result heap.new }
+    requires unit { 0 < left }
+    ensures done { RowIsTried p.now (expression_row p.now at.now heap.old) heap.old result heap.new }
     ensures within { IsDoneWithin left result }
     ensures grows { Grows heap.old heap.new }
 {
-    match done_inside(p, heap, at, p.child(at.node, 0), height, left) {
+    match done_inside(p, heap, at, p.child(at.node, 0), height, left - 1) {
         Some(inner) => Some(Completed {
             completion: expression_end(&inner.completion),
-            units: inner.units,
+            units: 1 + inner.units,
         }),
         None => None,
     }
@@ -145,15 +157,16 @@ fn expression_end(c: &Completion) -> Completion
 
 #[cycle(in_place)]
 fn done_block(p: &Source, heap: &mut Heap, at: &Part, height: u32, left: u64) -> Option<Completed>
-    ensures done { RowIsDone p.now (block_row p.now at.now heap.old) heap.old result heap.new }
+    requires unit { 0 < left }
+    ensures done { RowIsTried p.now (block_row p.now at.now heap.old) heap.old result heap.new }
     ensures within { IsDoneWithin left result }
     ensures grows { Grows heap.old heap.new }
 {
     match only_statement(p, at) {
-        Some(statement) => match done_inside(p, heap, at, statement, height, left) {
+        Some(statement) => match done_inside(p, heap, at, statement, height, left - 1) {
             Some(inner) => Some(Completed {
                 completion: expression_end(&inner.completion),
-                units: inner.units,
+                units: 1 + inner.units,
             }),
             None => None,
         },
@@ -181,16 +194,17 @@ fn only_statement(p: &Source, at: &Part) -> Option<u32>
 }
 
 fn done_var(p: &Source, heap: &mut Heap, at: &Part, height: u32, left: u64) -> Option<Completed>
-    ensures done { RowIsDone p.now (var_row p.now at.now heap.old) heap.old result heap.new }
+    requires unit { 0 < left }
+    ensures done { RowIsTried p.now (var_row p.now at.now heap.old) heap.old result heap.new }
     ensures within { IsDoneWithin left result }
     ensures grows { Grows heap.old heap.new }
 {
     match only_initialiser(p, at) {
-        Some(e) => match had_inside(p, heap, at, e, height, left) {
+        Some(e) => match had_inside(p, heap, at, e, height, left - 1) {
             Some(had) => match write(heap, at.scope, p.scoping(p.child(at.node, 0)), had.value) {
                 Ok(()) => Some(Completed {
                     completion: Completion::Normal(Value::Undefined),
-                    units: had.units,
+                    units: 1 + had.units,
                 }),
                 Err(_) => None,
             },
@@ -220,25 +234,26 @@ fn only_initialiser(p: &Source, at: &Part) -> Option<u32>
 
 #[cycle(in_place)]
 fn done_if(p: &Source, heap: &mut Heap, at: &Part, height: u32, left: u64) -> Option<Completed>
-    ensures done { RowIsDone p.now (if_row p.now at.now heap.old) heap.old result heap.new }
+    requires unit { 0 < left }
+    ensures done { RowIsTried p.now (if_row p.now at.now heap.old) heap.old result heap.new }
     ensures within { IsDoneWithin left result }
     ensures grows { Grows heap.old heap.new }
 {
-    let test = match had_inside(p, heap, at, p.child(at.node, 0), height, left) {
+    let test = match had_inside(p, heap, at, p.child(at.node, 0), height, left - 1) {
         Some(test) => test,
         None => return None,
     };
     match branch_of(p, heap, at, &test.value) {
-        Some(branch) => match done_inside(p, heap, at, branch, height, left - test.units) {
+        Some(branch) => match done_inside(p, heap, at, branch, height, left - 1 - test.units) {
             Some(last) => Some(Completed {
                 completion: last.completion,
-                units: test.units + last.units,
+                units: 1 + test.units + last.units,
             }),
             None => None,
         },
         None => Some(Completed {
             completion: Completion::Normal(Value::Undefined),
-            units: test.units,
+            units: 1 + test.units,
         }),
     }
 }
@@ -256,15 +271,16 @@ fn branch_of(p: &Source, heap: &Heap, at: &Part, test: &Value) -> Option<u32>
 
 #[cycle(in_place)]
 fn done_return(p: &Source, heap: &mut Heap, at: &Part, height: u32, left: u64) -> Option<Completed>
-    ensures done { RowIsDone p.now (return_row p.now at.now heap.old) heap.old result heap.new }
+    requires unit { 0 < left }
+    ensures done { RowIsTried p.now (return_row p.now at.now heap.old) heap.old result heap.new }
     ensures within { IsDoneWithin left result }
     ensures grows { Grows heap.old heap.new }
 {
     match p.child_at(at.node, 0) {
-        Some(e) => match done_inside(p, heap, at, e, height, left) {
+        Some(e) => match done_inside(p, heap, at, e, height, left - 1) {
             Some(inner) => Some(Completed {
                 completion: returned(&inner.completion),
-                units: inner.units,
+                units: 1 + inner.units,
             }),
             None => None,
         },
@@ -315,18 +331,19 @@ fn done_write(
 }
 
 fn done_assign(p: &Source, heap: &mut Heap, at: &Part, height: u32, left: u64) -> Option<Completed>
-    ensures done { RowIsDone p.now (assign_row p.now at.now heap.old) heap.old result heap.new }
+    requires unit { 0 < left }
+    ensures done { RowIsTried p.now (assign_row p.now at.now heap.old) heap.old result heap.new }
     ensures within { IsDoneWithin left result }
     ensures grows { Grows heap.old heap.new }
 {
-    if left == 0 {
+    if left == 1 {
         return None;
     }
     if !is_name(p, at) {
         return done_to_member(p, heap, at, height, left);
     }
-    match had_inside(p, heap, at, p.child(at.node, 1), height, left - 1) {
-        Some(had) => done_write(p, heap, at, &had.value, &had.value, had.units + 1),
+    match had_inside(p, heap, at, p.child(at.node, 1), height, left - 2) {
+        Some(had) => done_write(p, heap, at, &had.value, &had.value, had.units + 2),
         None => None,
     }
 }
@@ -339,19 +356,20 @@ fn done_to_member(
     height: u32,
     left: u64,
 ) -> Option<Completed>
-    ensures done { RowIsDone p.now (assign_row p.now at.now heap.old) heap.old result heap.new }
+    requires unit { 0 < left }
+    ensures done { RowIsTried p.now (assign_row p.now at.now heap.old) heap.old result heap.new }
     ensures within { IsDoneWithin left result }
     ensures grows { Grows heap.old heap.new }
 {
-    let target = match done_target(p, heap, at, height, left) {
+    let target = match done_target(p, heap, at, height, left - 1) {
         Some(target) => target,
         None => return None,
     };
     let taken = target.units;
     match &target.completion {
         Completion::Referred(member) => {
-            match had_inside(p, heap, at, p.child(at.node, 1), height, left - taken) {
-                Some(had) => done_put(p, heap, at, member, &had.value, taken + had.units),
+            match had_inside(p, heap, at, p.child(at.node, 1), height, left - 1 - taken) {
+                Some(had) => done_put(p, heap, at, member, &had.value, 1 + taken + had.units),
                 None => None,
             }
         },
@@ -390,47 +408,40 @@ fn done_compound(
     height: u32,
     left: u64,
 ) -> Option<Completed>
-    ensures done { RowIsDone p.now (compound_row p.now at.now heap.old) heap.old result heap.new }
+    requires unit { 0 < left }
+    ensures done { RowIsTried p.now (compound_row p.now at.now heap.old) heap.old result heap.new }
     ensures within { IsDoneWithin left result }
     ensures grows { Grows heap.old heap.new }
 {
-    if left == 0 || !is_name(p, at) {
+    if left == 1 || !is_name(p, at) {
         return None;
     }
-    match had_inside(p, heap, at, p.child(at.node, 1), height, left - 1) {
-        Some(had) => match compound(p, heap, at, had.value) {
-            Some(v) => done_write(p, heap, at, &v, &v, had.units + 1),
+    let Some(old) = target_found(p, heap, at) else {
+        return None;
+    };
+    match had_inside(p, heap, at, p.child(at.node, 1), height, left - 2) {
+        Some(had) => match calculated(p.alloc(), heap, p.operator(at.node), old, had.value) {
+            Some(v) => done_write(p, heap, at, &v, &v, had.units + 2),
             None => None,
         },
         None => None,
     }
 }
 
-/// What the operator of a compound assignment gives of the value of its target and of this one.
-fn compound(p: &Source, heap: &Heap, at: &Part, right: Value) -> Option<Value>
-    ensures { IfSome result
-        (λ v. (old : ScriptValue) × (target_found p.now at.now heap.now ≡ Some old)
-        × (binary heap.now (operator p.now at.now.node) old right ≡ Gives v heap.now)) }
-{
-    match target_found(p, heap, at) {
-        Some(old) => calculated(heap, p.operator(at.node), old, right),
-        None => None,
-    }
-}
-
 fn done_step(p: &Source, heap: &mut Heap, at: &Part, left: u64) -> Option<Completed>
-    ensures done { RowIsDone p.now (step_row p.now at.now heap.old) heap.old result heap.new }
+    requires unit { 0 < left }
+    ensures done { RowIsTried p.now (step_row p.now at.now heap.old) heap.old result heap.new }
     ensures within { IsDoneWithin left result }
     ensures grows { Grows heap.old heap.new }
 {
-    if left == 0 || at.room < 2 || !is_name(p, at) {
+    if left == 1 || at.room < 2 || !is_name(p, at) {
         return None;
     }
     match target_found(p, heap, at) {
         Some(v) => match numbers_of_step(heap, p.step_operator(at.node), v) {
             Ok((old, new)) => {
                 let given = if p.is_postfix(at.node) { old } else { new };
-                done_write(p, heap, at, &new, &given, 1)
+                done_write(p, heap, at, &new, &given, 2)
             },
             Err(_) => None,
         },

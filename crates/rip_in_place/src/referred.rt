@@ -1,7 +1,8 @@
 ghost use Rattle.std.specs.Prelude.{◌≡◌, ℕ, ◌<◌, IfSome};
 ghost use Rattle.rip_heap.specs.World.{World};
 ghost use Rattle.rip_runs.specs.Row.{Ends};
-ghost use Rattle.rip_in_place.specs.InPlace.{IsDone, IsDoneWithin, IsHad, IsWithin, RowIsDone};
+ghost use Rattle.rip_in_place.specs.AddedTexts.{AddsTexts};
+ghost use Rattle.rip_in_place.specs.InPlace.{IsDoneWithin, IsHad, IsTried, IsWithin, RowIsTried};
 ghost use Rattle.rip_language.specs.Reading.{Loaded, literal, target_at};
 ghost use Rattle.rip_language.specs.Rows.Members.{index_row, member_for, member_row, subscript_end, with_base};
 
@@ -12,43 +13,32 @@ use rip_runs::{Completed, Completion, Part, Role};
 use rip_tree::Form;
 use rip_values::Value;
 
-/// What a part comes to for which some depth is left, where it changes nothing and can be had in place: what it means as a
+/// What a part comes to for which some depth is left, where it changes nothing but adds texts, and can be had in place: what it means as a
 /// target, its value and the base for a call, or else its value. Of any part it may be none.
 pub(crate) fn done_reference(
     p: &Source,
-    heap: &Heap,
+    heap: &mut Heap,
     at: &Part,
     height: u32,
     left: u64,
 ) -> Option<Completed>
     requires some { 0 < at.now.room }
     requires unit { 0 < left }
-    ensures done { IsDone p.now at.now heap.now result heap.now }
+    ensures done { IsTried p.now at.now heap.old result heap.new }
+    ensures texts { AddsTexts heap.old heap.new }
     ensures within { IsDoneWithin left result }
 {
     match p.form(at.node) {
-        Form::Member(_) => match done_member(p, heap, at, height, left - 1) {
-            Some(done) => Some(Completed {
-                completion: done.completion,
-                units: done.units + 1,
-            }),
-            None => None,
-        },
-        Form::Index => match done_index(p, heap, at, height, left - 1) {
-            Some(done) => Some(Completed {
-                completion: done.completion,
-                units: done.units + 1,
-            }),
-            None => None,
-        },
+        Form::Member(_) => done_member(p, heap, at, height, left),
+        Form::Index => done_index(p, heap, at, height, left),
         _ => valued(had_part(p, heap, at, height, left)),
     }
 }
 
 /// A value that was had, as a completion.
 pub(crate) fn valued(had: Option<Had>) -> Option<Completed>
-    ensures done { (p : Loaded) (at : Part) (w : World) → IsHad p at w had
-        → IsDone p at w result w }
+    ensures done { (p : Loaded) (at : Part) (w x : World) → IsHad p at w had x → AddsTexts w x
+        → IsTried p at w result x }
     ensures within { (left : ℕ) → IsWithin left had → IsDoneWithin left result }
 {
     match had {
@@ -63,12 +53,13 @@ pub(crate) fn valued(had: Option<Had>) -> Option<Completed>
 /// What the target of a node means, where it is a member.
 pub(crate) fn done_target(
     p: &Source,
-    heap: &Heap,
+    heap: &mut Heap,
     at: &Part,
     height: u32,
     left: u64,
 ) -> Option<Completed>
-    ensures done { IsDone p.now (target_at p.now at.now 0) heap.now result heap.now }
+    ensures done { IsTried p.now (target_at p.now at.now 0) heap.old result heap.new }
+    ensures texts { AddsTexts heap.old heap.new }
     ensures within { IsDoneWithin left result }
 {
     if height == 0 || left == 0 || at.room < 2 {
@@ -79,15 +70,17 @@ pub(crate) fn done_target(
 
 // MEMBERS
 
-fn done_member(p: &Source, heap: &Heap, at: &Part, height: u32, left: u64) -> Option<Completed>
-    ensures done { RowIsDone p.now (member_row p.now at.now heap.now) heap.now result heap.now }
+fn done_member(p: &Source, heap: &mut Heap, at: &Part, height: u32, left: u64) -> Option<Completed>
+    requires unit { 0 < left }
+    ensures done { RowIsTried p.now (member_row p.now at.now heap.old) heap.old result heap.new }
+    ensures texts { AddsTexts heap.old heap.new }
     ensures within { IsDoneWithin left result }
 {
-    match had_inside(p, heap, at, p.child(at.node, 0), height, left) {
+    match had_inside(p, heap, at, p.child(at.node, 0), height, left - 1) {
         Some(base) => match named_end(p, heap, at, &base.value) {
             Some(completion) => Some(Completed {
                 completion,
-                units: base.units,
+                units: 1 + base.units,
             }),
             None => None,
         },
@@ -95,20 +88,22 @@ fn done_member(p: &Source, heap: &Heap, at: &Part, height: u32, left: u64) -> Op
     }
 }
 
-fn done_index(p: &Source, heap: &Heap, at: &Part, height: u32, left: u64) -> Option<Completed>
-    ensures done { RowIsDone p.now (index_row p.now at.now heap.now) heap.now result heap.now }
+fn done_index(p: &Source, heap: &mut Heap, at: &Part, height: u32, left: u64) -> Option<Completed>
+    requires unit { 0 < left }
+    ensures done { RowIsTried p.now (index_row p.now at.now heap.old) heap.old result heap.new }
+    ensures texts { AddsTexts heap.old heap.new }
     ensures within { IsDoneWithin left result }
 {
-    let base = match had_inside(p, heap, at, p.child(at.node, 0), height, left) {
+    let base = match had_inside(p, heap, at, p.child(at.node, 0), height, left - 1) {
         Some(base) => base,
         None => return None,
     };
     let subscript = p.child(at.node, 1);
-    match had_inside(p, heap, at, subscript, height, left - base.units) {
+    match had_inside(p, heap, at, subscript, height, left - 1 - base.units) {
         Some(key) => match subscript_end(heap, at, &base.value, &key.value) {
             Some(completion) => Some(Completed {
                 completion,
-                units: base.units + key.units,
+                units: 1 + base.units + key.units,
             }),
             None => None,
         },

@@ -161,21 +161,11 @@ fn is_taken(op: BinaryOperator) -> bool {
     !matches!(op, BinaryOperator::In | BinaryOperator::InstanceOf)
 }
 
-/// A sum with a text makes a text, and so is worth nothing.
 fn of_operator(program: &Program, worths: &[Worth], id: u32, op: BinaryOperator) -> Worth {
-    if !is_taken(op) {
-        return Worth::Nothing;
-    }
-    if matches!(op, BinaryOperator::Add) && (is_text(program, id, 0) || is_text(program, id, 1)) {
-        return Worth::Nothing;
-    }
-    value_of_two(program, worths, id)
-}
-
-fn is_text(program: &Program, id: u32, place: u32) -> bool {
-    match program.child(id, place) {
-        Some(child) => matches!(form_at(program, child), Form::Text(_)),
-        None => false,
+    if is_taken(op) {
+        value_of_two(program, worths, id)
+    } else {
+        Worth::Nothing
     }
 }
 

@@ -1,8 +1,8 @@
 use Rattle.std.proofs.Common.{◌+◌, ◌*◌}
 use Rattle.rip_in_place.proofs.in_place.+in_place.Given as goal
 
-abbrev pub decreases-done : goal.decreases-done
-decreases-done l = 4 * l.height + 3
+abbrev pub decreases-tried : goal.decreases-tried
+decreases-tried l = 4 * l.height + 3
 
 abbrev pub decreases-done_by_form : goal.decreases-done_by_form
 decreases-done_by_form l = 4 * l.height + 2

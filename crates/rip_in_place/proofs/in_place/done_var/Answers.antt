@@ -1,3 +1,4 @@
+use Rattle.std.proofs.Common.{◌+◌, refl}
 use Rattle.rip_language.specs.Reading.{child}
 use Rattle.rip_in_place.proofs.InPlace.{var_done}
 use Rattle.rip_in_place.proofs.in_place.done_var.Goals as goal
@@ -8,5 +9,5 @@ returns-in-Ok-clause-done c =
     let at = c.args.at.now in
     let had = c.in-Some-had_inside.had in
     let only = c.in-Some.ensures in
-    var_done p at c.args.heap.now c.write.new.heap had.value (child p at.node 0) c.in-Some.e had.units only.0 only.1 only.2
-    c.in-Some-had_inside.ensures.had (cc (c.in-Ok.ensures.written))
+    var_done p at c.args.heap.now c.had_inside.new.heap c.write.new.heap had.value (child p at.node 0) c.in-Some.e had.units (1 + had.units) only.0 only.1 only.2
+    c.in-Some-had_inside.ensures.had (cc (c.in-Ok.ensures.written)) refl
