@@ -1,9 +1,10 @@
 -- A trace that is served from its start, over memory.
 use Rattle.std.specs.Prelude.{◌≡◌, ℕ, List, [], map, Some, None}
 use Rattle.rip_outer.specs.Connections.{knocked}
-use Rattle.rip_outer.specs.MemoryDoor.{new_door, sent_to, telling_of}
+use Rattle.rip_outer.specs.Memory.{SinkState}
+use Rattle.rip_outer.specs.MemoryDoor.{DoorState, new_door, sent_to, telling_of}
 use Rattle.rip_outer.specs.declared.connections.TraceKnock.{TraceKnock}
-use Rattle.rip_outer.specs.Moments.{moment_at, new_clock, new_words, word_at}
+use Rattle.rip_outer.specs.Moments.{ClockState, WordsState, moment_at, new_clock, new_words, word_at}
 use Rattle.rip_app.specs.App.{Loaded}
 use Rattle.rip_trace.specs.Traces.{Given, IsTrace}
 use Rattle.rip_log.specs.Entries.{Recorded}
@@ -13,6 +14,12 @@ use Rattle.rip_turn.specs.Turning.{Outer, outer, source}
 use Rattle.rip_serve.specs.declared.serving.Stop.TheVariants.{Idle}
 use Rattle.rip_site.specs.Sites.{ServesApp}
 use Rattle.rip_generate.specs.Form.{IsForm}
+
+-- what a door, a clock, words and a sink in memory tell
+abbrev pub told_by : DoorState → ClockState → WordsState → SinkState → Outer
+told_by door clock words sink =
+    outer (seen (sent_to door) (telling_of door) (Some door.shuts) (Some door.busy) (Some sink.bytes)) (source None (λ j. Some (moment_at clock j)))
+    (source None (λ j. Some (word_at words j))) door.faults sink.faults
 
 -- what a trace brings: its knocks come at a door that never fails, to which nothing was told or sent yet; its moments and
 -- words come in turn, where the last moment stands, and behind the last word j comes j; and nothing was put
@@ -24,7 +31,7 @@ brought given =
     (source None (λ j. Some (word_at (new_words given.words) j)))
     0 0
 
--- so many turns are more than any generated work takes
+-- generated work is served for so many turns
 abbrev pub most_turns : ℕ
 most_turns = 1000000000
 

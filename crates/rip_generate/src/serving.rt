@@ -1,7 +1,7 @@
 ghost use Rattle.std.specs.Prelude.{◌≡◌, ℕ, List, IfOk, map};
 ghost use Rattle.rip_log.specs.Entries.{recorded_of};
 ghost use Rattle.rip_trace.specs.Traces.{IsTrace};
-ghost use Rattle.rip_generate.specs.Served.{IsLogOf, IsServed, IsServedForm};
+ghost use Rattle.rip_generate.specs.Served.{IsLogOf, IsServed, IsServedForm, brought, told_by};
 
 use crate::page::load_form;
 use rip_app::App;
@@ -39,21 +39,46 @@ fn serve_text(alloc: Global, app: &App, text: &[u8]) -> Result<Entries, NoMemory
     }
 }
 
+/// What a trace brings, and a sink for what serving it puts, all of them in memory.
+#[derive(Drop)]
+struct Brought {
+    door: MemoryDoor,
+    clock: MemoryClock,
+    words: MemoryWords,
+    sink: MemorySink,
+}
+
+/// What this trace brings, of which nothing was asked yet.
+fn bring(alloc: Global, trace: &Trace) -> Result<Brought, NoMemory>
+    requires { (text : List ℕ) × IsTrace text trace.now }
+    ensures { IfOk result (λ b. told_by b.door b.clock b.words b.sink ≡ brought trace.now) }
+{
+    let none = NumberList::new(alloc);
+    Ok(Brought {
+        door: MemoryDoor::make(alloc, trace.knocks(), &none, &none)?,
+        clock: MemoryClock::make(alloc, trace.moments())?,
+        words: MemoryWords::make(alloc, trace.words())?,
+        sink: MemorySink::make(alloc, &none)?,
+    })
+}
+
 /// Serves a trace over memory. Answers what was put, where nothing was left to be done.
 fn serve_trace(alloc: Global, app: &App, trace: &Trace) -> Result<MemorySink, NoMemory>
     requires { (text : List ℕ) × IsTrace text trace.now }
     ensures { IfOk result (λ sink. IsLogOf app.now trace.now sink.bytes) }
 {
-    let none = NumberList::new(alloc);
-    let mut door = MemoryDoor::make(alloc, trace.knocks(), &none, &none)?;
-    let mut clock = MemoryClock::make(alloc, trace.moments())?;
-    let mut words = MemoryWords::make(alloc, trace.words())?;
-    let mut sink = MemorySink::make(alloc, &none)?;
+    let mut brought = bring(alloc, trace)?;
     let how = serve_app(
-        alloc, app, TURNS, &mut door, &mut clock, &mut words, &mut sink,
+        alloc,
+        app,
+        TURNS,
+        &mut brought.door,
+        &mut brought.clock,
+        &mut brought.words,
+        &mut brought.sink,
     )?;
     match how {
-        Stop::Idle => Ok(sink),
+        Stop::Idle => Ok(brought.sink),
         Stop::TurnsSpent | Stop::Outside | Stop::Memory => Err(NoMemory),
     }
 }
