@@ -1,26 +1,27 @@
-use rip_cli::{Status, ripley};
-use rip_outer::{FileList, MAX_FILE, MemoryFiles, MemorySink, NamedFile, NoClock, NoDoor, NoWords};
-use rip_values::{Bytes, List, NoMemory, NumberList};
+use crate::running::run;
+use rip_cli::Status;
+use rip_outer::MAX_FILE;
 use std::alloc::Global;
+use std::process::Abort;
 use std::test::Fail;
 
-const PAGE: &[u8] =
+pub(crate) const PAGE: &[u8] =
     b"<html><head></head><body><script>\"use strict\";ripley.call(\"f\",[1],null);ripley.call(\"f\",[2],null);</script></body></html>";
 
 const OTHER_PAGE: &[u8] =
     b"<html><head></head><body><script>\"use strict\";ripley.call(\"f\",[1.5],null);</script></body></html>";
 
-const CLICKED_PAGE: &[u8] =
+pub(crate) const CLICKED_PAGE: &[u8] =
     b"<html><head></head><body><button>A</button><script>\"use strict\";document.body.firstChild.addEventListener(\"click\",function(){while(true){}},false);</script></body></html>";
 
 const LISTENING_PAGE: &[u8] =
     b"<html><head></head><body><button>A</button><script>\"use strict\";var f=function(){document.addEventListener(5,f,false);};document.body.firstChild.addEventListener(\"click\",f,false);document.addEventListener(5,f,false);</script></body></html>";
 
-const APP: &[u8] = b"{\"version\":1,\"functions\":{},\"limits\":{}}\n";
+pub(crate) const APP: &[u8] = b"{\"version\":1,\"functions\":{},\"limits\":{}}\n";
 
 const OTHER_APP: &[u8] = b"{\"version\":2,\"functions\":{},\"limits\":{}}";
 
-const TRACE: &[u8] =
+pub(crate) const TRACE: &[u8] =
     b"open 0\nsay 0 get\nsay 0 e 1 {\"batch\":1,\"items\":[[\"call\",1,\"f\",[1]],[\"call\",2,\"f\",[2]]]}\n";
 
 const FALSE_TRACE: &[u8] =
@@ -35,9 +36,9 @@ const CLICKED_TRACE: &[u8] =
 
 const USAGE: &str = "usage: ripley check|replay|serve|drive|generate\n";
 
-const OPENING: &str = "open 2 1 00000000-0000-4001-8000-000000000002 3 0\n";
+pub(crate) const OPENING: &str = "open 2 1 00000000-0000-4001-8000-000000000002 3 0\n";
 
-const LOG: &str = "open 2 1 00000000-0000-4001-8000-000000000002 3 0
+pub(crate) const LOG: &str = "open 2 1 00000000-0000-4001-8000-000000000002 3 0
 done 2 1 0 ok
 batch 3 1 1 [[\"call\",1,\"f\",[1]],[\"call\",2,\"f\",[2]]]
 serve 3 1 1 1 \"f\" [1] 0 {\"error\":\"unknown\"}
@@ -71,41 +72,21 @@ say 0 e 1 {\"batch\":1,\"items\":[[\"event\",\"click\",4]]}
 # ended fuel 2
 ";
 
-/// Files of these names and contents.
-fn files(alloc: Global, named: &[(&str, &[u8])]) -> Result<FileList, NoMemory> {
-    let mut files = Vec::new(alloc);
-    for (name, contents) in named {
-        files.push(NamedFile {
-            name: Bytes::from_slice(alloc, name.as_bytes())?,
-            contents: Bytes::from_slice(alloc, contents)?,
-        })?;
-    }
-    Ok(List::from_vec(files))
-}
-
-/// Runs these words over these files and a sink that fails at these calls; what was put comes with the status.
-fn run(
+/// Compares how a run of these words over these files ends, and what it puts, with this status and this text. The calls of
+/// the sink with these numbers fail.
+fn compare(
+    rt: &impl Abort,
     alloc: Global,
     words: &[&str],
     named: &[(&str, &[u8])],
     failing_puts: &[u64],
-) -> Result<(Status, Bytes), NoMemory> {
-    let mut texts = Vec::new(alloc);
-    for word in words {
-        texts.push(String::from_str(alloc, word)?)?;
-    }
-    let mut files = MemoryFiles::make(alloc, &files(alloc, named)?, &NumberList::new(alloc))?;
-    let mut sink = MemorySink::make(alloc, &NumberList::from_slice(alloc, failing_puts)?)?;
-    let status = ripley(
-        alloc,
-        texts.as_slice(),
-        &mut files,
-        &mut NoDoor,
-        &mut NoClock,
-        &mut NoWords,
-        &mut sink,
-    );
-    Ok((status, Bytes::from_slice(alloc, sink.bytes())?))
+    status: Status,
+    text: &str,
+) -> Result<(), Fail> {
+    let (ended, put) = run(alloc, words, named, &[], failing_puts)?;
+    assert_eq!(rt; ended, status, "{text}");
+    assert!(rt; put.as_slice() == text.as_bytes(), "{text}");
+    Ok(())
 }
 
 #[test]
@@ -126,14 +107,9 @@ fn answers_words_that_are_no_form(rt: HostRuntime) -> Result<(), Fail> {
     ];
     let named = [("p", PAGE), ("a", APP), ("t", TRACE)];
     for words in table {
-        let (status, put) = run(rt.alloc(), words, &named, &[])?;
-        assert_eq!(rt; status, Status::BadWords);
-        assert!(rt; put.as_slice() == USAGE.as_bytes());
+        compare(&rt, rt.alloc(), words, &named, &[], Status::BadWords, USAGE)?;
     }
-    let (status, put) = run(rt.alloc(), &[], &[], &[1])?;
-    assert_eq!(rt; status, Status::Outside);
-    assert!(rt; put.is_empty());
-    Ok(())
+    compare(&rt, rt.alloc(), &[], &[], &[1], Status::Outside, "")
 }
 
 #[test]
@@ -161,21 +137,23 @@ fn drives_gestures(rt: HostRuntime) -> Result<(), Fail> {
     ];
     for (page, gestures, expected, text) in table {
         let named = [("p", page), ("a", APP), ("g", gestures)];
-        let (status, put) = run(rt.alloc(), &["drive", "p", "a", "g"], &named, &[])?;
-        assert_eq!(rt; status, expected);
-        assert!(rt; put.as_slice() == text.as_bytes());
+        let words = ["drive", "p", "a", "g"];
+        compare(&rt, rt.alloc(), &words, &named, &[], expected, text)?;
     }
     Ok(())
 }
 
 #[test]
 fn generates_work(rt: HostRuntime) -> Result<(), Fail> {
-    let (status, put) = run(rt.alloc(), &["generate", "7"], &[], &[])?;
-    assert_eq!(rt; status, Status::Read);
-    assert!(rt;
-        put.as_slice() == b"generate 7 sessions 10 served 73 ended 1 turns 405\n".as_slice()
-    );
-    Ok(())
+    compare(
+        &rt,
+        rt.alloc(),
+        &["generate", "7"],
+        &[],
+        &[],
+        Status::Read,
+        "generate 7 sessions 10 served 73 ended 1 turns 405\n",
+    )
 }
 
 #[test]
@@ -196,53 +174,77 @@ fn replays_a_trace(rt: HostRuntime) -> Result<(), Fail> {
         let named = [("p", page), ("a", APP), ("t", trace)];
         let words = ["replay", "p", "a", "t", option.unwrap_or("")];
         let count = if option.is_some() { 5 } else { 4 };
-        let (status, put) = run(rt.alloc(), &words[..count], &named, &[])?;
-        assert_eq!(rt; status, expected, "{text}");
-        assert!(rt; put.as_slice() == text.as_bytes(), "{text}");
+        compare(
+            &rt,
+            rt.alloc(),
+            &words[..count],
+            &named,
+            &[],
+            expected,
+            text,
+        )?;
     }
     Ok(())
 }
 
 #[test]
 fn charges_a_cell_and_then_bytes_for_a_made_call(rt: HostRuntime) -> Result<(), Fail> {
-    let table = [
-        ("\"cells\":14", "ok"),
-        ("\"cells\":13", "cells 1"),
-        ("\"cells\":14,\"queue\":19", "queue 1"),
-        ("\"cells\":6,\"queue\":9", "cells 1"),
+    let table: [(&[u8], &str); 4] = [
+        (
+            b"{\"version\":1,\"functions\":{},\"limits\":{\"cells\":14}}",
+            "open 2 1 00000000-0000-4001-8000-000000000002 3 0\ndone 2 1 0 ok\nend 3 0\n",
+        ),
+        (
+            b"{\"version\":1,\"functions\":{},\"limits\":{\"cells\":13}}",
+            "open 2 1 00000000-0000-4001-8000-000000000002 3 0\ndone 2 1 0 cells 1\nend 3 0\n",
+        ),
+        (
+            b"{\"version\":1,\"functions\":{},\"limits\":{\"cells\":14,\"queue\":19}}",
+            "open 2 1 00000000-0000-4001-8000-000000000002 3 0\ndone 2 1 0 queue 1\nend 3 0\n",
+        ),
+        (
+            b"{\"version\":1,\"functions\":{},\"limits\":{\"cells\":6,\"queue\":9}}",
+            "open 2 1 00000000-0000-4001-8000-000000000002 3 0\ndone 2 1 0 cells 1\nend 3 0\n",
+        ),
     ];
-    let alloc = rt.alloc();
-    for (limits, ending) in table {
-        let app = format!(in alloc;
-            "{{\"version\":1,\"functions\":{{}},\"limits\":{{{limits}}}}}"
+    for (app, text) in table {
+        let named = [("p", PAGE), ("a", app), ("t", OPENING_TRACE)];
+        compare(
+            &rt,
+            rt.alloc(),
+            &["replay", "p", "a", "t"],
+            &named,
+            &[],
+            Status::Read,
+            text,
         )?;
-        let log = format!(in alloc; "{OPENING}done 2 1 0 {ending}\nend 3 0\n")?;
-        let named = [("p", PAGE), ("a", app.as_bytes()), ("t", OPENING_TRACE)];
-        let (status, put) = run(alloc, &["replay", "p", "a", "t"], &named, &[])?;
-        assert_eq!(rt; status, Status::Read, "{limits}");
-        assert!(rt; put.as_slice() == log.as_bytes(), "{limits}");
     }
     Ok(())
 }
 
 #[test]
 fn charges_no_cell_for_a_second_registration(rt: HostRuntime) -> Result<(), Fail> {
-    let alloc = rt.alloc();
-    for (cells, ending) in [(21, ""), (20, "# ended cells 1\n")] {
-        let app = format!(in alloc;
-            "{{\"version\":1,\"functions\":{{}},\"limits\":{{\"cells\":{cells}}}}}"
+    let table: [(&[u8], &str); 2] = [
+        (
+            b"{\"version\":1,\"functions\":{},\"limits\":{\"cells\":21}}",
+            "open 0\nsay 0 get\nsay 0 e 1 {\"batch\":1,\"items\":[[\"event\",\"click\",4]]}\n",
+        ),
+        (
+            b"{\"version\":1,\"functions\":{},\"limits\":{\"cells\":20}}",
+            "open 0\nsay 0 get\nsay 0 e 1 {\"batch\":1,\"items\":[[\"event\",\"click\",4]]}\n# ended cells 1\n",
+        ),
+    ];
+    for (app, text) in table {
+        let named = [("p", LISTENING_PAGE), ("a", app), ("g", b"click 4\n")];
+        compare(
+            &rt,
+            rt.alloc(),
+            &["drive", "p", "a", "g"],
+            &named,
+            &[],
+            Status::Read,
+            text,
         )?;
-        let text = format!(in alloc;
-            "open 0\nsay 0 get\nsay 0 e 1 {{\"batch\":1,\"items\":[[\"event\",\"click\",4]]}}\n{ending}"
-        )?;
-        let named = [
-            ("p", LISTENING_PAGE),
-            ("a", app.as_bytes()),
-            ("g", b"click 4\n".as_slice()),
-        ];
-        let (status, put) = run(alloc, &["drive", "p", "a", "g"], &named, &[])?;
-        assert_eq!(rt; status, Status::Read, "{cells}");
-        assert!(rt; put.as_slice() == text.as_bytes(), "{cells}");
     }
     Ok(())
 }
@@ -266,9 +268,15 @@ fn refuses_what_is_no_application_or_no_trace(rt: HostRuntime) -> Result<(), Fai
     ];
     for (page, app, trace, text) in table {
         let named = [("p", page), ("a", app), ("t", trace)];
-        let (status, put) = run(rt.alloc(), &["replay", "p", "a", "t"], &named, &[])?;
-        assert_eq!(rt; status, Status::BadInput, "{text}");
-        assert!(rt; put.as_slice() == text.as_bytes(), "{text}");
+        compare(
+            &rt,
+            rt.alloc(),
+            &["replay", "p", "a", "t"],
+            &named,
+            &[],
+            Status::BadInput,
+            text,
+        )?;
     }
     Ok(())
 }
@@ -276,10 +284,16 @@ fn refuses_what_is_no_application_or_no_trace(rt: HostRuntime) -> Result<(), Fai
 #[test]
 fn serves_the_door_that_it_is_handed(rt: HostRuntime) -> Result<(), Fail> {
     let named: [(&str, &[u8]); 2] = [("p", PAGE), ("a", APP)];
-    let (status, put) = run(rt.alloc(), &["serve", "p", "a", "nowhere"], &named, &[])?;
-    assert_eq!(rt; status, Status::Read);
-    assert!(rt; put.as_slice() == "end 1 0\n".as_bytes());
-    Ok(())
+    let words = ["serve", "p", "a", "nowhere"];
+    compare(
+        &rt,
+        rt.alloc(),
+        &words,
+        &named,
+        &[],
+        Status::Read,
+        "end 1 0\n",
+    )
 }
 
 #[test]
@@ -293,14 +307,18 @@ fn stops_where_the_outside_fails(rt: HostRuntime) -> Result<(), Fail> {
         &["serve", "p", "none", "t"],
     ];
     for words in table {
-        let (status, put) = run(rt.alloc(), words, &named, &[])?;
-        assert_eq!(rt; status, Status::Outside);
-        assert!(rt; put.is_empty());
+        compare(&rt, rt.alloc(), words, &named, &[], Status::Outside, "")?;
     }
-    let (status, put) = run(rt.alloc(), &["replay", "p", "a", "t"], &named, &[2])?;
-    assert_eq!(rt; status, Status::Outside);
-    assert!(rt; put.as_slice() == OPENING.as_bytes());
-    Ok(())
+    let words = ["replay", "p", "a", "t"];
+    compare(
+        &rt,
+        rt.alloc(),
+        &words,
+        &named,
+        &[2],
+        Status::Outside,
+        OPENING,
+    )
 }
 
 #[test]
@@ -350,14 +368,16 @@ fn checks_a_page_and_a_manifest(rt: HostRuntime) -> Result<(), Fail> {
         (PAGE, APP, Status::Read, "ok nodes 6 scripts 1\n"),
     ];
     for (page, app, expected, text) in table {
-        let (status, put) = run(
+        let named = [("p", page), ("a", app)];
+        compare(
+            &rt,
             rt.alloc(),
             &["check", "p", "a"],
-            &[("p", page), ("a", app)],
+            &named,
             &[],
+            expected,
+            text,
         )?;
-        assert_eq!(rt; status, expected, "{text}");
-        assert!(rt; put.as_slice() == text.as_bytes(), "{text}");
     }
     Ok(())
 }
@@ -383,14 +403,16 @@ fn checks_early_errors(rt: HostRuntime) -> Result<(), Fail> {
         ),
     ];
     for (page, text) in table {
-        let (status, put) = run(
+        let named = [("p", page), ("a", b"")];
+        compare(
+            &rt,
             rt.alloc(),
             &["check", "p", "a"],
-            &[("p", page), ("a", b"")],
+            &named,
             &[],
+            Status::BadInput,
+            text,
         )?;
-        assert_eq!(rt; status, Status::BadInput, "{text}");
-        assert!(rt; put.as_slice() == text.as_bytes(), "{text}");
     }
     Ok(())
 }
@@ -400,12 +422,15 @@ fn stops_a_check_where_the_outside_fails(rt: HostRuntime) -> Result<(), Fail> {
     let named: [(&str, &[u8]); 2] = [("p", b""), ("a", APP)];
     let table: [&[&str]; 2] = [&["check", "none", "a"], &["check", "p", "none"]];
     for words in table {
-        let (status, put) = run(rt.alloc(), words, &named, &[])?;
-        assert_eq!(rt; status, Status::Outside);
-        assert!(rt; put.is_empty());
+        compare(&rt, rt.alloc(), words, &named, &[], Status::Outside, "")?;
     }
-    let (status, put) = run(rt.alloc(), &["check", "p", "a"], &named, &[1])?;
-    assert_eq!(rt; status, Status::Outside);
-    assert!(rt; put.is_empty());
-    Ok(())
+    compare(
+        &rt,
+        rt.alloc(),
+        &["check", "p", "a"],
+        &named,
+        &[1],
+        Status::Outside,
+        "",
+    )
 }
