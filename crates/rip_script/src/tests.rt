@@ -26,32 +26,104 @@ const HEAP: HeapLimits = HeapLimits {
 /// How deep its nodes and functions nest.
 const DEPTH: u32 = 50;
 
-/// Scripts that come to their end within these limits.
-static ENDING: [&str; 24] = [
-    r#""use strict";var o={b:1};function f(){o.b=10;return 5}o.b+=f();var r=o.b"#,
-    r#""use strict";var a=[1,2],i=0;a[i++]=i;var r=[a,i]"#,
-    r#""use strict";var r=0;var u;try{u.x=r=1}catch(e){r=[r,e.name]}"#,
-    r#""use strict";var r;try{(function me(){me=r=1})()}catch(e){r=[r,e.name]}"#,
-    r#""use strict";var f=function me(n){return n<2?1:n*me(n-1)};var r=f(5)"#,
-    r#""use strict";function f(){return this}var r=[f(),f.call(3),{f:f}.f()===f]"#,
-    r#""use strict";var r="";for(var i=0;i<5;i++){if(i===1)continue;if(i===3)break;r+=i}"#,
-    r#""use strict";var r=0;do{r++;if(r<3)continue}while(r<3)"#,
-    r#""use strict";function s(v){var o="";switch(v){default:o+="d";case 1:o+="1";break;case 2:o+="2"}return o}var r=[s(1),s(2),s(3)].join()"#,
-    r#""use strict";function f(){for(var i=0;i<3;i++){try{continue}finally{if(i===1)break}}return i}var r=f()"#,
-    r#""use strict";var r="";try{try{throw 1}catch(e){r+=e;throw 2}finally{r+="f"}}catch(e){r+=e}"#,
-    r#""use strict";function f(){try{throw 1}catch(e){return function(){return e}}}var r=f()()"#,
-    r#""use strict";function f(){throw 2}function g(){try{f()}finally{r=1}}var r,s;try{g()}catch(e){s=e}"#,
-    r#""use strict";var r=(function(){var c=0;return function(){return ++c}})();r();r=[r(),r()]"#,
-    r#""use strict";var a=1,r=[a++,a,++a,a--,--a]"#,
-    r#""use strict";var a=1,b=a?2:3,c=(a,b),r=[a&&b,null||c,!a,~b<<1,-c,typeof void 0]"#,
-    r#""use strict";var r={a:1,b:2};delete r.a;r.a=3"#,
-    r#""use strict";function F(x){this.x=x}F.prototype.g=function(){return this.x};var o=new F(4),r=[o.g(),o instanceof F,"g" in o,o.hasOwnProperty("g")]"#,
-    r#""use strict";var r=[1,2,3];r.length=1;r[1]=9"#,
-    r#""use strict";var e=new Error("m");e.name="N";e.a=1;var r=[e.name,e.a]"#,
-    r#""use strict";var s="abc".substring(1),r=Math.max(1,"5",null)"#,
-    r#""use strict";var i,r;if(0){;}else{r="abc"[1]}for(i=0;i<2;i++){}while(i)i--"#,
-    r#""use strict";var r=[];for(var i=0,j=3;i<j;i++,j--)r.push(i)"#,
-    r#""use strict";var a=[3,4],o={k:2},r=0;for(var i=0;i<a.length;i++){if(a[i]>3||!i)r=r*10+a[i]-o.k;else r+=o["k"]}r=-r%7"#,
+/// Scripts that come to their end within these limits, and what the report tells of `r` and the names behind it.
+static ENDING: [[&str; 2]; 24] = [
+    [
+        "r = 6\n",
+        r#""use strict";var o={b:1};function f(){o.b=10;return 5}o.b+=f();var r=o.b"#,
+    ],
+    [
+        "r = [[1,2],1]\n",
+        r#""use strict";var a=[1,2],i=0;a[i++]=i;var r=[a,i]"#,
+    ],
+    [
+        "r = [0,\"TypeError\"]\nu = undefined\n",
+        r#""use strict";var r=0;var u;try{u.x=r=1}catch(e){r=[r,e.name]}"#,
+    ],
+    [
+        "r = [1,\"TypeError\"]\n",
+        r#""use strict";var r;try{(function me(){me=r=1})()}catch(e){r=[r,e.name]}"#,
+    ],
+    [
+        "r = 120\n",
+        r#""use strict";var f=function me(n){return n<2?1:n*me(n-1)};var r=f(5)"#,
+    ],
+    [
+        "r = [undefined,3,false]\n",
+        r#""use strict";function f(){return this}var r=[f(),f.call(3),{f:f}.f()===f]"#,
+    ],
+    [
+        "r = \"02\"\ni = 3\n",
+        r#""use strict";var r="";for(var i=0;i<5;i++){if(i===1)continue;if(i===3)break;r+=i}"#,
+    ],
+    [
+        "r = 3\n",
+        r#""use strict";var r=0;do{r++;if(r<3)continue}while(r<3)"#,
+    ],
+    [
+        "r = \"1,2,d1\"\n",
+        r#""use strict";function s(v){var o="";switch(v){default:o+="d";case 1:o+="1";break;case 2:o+="2"}return o}var r=[s(1),s(2),s(3)].join()"#,
+    ],
+    [
+        "r = 1\n",
+        r#""use strict";function f(){for(var i=0;i<3;i++){try{continue}finally{if(i===1)break}}return i}var r=f()"#,
+    ],
+    [
+        "r = \"1f2\"\n",
+        r#""use strict";var r="";try{try{throw 1}catch(e){r+=e;throw 2}finally{r+="f"}}catch(e){r+=e}"#,
+    ],
+    [
+        "r = 1\n",
+        r#""use strict";function f(){try{throw 1}catch(e){return function(){return e}}}var r=f()()"#,
+    ],
+    [
+        "r = 1\ns = 2\n",
+        r#""use strict";function f(){throw 2}function g(){try{f()}finally{r=1}}var r,s;try{g()}catch(e){s=e}"#,
+    ],
+    [
+        "r = [2,3]\n",
+        r#""use strict";var r=(function(){var c=0;return function(){return ++c}})();r();r=[r(),r()]"#,
+    ],
+    [
+        "r = [1,2,3,3,1]\n",
+        r#""use strict";var a=1,r=[a++,a,++a,a--,--a]"#,
+    ],
+    [
+        "r = [2,2,false,-6,-2,\"undefined\"]\n",
+        r#""use strict";var a=1,b=a?2:3,c=(a,b),r=[a&&b,null||c,!a,~b<<1,-c,typeof void 0]"#,
+    ],
+    [
+        "r = {b:2,a:3}\n",
+        r#""use strict";var r={a:1,b:2};delete r.a;r.a=3"#,
+    ],
+    [
+        "r = [4,true,true,false]\n",
+        r#""use strict";function F(x){this.x=x}F.prototype.g=function(){return this.x};var o=new F(4),r=[o.g(),o instanceof F,"g" in o,o.hasOwnProperty("g")]"#,
+    ],
+    [
+        "r = [1,9]\n",
+        r#""use strict";var r=[1,2,3];r.length=1;r[1]=9"#,
+    ],
+    [
+        "r = [\"N\",1]\n",
+        r#""use strict";var e=new Error("m");e.name="N";e.a=1;var r=[e.name,e.a]"#,
+    ],
+    [
+        "r = 5\n",
+        r#""use strict";var s="abc".substring(1),r=Math.max(1,"5",null)"#,
+    ],
+    [
+        "r = \"b\"\n",
+        r#""use strict";var i,r;if(0){;}else{r="abc"[1]}for(i=0;i<2;i++){}while(i)i--"#,
+    ],
+    [
+        "r = [0,1]\ni = 2\nj = 1\n",
+        r#""use strict";var r=[];for(var i=0,j=3;i<j;i++,j--)r.push(i)"#,
+    ],
+    [
+        "r = -5\ni = 2\n",
+        r#""use strict";var a=[3,4],o={k:2},r=0;for(var i=0;i<a.length;i++){if(a[i]>3||!i)r=r*10+a[i]-o.k;else r+=o["k"]}r=-r%7"#,
+    ],
 ];
 
 /// How a run ends otherwise, and a script that ends so.
@@ -163,10 +235,14 @@ fn run(
     Ok((status, Bytes::from_slice(alloc, sink.bytes())?))
 }
 
-/// Whether a run of the script ends so, and in slices as whole.
-fn is_same_in_slices(alloc: Global, text: &str, outcome: &str) -> Result<bool, Fail> {
+/// Whether the report of the script's run begins and ends so, and a run in slices has the same.
+fn is_same_in_slices(alloc: Global, text: &str, begin: &str, end: &str) -> Result<bool, Fail> {
     let (status, whole) = run(alloc, &RUN, text.as_bytes(), &[])?;
-    if status != Status::Done || !whole.as_slice().starts_with(outcome.as_bytes()) {
+    let told = whole.as_slice();
+    if !told.starts_with(begin.as_bytes()) || !told.ends_with(end.as_bytes()) {
+        return Ok(false);
+    }
+    if status != Status::Done {
         return Ok(false);
     }
     for slice in [1, 7, FUEL] {
@@ -179,12 +255,12 @@ fn is_same_in_slices(alloc: Global, text: &str, outcome: &str) -> Result<bool, F
 
 #[test]
 fn runs_are_the_same_in_slices(rt: HostRuntime) -> Result<(), Fail> {
-    for text in &ENDING {
-        let is_same = is_same_in_slices(rt.alloc(), text, "outcome value undefined\n")?;
+    for [shown, text] in &ENDING {
+        let is_same = is_same_in_slices(rt.alloc(), text, "outcome value undefined\n", shown)?;
         assert!(rt; is_same, "{text}");
     }
     for [outcome, text] in &STOPPED {
-        let is_same = is_same_in_slices(rt.alloc(), text, outcome)?;
+        let is_same = is_same_in_slices(rt.alloc(), text, outcome, "\n")?;
         assert!(rt; is_same, "{text}");
     }
     Ok(())
