@@ -25,7 +25,7 @@ use Rattle.rip_replays.specs.Replays.{ReplaysEndInTime}
 use Rattle.rip_enough.proofs.InTime.{applications_end_in_time}
 
 -- what was read of a file is what it holds
-same_content : (files : List NamedFile) (name bytes : List ℕ) (content : Content) → HasBytes files name bytes → IsContentOf (Some files) name content → content ≡ Bytes bytes
+pub same_content : (files : List NamedFile) (name bytes : List ℕ) (content : Content) → HasBytes files name bytes → IsContentOf (Some files) name content → content ≡ Bytes bytes
 same_content files name bytes (Bytes other) has is = let same : other ≡ bytes = cc in ap Bytes same
 same_content files name bytes TooLong has is = absurd (short (contents_of files name) has.0 is)
   where
@@ -33,7 +33,7 @@ same_content files name bytes TooLong has is = absurd (short (contents_of files 
     short None held long = cc
     short (Some b) held long = let same : b ≡ bytes = cc in let small : length bytes ≤ longest_file = has.1 in let much : longest_file < length b = long in omega (arith, ap length same)
 
-same_bytes : (content : Content) (bytes other : List ℕ) → content ≡ Bytes bytes → content ≡ Bytes other → other ≡ bytes
+pub same_bytes : (content : Content) (bytes other : List ℕ) → content ≡ Bytes bytes → content ≡ Bytes other → other ≡ bytes
 same_bytes content bytes other one two = cc
 
 module _ (files : List NamedFile) (page app trace : List ℕ) (turns : ℕ) (hold : AreAccepted files (replays page app trace turns)) where
