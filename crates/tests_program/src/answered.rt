@@ -170,3 +170,34 @@ fn one_session_too_many_is_refused(rt: HostRuntime) -> Result<(), Fail> {
     let knocks = connection(alloc, twice.as_bytes())?;
     compare(&rt, alloc, &knocks, ONE_SESSION, 0, &full)
 }
+
+/// Requests that ask for nothing that there is, and all that is sent for each.
+static REFUSED: [[&str; 2]; 4] = [
+    [
+        "GET /x HTTP/1.1\r\nHost: a\r\n\r\n",
+        "HTTP/1.1 404 Not Found\r\nContent-Type: application/json\r\nContent-Length: 16\r\nConnection: close\r\n\r\n{\"error\":\"path\"}",
+    ],
+    [
+        "PUT / HTTP/1.1\r\nHost: a\r\n\r\n",
+        "HTTP/1.1 405 Method Not Allowed\r\nContent-Type: application/json\r\nAllow: GET\r\nContent-Length: 18\r\nConnection: close\r\n\r\n{\"error\":\"method\"}",
+    ],
+    [
+        "HEAD / HTTP/1.1\r\nHost: a\r\n\r\n",
+        "HTTP/1.1 405 Method Not Allowed\r\nContent-Type: application/json\r\nAllow: GET\r\nConnection: close\r\n\r\n",
+    ],
+    [
+        "GET / HTTP/1.1\r\n\r\n",
+        "HTTP/1.1 400 Bad Request\r\nContent-Type: application/json\r\nContent-Length: 16\r\nConnection: close\r\n\r\n{\"error\":\"head\"}",
+    ],
+];
+
+#[test]
+fn requests_for_nothing_are_refused(rt: HostRuntime) -> Result<(), Fail> {
+    let alloc = rt.alloc();
+    for [request, answer] in &REFUSED {
+        let served = serve(alloc, PAGE, &connection(alloc, request.as_bytes())?, 0)?;
+        assert!(rt; served.sent.as_slice() == answer.as_bytes(), "{answer}");
+        assert!(rt; served.is_shut, "{answer}");
+    }
+    Ok(())
+}

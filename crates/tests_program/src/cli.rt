@@ -27,6 +27,10 @@ pub(crate) const TRACE: &[u8] =
 const FALSE_TRACE: &[u8] =
     b"open 0\nsay 0 get\nsay 0 e 1 {\"batch\":1,\"items\":[[\"call\",1,\"f\",[1]],[\"call\",2,\"f\",[3]]]}";
 
+/// The first call is withheld, and what is told in its place is the second.
+const SKIPPING_TRACE: &[u8] =
+    b"open 0\nsay 0 get\nsay 0 e 1 {\"batch\":1,\"items\":[[\"call\",1,\"f\",[2]]]}\n";
+
 const OPENING_TRACE: &[u8] = b"open 0\nsay 0 get\n";
 
 const OTHER_TRACE: &[u8] = b"open 0\nsay 0 get\nquit\n";
@@ -52,6 +56,13 @@ done 2 1 0 ok
 batch 3 1 1 [[\"call\",1,\"f\",[1]],[\"call\",2,\"f\",[3]]]
 serve 3 1 1 1 \"f\" [1] 0 {\"error\":\"unknown\"}
 done 3 1 1 mismatch 2 2 [\"f\",[3]] [\"f\",[2]]
+end 4 0
+";
+
+const SKIPPING_LOG: &str = "open 2 1 00000000-0000-4001-8000-000000000002 3 0
+done 2 1 0 ok
+batch 3 1 1 [[\"call\",1,\"f\",[2]]]
+done 3 1 1 mismatch 1 1 [\"f\",[2]] [\"f\",[1]]
 end 4 0
 ";
 
@@ -158,9 +169,10 @@ fn generates_work(rt: HostRuntime) -> Result<(), Fail> {
 
 #[test]
 fn replays_a_trace(rt: HostRuntime) -> Result<(), Fail> {
-    let table: [(&[u8], &[u8], Option<&str>, Status, &str); 4] = [
+    let table: [(&[u8], &[u8], Option<&str>, Status, &str); 5] = [
         (PAGE, TRACE, None, Status::Read, LOG),
         (PAGE, FALSE_TRACE, None, Status::Read, FALSE_LOG),
+        (PAGE, SKIPPING_TRACE, None, Status::Read, SKIPPING_LOG),
         (PAGE, TRACE, Some("--turns=4"), Status::Read, LOG),
         (
             CLICKED_PAGE,
