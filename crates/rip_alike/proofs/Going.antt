@@ -220,11 +220,11 @@ flip xs ys (inl h) = inr h
 flip xs ys (inr h) = inl h
 
 -- a story tells how many calls were served and how many batches were done
-abbrev counted : (Fact → Bool) → List Distant → ℕ
+abbrev pub counted : (Fact → Bool) → List Distant → ℕ
 counted test [] = 0
 counted test (d ∷ ds) = cond (test d.fact) (suc (counted test ds)) (counted test ds)
 
-abbrev count_in : (Fact → Bool) → List ℕ → List Deed → ℕ
+abbrev pub count_in : (Fact → Bool) → List ℕ → List Deed → ℕ
 count_in test turns ds = counted test (map (distant turns) ds)
 
 counts-one : {A : Type 0} (t : Bool) (test : Fact → Bool) (turns : List ℕ) (d : Deed) (ds : List Deed) (x : A) (xs : List A) → test d.fact ≡ true
@@ -237,17 +237,17 @@ counts-none : (t : Bool) (test : Fact → Bool) (turns : List ℕ) (d : Deed) (d
 counts-none true test turns d ds is = ap (λ (b : Bool). cond b (suc (count_in test turns ds)) (count_in test turns ds)) is
 counts-none false test turns d ds is = refl
 
-given-counted : (n : ℕ) (turns : List ℕ) (h : List Recorded) → count_in serves_call turns (deeds_in n h) ≡ length (given_in n h)
-given-counted n turns [] = refl
-given-counted n turns (opened turn session id seed time ∷ h) = given-counted n turns h
-given-counted n turns (admitted turn session b ∷ h) = given-counted n turns h
-given-counted n turns (served turn session number k name args time reply ∷ h) =
+pub given_counted : (n : ℕ) (turns : List ℕ) (h : List Recorded) → count_in serves_call turns (deeds_in n h) ≡ length (given_in n h)
+given_counted n turns [] = refl
+given_counted n turns (opened turn session id seed time ∷ h) = given_counted n turns h
+given_counted n turns (admitted turn session b ∷ h) = given_counted n turns h
+given_counted n turns (served turn session number k name args time reply ∷ h) =
     counts-one (eqb session n) serves_call turns (record { turn = turn; batch = number; fact = serves k name args }) (deeds_in n h)
-    (record { time = time; reply = reply }) (given_in n h) refl (given-counted n turns h)
-given-counted n turns (done turn session number how ∷ h) =
-    counts-none (eqb session n) serves_call turns (record { turn = turn; batch = number; fact = finishes how }) (deeds_in n h) refl ∙ given-counted n turns h
-given-counted n turns (closed turn session ∷ h) = given-counted n turns h
-given-counted n turns (ended turn status ∷ h) = given-counted n turns h
+    (record { time = time; reply = reply }) (given_in n h) refl (given_counted n turns h)
+given_counted n turns (done turn session number how ∷ h) =
+    counts-none (eqb session n) serves_call turns (record { turn = turn; batch = number; fact = finishes how }) (deeds_in n h) refl ∙ given_counted n turns h
+given_counted n turns (closed turn session ∷ h) = given_counted n turns h
+given_counted n turns (ended turn status ∷ h) = given_counted n turns h
 
 said-counted : (n : ℕ) (turns : List ℕ) (before h : List Recorded) → count_in ends_batch turns (deeds_in n h) ≡ length (said_after n before h)
 said-counted n turns before [] = refl
@@ -268,7 +268,7 @@ pub ended_are_alike : EndedAreAlike
 ended_are_alike site other_site most other_most ts other_ts acts other_acts n k lawful same run other_run g = record {
   story = story;
   given = agree-one (given_in n history) (given_in k other) g.given
-      (sym (given-counted n (turns_in n history) history) ∙ ap (counted serves_call) story ∙ given-counted k (turns_in k other) other);
+      (sym (given_counted n (turns_in n history) history) ∙ ap (counted serves_call) story ∙ given_counted k (turns_in k other) other);
   said = agree-one (said_in n history) (said_in k other)
       (let d = runs_isolate site other_site ts other_ts n k lawful same run.turns other_run.turns g in d.said)
       (sym (said-counted n (turns_in n history) [] history) ∙ ap (counted ends_batch) story ∙ said-counted k (turns_in k other) [] other);

@@ -1,1 +1,5 @@
+mod Applications
+mod Asking
+mod Due
 mod Going
+mod Rising

@@ -30,7 +30,8 @@ pub record IsStopped (n : ℕ) (h : List Recorded) : Type 0 where
   pub is : standing_of n h ≡ Some standing
   pub busy : is_busy standing ≡ true
 
--- where such a session does more in the other run, the one stopped before its last batch there was done
+-- where a session that is given the same in two runs does more in the other, the one stopped before the session's last batch was
+-- done there
 abbrev pub ShorterStopped : Type 0
 ShorterStopped =
     (site other_site : Site) (ts other_ts : List Coming) (n k : ℕ) (d : Distant) (more : List Distant)
