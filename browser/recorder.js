@@ -6,9 +6,15 @@
 import { Wire } from "./wire.js";
 import { hide, putBack, show, takeAway } from "./notice.js";
 
+// The page's script may have names of its own for these.
+const { Array, BigInt, Boolean, DOMException, Element, Node, reportError, setTimeout } = window;
+
 const CONTROLS = ["button", "input", "select", "textarea"];
 const TEXT_TYPES = ["text", "password", "search", "tel", "url", "email", "number"];
 const LONGEST_REPORT = 8192;
+
+// The end of the body, behind which there is only space, comments, and the end of the page.
+const BODY_END = /<\/body[\t\n\f\r ]*>(?:[\t\n\f\r ]|<!--[^]*?-->)*<\/html[\t\n\f\r ]*>(?:[\t\n\f\r ]|<!--[^]*?-->)*$/i;
 
 // Whether an event bubbles, and whether it can be cancelled.
 const EVENTS = {
@@ -63,7 +69,7 @@ export function start(text, opening) {
 // The elements of a page with their numbers, and its scripts in order. Behind `</body>` there is only space, which a
 // browser would put into the body.
 function pageOf(text) {
-  const end = text.search(/<\/body(?![^]*<\/body)/i);
+  const end = text.search(BODY_END);
   const parsed = new DOMParser().parseFromString(text.slice(0, end), "text/html");
   const root = parsed.documentElement;
   root.normalize();
@@ -87,7 +93,16 @@ function renew(old) {
   return { script, type: native.getAttribute.call(old, "type") };
 }
 
+// Runs a script, also one that a script before it took out of the page: a copy that has no number runs for it.
 function run({ script, type }) {
+  if (!script.isConnected) {
+    const copy = script.cloneNode(true);
+    native.removeAttribute.call(copy, "type");
+    if (type !== null) { native.setAttribute.call(copy, "type", type); }
+    document.documentElement.append(copy);
+    copy.remove();
+    return;
+  }
   const { parentNode, nextSibling } = script;
   script.remove();
   native.removeAttribute.call(script, "type");

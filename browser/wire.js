@@ -3,6 +3,9 @@
 // A batch has at most 64 items and its body at most 65,536 bytes. It is sent again under its number until an answer
 // comes; the server gives a batch that it has done the answer that it gave before.
 
+// The page's script may have names of its own for these.
+const { AbortSignal, JSON, Promise, TextEncoder, fetch, queueMicrotask, setTimeout } = globalThis;
+
 const MOST_ITEMS = 64;
 const MOST_BYTES = 65536;
 const MOST_UNDELIVERED = 64;
@@ -12,7 +15,10 @@ const CLOSINGS = 4;
 
 // Answers behind which the same batch is sent again: the batch before is not done, and what stands between page and
 // server could not hand the request on, or the server had no memory for it.
-const AGAIN = [429, 502, 503, 504];
+const AGAIN = [408, 429, 500, 502, 503, 504];
+
+// What stands under a key is told as it is: a `toJSON` of the page's script is a property like others.
+function own(key) { return this[key]; }
 
 const size = (text) => new TextEncoder().encode(text).length;
 const pause = (milliseconds) => new Promise((resolve) => setTimeout(resolve, milliseconds));
@@ -44,7 +50,7 @@ export class Wire {
   // 64 replies are undelivered, since the server would end the session; so do the calls behind it.
   call(name, list, callback) {
     this.#made += 1;
-    this.#held.push({ text: JSON.stringify(["call", this.#made, name, list]), isAwaited: callback !== null });
+    this.#held.push({ text: JSON.stringify(["call", this.#made, name, list], own), isAwaited: callback !== null });
     if (callback !== null) { this.#waiting.set(this.#made, callback); }
     this.#release();
   }

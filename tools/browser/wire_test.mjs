@@ -3,7 +3,13 @@
 //   node --test tools/browser/wire_test.mjs
 import assert from "node:assert/strict";
 import { beforeEach, test } from "node:test";
-import { Wire } from "../../browser/wire.js";
+
+// The wire takes these as they are when it is read, so what the tests change stands behind them.
+let asked = null;
+let later = null;
+globalThis.fetch = (...words) => asked(...words);
+globalThis.setTimeout = (...words) => later(...words);
+const { Wire } = await import("../../browser/wire.js");
 
 const none = () => {};
 const turns = async (count = 20) => { for (let at = 0; at < count; at++) { await new Promise(setImmediate); } };
@@ -19,8 +25,8 @@ beforeEach(() => {
   globalThis.location = { origin: "https://a" };
   const navigator = { sendBeacon: (url) => beacons.push(url) };
   Object.defineProperty(globalThis, "navigator", { value: navigator, configurable: true });
-  globalThis.setTimeout = (call, milliseconds) => { now.push(milliseconds); setImmediate(call); };
-  globalThis.fetch = async (url, { body }) => {
+  later = (call, milliseconds) => { now.push(milliseconds); setImmediate(call); };
+  asked = async (url, { body }) => {
     sent.push({ url, body });
     const answer = answers.shift() ?? ok(sent.at(-1).body);
     if (answer === "lost") { throw new TypeError("lost"); }
