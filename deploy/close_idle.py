@@ -21,7 +21,8 @@ class Sessions:
     """The live sessions of a log, the longest silent first: identifier and time of the last line by number."""
 
     def __init__(self, path):
-        self.file = open(path, encoding="utf-8")
+        # The words before the JSON are ASCII, and a letter behind them may be there by half.
+        self.file = open(path, encoding="latin-1")
         self.live = {}
         self.rest = ""
 

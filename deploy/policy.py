@@ -16,6 +16,8 @@ from html.parser import HTMLParser
 class Texts(HTMLParser):
     """The texts of the scripts and of the styles of a page."""
 
+    CDATA_CONTENT_ELEMENTS = ("script", "style", "title", "textarea")
+
     def __init__(self):
         super().__init__()
         self.open = None
