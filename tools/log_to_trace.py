@@ -14,6 +14,9 @@ import json
 import sys
 import uuid
 
+# The longest piece that comes in one turn.
+LONGEST_PIECE = 4096
+
 
 def read(path):
     """The requests by turn, the moments by turn, the words, and the last turn of an entry."""
@@ -47,6 +50,14 @@ def read(path):
     return asked, moments, words, done, last
 
 
+def request_bytes(say):
+    """How many bytes the request of a line has: a batch's head has 84 and the digits of its length."""
+    if not say.startswith("e "):
+        return 0
+    size = len(say.split(" ", 2)[2].encode())
+    return 84 + len(str(size)) + size
+
+
 def trace(asked, moments, words, done, last):
     lines = [f"word {word:016x}" for word in words]
     knocks, opens, free_at, free = {}, 0, {}, []
@@ -58,6 +69,8 @@ def trace(asked, moments, words, done, last):
             free.append(turn)
             continue
         session, number, say = here[0]
+        if request_bytes(say) > LONGEST_PIECE:
+            sys.exit(f"turn {turn}: a request of more than {LONGEST_PIECE} bytes takes several turns of a trace")
         ready = [c for c in range(opens) if free_at[c] < turn]
         if ready:
             c = ready[0]

@@ -177,6 +177,8 @@ def tried(program, made, trace, kind, most, step, seconds):
     if whole.status != 0 or whole.log != (EXAMPLES / f"{trace}.log").read_bytes():
         sys.exit(f"{trace}: its log is not put where nothing is refused (status {whole.status})")
     came, wrong, n = collections.Counter(), 0, 1
+    if whole.calls == 0:
+        sys.exit(f"{trace}: no call for memory came by the library: is the program linked with the C library at its start?")
     while n <= most:
         run = replayed(program, made, trace, kind, n, seconds)
         what, holds = judged(run, whole.log)
