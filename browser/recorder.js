@@ -286,11 +286,22 @@ function heard(event) {
   if (dispatch(type, target)) { event.preventDefault(); }
 }
 
-// Whether what a click does is to follow a link.
+// Whether what a click does is to follow a link, as it does too from what does nothing of its own within one.
 function isLink({ type, target }) {
   if (type !== "click" || !(target instanceof Element)) { return false; }
   const acting = target.closest("a, area, button, input, label, summary");
-  return acting !== null && ["a", "area"].includes(acting.localName);
+  if (acting === null) { return false; }
+  return ["a", "area"].includes(acting.localName) || (!doesOther(acting) && acting.closest("a") !== null);
+}
+
+// Whether a click at this element, which may stand in a link, does something of its own.
+function doesOther(element) {
+  switch (element.localName) {
+    case "label": return element.control !== null;
+    case "button": return element.form !== null && element.type !== "button";
+    case "input": return !isTextControl(element) && typeOf(element) !== "button";
+    default: return true;
+  }
 }
 
 // Whether the server can be told of an event of this type at this element.

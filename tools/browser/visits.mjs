@@ -261,7 +261,7 @@ export const game = {
 export const examples = [shop, booking, game];
 
 const PLACES = [
-  "text", "long", "number", "check", "kept", "label", "select", "area", "send", "other", "reset", "link", "span", "off",
+  "text", "long", "number", "check", "kept", "label", "select", "area", "send", "other", "reset", "link", "inlink", "labelled", "span", "off",
   "outer", "inner", "target", "make", "same", "drop", "many", "codes", "body", "throws", "draws", "shape", "made",
   "made1", "in1",
 ];
