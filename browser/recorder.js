@@ -14,7 +14,7 @@ const TEXT_TYPES = ["text", "password", "search", "tel", "url", "email", "number
 const LONGEST_REPORT = 8192;
 
 // The end of the body, behind which there is only space, comments, and the end of the page.
-const BODY_END = /<\/body[\t\n\f\r ]*>(?:[\t\n\f\r ]|<!--[^]*?-->)*<\/html[\t\n\f\r ]*>(?:[\t\n\f\r ]|<!--[^]*?-->)*$/i;
+const BODY_END = /<\/body[\t\n\f\r ]*>(?:[\t\n\f\r ]|<!--(?:(?!-->)[^])*-->)*<\/html[\t\n\f\r ]*>(?:[\t\n\f\r ]|<!--(?:(?!-->)[^])*-->)*$/i;
 
 // Whether an event bubbles, and whether it can be cancelled.
 const EVENTS = {
