@@ -35,13 +35,6 @@ pub fn ask_hosted(part: Inner, wait: HostedWait) -> Next
     Next::Ask(part, Wait::Hosted(wait))
 }
 
-/// The row waits for this part of a turn of a loop.
-pub fn turn(part: Inner, wait: OwnWait) -> Next
-    ensures { result ≡ Next.Turn part (Wait.Own wait) }
-{
-    Next::Turn(part, Wait::Own(wait))
-}
-
 /// The run stops.
 pub fn halt(stop: Stop) -> Next
     ensures { result ≡ Next.Halt stop }

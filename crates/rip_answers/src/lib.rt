@@ -2,7 +2,7 @@
 //! to.
 //!
 //! A row function does what its part does up to the next part that it waits for, and answers with what the part does next
-//! ([`give`], [`end`], [`ask`], [`ask_hosted`], [`turn`], [`halt`]). The contract of each says by one word
+//! ([`give`], [`end`], [`ask`], [`ask_hosted`], [`halt`]). The contract of each says by one word
 //! (`specs/Does.antt`) that what is answered is the row of the meaning. What a row asks of the host ([`ask_read`],
 //! [`ask_write`], [`ask_call`]) is made at once, and counts no unit.
 //!
@@ -21,6 +21,6 @@ mod answers;
 mod host;
 mod names;
 
-pub use answers::{Answer, ask, ask_hosted, end, give, halt, turn};
+pub use answers::{Answer, ask, ask_hosted, end, give, halt};
 pub use host::{ask_call, ask_read, ask_write};
 pub use names::{abrupt, begin_name, throw};

@@ -13,8 +13,8 @@ use rip_runs::{Completed, Completion, Part, Role};
 use rip_tree::Form;
 use rip_values::Value;
 
-/// What a part comes to for which some depth is left, where it changes nothing but adds texts, and can be had in place: what it means as a
-/// target, its value and the base for a call, or else its value. Of any part it may be none.
+/// What a part comes to for which some depth is left, where it changes nothing but adds texts, and can be had in place:
+/// what it means as a target, its value and the base for a call, or else its value. Of any part it may be none.
 pub(crate) fn done_reference(
     p: &Source,
     heap: &mut Heap,

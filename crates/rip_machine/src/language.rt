@@ -4,7 +4,8 @@ use crate::rows::{begin, finish_hosted, finish_own};
 use rip_heap::{Heap, Host};
 use rip_in_place::done;
 use rip_language::{HEIGHT, Source};
-use rip_runs::{Completed, Completion, Next, Part, Rows, Wait};
+use rip_runs::{Completed, Completion, Next, Part, Round, RoundWait, Rows, Wait};
+use rip_statements::round;
 use rip_values::{NoMemory, Value};
 use std::marker::Model;
 
@@ -36,6 +37,10 @@ impl Rows for Language<'_> {
             return None;
         }
         done(&self.source, heap, at, u32::from(HEIGHT), most)
+    }
+
+    fn round(&self, heap: &Heap, at: &Part, wait: &RoundWait, c: &Completion) -> Round {
+        round(&self.source, heap, at, wait, c)
     }
 
     fn finish<H: Host>(

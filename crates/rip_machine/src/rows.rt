@@ -88,18 +88,18 @@ pub(crate) fn finish_own(
     ensures grows { Grows heap.old heap.new }
 {
     match wait {
-        OwnWait::Statement { place, ending } => after_statement(p, at, *place, *ending, c),
+        OwnWait::Statement { place, ending } => after_statement(p, at, *place, *ending, c).next(at),
         OwnWait::Initialiser { place } => after_initialiser(p, heap, at, *place, c),
         OwnWait::Expression => after_expression(c),
         OwnWait::IfTest => after_if_test(p, heap, at, c),
-        OwnWait::DoBody => after_do_body(p, at, c),
-        OwnWait::DoTest => after_do_test(p, heap, at, c),
-        OwnWait::WhileTest => after_while_test(p, heap, at, c),
-        OwnWait::WhileBody => after_while_body(p, at, c),
+        OwnWait::DoBody => after_do_body(p, at, c).next(at),
+        OwnWait::DoTest => after_do_test(p, heap, at, c).next(at),
+        OwnWait::WhileTest => after_while_test(p, heap, at, c).next(at),
+        OwnWait::WhileBody => after_while_body(p, at, c).next(at),
         OwnWait::ForStart => after_for_start(p, at, c),
-        OwnWait::ForTest => after_for_test(p, heap, at, c),
-        OwnWait::ForUpdate => after_for_update(p, at, c),
-        OwnWait::ForBody => after_for_body(p, at, c),
+        OwnWait::ForTest => after_for_test(p, heap, at, c).next(at),
+        OwnWait::ForUpdate => after_for_update(p, at, c).next(at),
+        OwnWait::ForBody => after_for_body(p, at, c).next(at),
         OwnWait::ReturnValue => after_return_value(c),
         OwnWait::Constructor => after_constructor(p, heap, at, c),
         OwnWait::NewArgument { place, constructor } => {

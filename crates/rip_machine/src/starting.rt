@@ -71,7 +71,7 @@ fn start_script(
 {
     let depth = run.greatest_depth();
     let at = script_part(p.root(script), depth);
-    let first = statements(p, &at, Ending::Script, 0);
+    let first = statements(p, &at, Ending::Script, 0).next(&at);
     if !enter_script(p, heap, script) {
         return Err(Refused::Limit(Limit::Cells));
     }

@@ -1,5 +1,5 @@
 -- Parts that are done at once: their runs, whatever the host and whatever is left.
-use Rattle.std.proofs.Common.{◌≡◌, ℕ, suc, ◌+◌, ◌-◌, ◌<◌, if◌then◌else◌, List, [], ap, sym, subst, ◌∙◌, arith}
+use Rattle.std.proofs.Common.{◌≡◌, ℕ, suc, ◌+◌, ◌-◌, ◌<◌, if◌then◌else◌, List, [], ap, sym, subst, ◌∙◌, arith, refl}
 use Rattle.std.proofs.lemmas.Bool.{ne_eqb}
 use Rattle.rip_heap.specs.World.{World}
 use Rattle.rip_values.specs.declared.value.Limit.TheVariants.{Depth}
@@ -11,9 +11,13 @@ use Rattle.rip_runs.specs.declared.next.Next.{Next}
 use Rattle.rip_runs.specs.declared.next.Next.TheVariants.{Ask, Turn}
 use Rattle.rip_runs.specs.declared.part.Inner.{Inner}
 use Rattle.rip_runs.specs.declared.part.Part.{Part}
+use Rattle.rip_runs.specs.declared.frame.Wait.TheVariants.{Own}
+use Rattle.rip_runs.specs.declared.round.RoundWait.{RoundWait}
+use Rattle.rip_runs.specs.declared.round.RoundWait.TheVariants.{Statement, DoBody, DoTest, WhileTest, WhileBody, ForTest, ForUpdate, ForBody}
 use Rattle.rip_runs.specs.Frame.{inside, waiting}
 use Rattle.rip_runs.specs.Done.{Comes, Ended, Went, Turned, Done}
 use Rattle.rip_runs.specs.Rest.{as_row, next_run, rest, unwind}
+use Rattle.rip_runs.specs.Round.{asked_at, own_wait, rest_at}
 use Rattle.rip_runs.specs.Row.{Row, Ends, Halts, Asks, Again, Table}
 use Rattle.rip_runs.specs.Run.{Completes, Calling, follow, run_to, run, ev}
 use Rattle.rip_runs.specs.Settle.{settle}
@@ -64,19 +68,27 @@ rest-done h t part os n l m k c w x s done units =
     let sum : l + k ≡ n + (m + k) = omega (arith, units) in
     sym (ap (λ v. unwind h t os (ev h t part v w s)) sum ∙ ap (unwind h t os) (ev-done h t part n (m + k) c w x s done))
 
+-- what is left of a row behind a part that is done at once runs on as the row did that asks for the part
+past-asked : {S : Type 0} (h : Calling S) (t : Table) (at : Part) (inner : Inner) (wait : Wait) (n l m k : ℕ) (d : Completion) (w y : World) (s : S)
+    → Done t (inside at inner) n w d y → l ≡ n + m
+    → run h t (at.room - 1) (t.rest (framed (waiting at wait) []) d y) (m + k) s
+    ≡ follow (ev h t (inside at inner) (l + k) w s) (λ e v x q. run h t (at.room - 1) (t.rest (framed (waiting at wait) []) e x) v q)
+past-asked h t at inner wait n l m k d w y s done units =
+    let o : Open = framed (waiting at wait) [] in
+    let sum : l + k ≡ n + (m + k) = omega (arith, units) in
+    sym (ap (λ v. follow (ev h t (inside at inner) v w s) (λ e v x q. run h t (at.room - 1) (t.rest o e x) v q)) sum
+    ∙ ap (λ a. follow a (λ e v x q. run h t (at.room - 1) (t.rest o e x) v q)) (ev-done h t (inside at inner) n (m + k) d w y s done))
+
 -- a part that an open one waits for, with no values beside its frame, is done at once, and what the open one does then is next
 goes-on : {S : Type 0} (h : Calling S) (t : Table) (at : Part) (inner : Inner) (wait : Wait) (next : Next) (n l m k : ℕ) (c : Completion) (w y z : World) (s r : S)
     → Done t (inside at inner) n w c y → l ≡ n + m → (as_row t at next [] z, r) ≡ settle h (t.rest (framed (waiting at wait) []) c y) s
     → next_run h t at next (m + k) z r
     ≡ follow (ev h t (inside at inner) (l + k) w s) (λ e v x q. run h t (at.room - 1) (t.rest (framed (waiting at wait) []) e x) v q)
 goes-on {S = S} h t at inner wait next n l m k c w y z s r done units row =
-    let part : Part = inside at inner in
     let o : Open = framed (waiting at wait) [] in
-    let sum : l + k ≡ n + (m + k) = omega (arith, units) in
     ap (λ (after : Row × S). run h t (at.room - 1) after.0 (m + k) after.1) row
     ∙ run-settles h t (at.room - 1) (t.rest o c y) (m + k) s
-    ∙ sym (ap (λ v. follow (ev h t part v w s) (λ e v x q. run h t (at.room - 1) (t.rest o e x) v q)) sum
-    ∙ ap (λ a. follow a (λ e v x q. run h t (at.room - 1) (t.rest o e x) v q)) (ev-done h t part n (m + k) c w y s done))
+    ∙ past-asked h t at inner wait n l m k c w y s done units
 
 pub part-asked : {S : Type 0} (h : Calling S) (t : Table) (at : Part) (inner : Inner) (wait : Wait) (next : Next) (n l m k : ℕ) (c : Completion) (w y z : World) (s r : S)
     → Done t (inside at inner) n w c y → l ≡ n + m → (as_row t at next [] z, r) ≡ settle h (t.rest (framed (waiting at wait) []) c y) s
@@ -91,6 +103,39 @@ pub part-turned : {S : Type 0} (h : Calling S) (t : Table) (at : Part) (inner : 
 part-turned h t at inner wait next n l m k c w y z s r done units row =
     goes-on h t at inner wait next n l m k c w y z s r done units row
     ∙ sym (run-again h t (at.room - 1) (inside at inner) w (framed (waiting at wait) []) (l + k) s)
+
+pub rest-asked : {S : Type 0} (h : Calling S) (t : Table) (at : Part) (inner : Inner) (wait : Wait) (n l m k : ℕ) (d : Completion) (w y : World) (s : S)
+    → Done t (inside at inner) n w d y → l ≡ n + m
+    → run h t (at.room - 1) (t.rest (framed (waiting at wait) []) d y) (m + k) s ≡ next_run h t at (Ask inner wait) (l + k) w s
+rest-asked h t at inner wait n l m k d w y s done units =
+    past-asked h t at inner wait n l m k d w y s done units
+    ∙ sym (run-asks h t (at.room - 1) (inside at inner) w (t.rest (framed (waiting at wait) [])) (l + k) s)
+
+pub rest-turned : {S : Type 0} (h : Calling S) (t : Table) (at : Part) (inner : Inner) (wait : Wait) (n l m k : ℕ) (d : Completion) (w y : World) (s : S)
+    → Done t (inside at inner) n w d y → l ≡ n + m
+    → run h t (at.room - 1) (t.rest (framed (waiting at wait) []) d y) (m + k) s ≡ next_run h t at (Turn inner wait) (l + k) w s
+rest-turned h t at inner wait n l m k d w y s done units =
+    past-asked h t at inner wait n l m k d w y s done units
+    ∙ sym (run-again h t (at.room - 1) (inside at inner) w (framed (waiting at wait) []) (l + k) s)
+
+round-of : {S : Type 0} (h : Calling S) (t : Table) (at : Part) (inner : Inner) (wait : RoundWait) (n l m k : ℕ) (d : Completion) (w y : World) (s : S)
+    → Done t (inside at inner) n w d y → l ≡ n + m
+    → run h t (at.room - 1) (rest_at t at wait d y) (m + k) s ≡ next_run h t at (asked_at wait inner) (l + k) w s
+round-of h t at inner (Statement place ending) n l m k d w y s done units = rest-asked h t at inner (Own (own_wait (Statement place ending))) n l m k d w y s done units
+round-of h t at inner DoBody n l m k d w y s done units = rest-turned h t at inner (Own (own_wait DoBody)) n l m k d w y s done units
+round-of h t at inner DoTest n l m k d w y s done units = rest-turned h t at inner (Own (own_wait DoTest)) n l m k d w y s done units
+round-of h t at inner WhileTest n l m k d w y s done units = rest-turned h t at inner (Own (own_wait WhileTest)) n l m k d w y s done units
+round-of h t at inner WhileBody n l m k d w y s done units = rest-turned h t at inner (Own (own_wait WhileBody)) n l m k d w y s done units
+round-of h t at inner ForTest n l m k d w y s done units = rest-turned h t at inner (Own (own_wait ForTest)) n l m k d w y s done units
+round-of h t at inner ForUpdate n l m k d w y s done units = rest-turned h t at inner (Own (own_wait ForUpdate)) n l m k d w y s done units
+round-of h t at inner ForBody n l m k d w y s done units = rest-turned h t at inner (Own (own_wait ForBody)) n l m k d w y s done units
+
+-- where a list or a loop waits for a part that is done at once, what is left of it runs on as it did
+pub round-done : {S : Type 0} (h : Calling S) (t : Table) (at : Part) (inner : Inner) (wait : RoundWait) (row : Row) (n l m k : ℕ) (d : Completion) (w y : World) (s : S)
+    → Done t (inside at inner) n w d y → l ≡ n + m → as_row t at (asked_at wait inner) [] w ≡ row
+    → run h t (at.room - 1) (rest_at t at wait d y) (m + k) s ≡ run h t (at.room - 1) row (l + k) s
+round-done h t at inner wait row n l m k d w y s done units is =
+    round-of h t at inner wait n l m k d w y s done units ∙ ap (λ r. run h t (at.room - 1) r (l + k) s) is
 
 -- a row that asks for a part which is done at once
 pub asked : (t : Table) (part : Part) (w : World) (go : Completion → World → Row) (n m units : ℕ) (d c : Completion) (y x : World)

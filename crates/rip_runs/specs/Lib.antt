@@ -9,6 +9,7 @@ pub mod Nesting
 pub mod Plan
 pub mod Rest
 pub mod Room
+pub mod Round
 pub mod Row
 pub mod Run
 pub mod Settle

@@ -16,6 +16,7 @@
 //! | the run of a row with so much depth and so many units | `Run.run`, by `Run.run_by`; of a part `Run.ev` |
 //! | a part inside an open one, and the depth left inside it | `Frame.inside`, `Rest.room_in` |
 //! | what an open part does next ([`Next`]) as a row | `Rest.as_row`; the run of that `Rest.next_run` |
+//! | what a list of statements or a loop does behind one of its parts ([`Round`]) | `Round.round_next`, `Round.rest_at` |
 //! | a row once the host has answered all that it asks before any part | `Settle.settle` |
 //! | a part that is done at once, without a cut and without the host | `Done.Done`, by `Done.Comes` of its row |
 //! | what is left of a run that stands | `Rest.rest`, by `Rest.finish` and `Rest.unwind` |
@@ -56,6 +57,7 @@ mod next;
 mod outcome;
 mod part;
 mod planner;
+mod round;
 mod rows;
 mod run;
 mod stack;
@@ -70,6 +72,7 @@ pub use next::{Control, Next};
 pub use outcome::{Outcome, Turned};
 pub use part::{Inner, Part, Role};
 pub use planner::Planner;
+pub use round::{Round, RoundWait};
 pub use rows::Rows;
 pub use run::Run;
 pub use stack::Stack;

@@ -2,19 +2,21 @@ use crate::completion::{Completed, Completion};
 use crate::frame::Wait;
 use crate::next::Next;
 use crate::part::Part;
+use crate::round::{Round, RoundWait};
 use rip_heap::{Heap, Host};
 use rip_values::{NoMemory, Value};
 
 /// The rows of a program, as code. What the table of its meaning says, these do, each time up to the next part. A fault and a
 /// limit are a `Next`; memory is wanting only where the host may want it.
 pub trait Rows {
-    ghost use Rattle.std.specs.Prelude.{◌≡◌, ◌<◌, ◌≤◌, List, length, IfOk, IsTrue, MatchOption, OnErr};
+    ghost use Rattle.std.specs.Prelude.{◌≡◌, ◌<◌, ◌≤◌, List, [], length, IfOk, IsTrue, MatchOption, OnErr};
     ghost use Rattle.rip_values.specs.declared.value.Value.{Value as ScriptValue};
     ghost use Rattle.rip_heap.specs.Growth.{Grows};
     ghost use Rattle.rip_runs.specs.Done.{Done};
     ghost use Rattle.rip_runs.specs.Frame.{waiting};
     ghost use Rattle.rip_runs.specs.Rest.{as_row};
     ghost use Rattle.rip_runs.specs.Room.{AreTogether};
+    ghost use Rattle.rip_runs.specs.Round.{rest_at, round_next};
     ghost use Rattle.rip_runs.specs.Row.{Table};
     ghost use Rattle.rip_runs.specs.Settle.{settle};
     ghost use Rattle.rip_runs.specs.Stack.{framed};
@@ -36,6 +38,11 @@ pub trait Rows {
             Done (table self.now) at.now done.units heap.old done.completion heap.new
             × (done.units ≤ most)) }
         ensures grows { Grows heap.old heap.new };
+
+    /// What a list of statements or a loop does behind one of its parts, where no values are beside its frame.
+    fn round(&self, heap: &Heap, at: &Part, wait: &RoundWait, c: &Completion) -> Round
+        ensures row { as_row (table self.now) at.now (round_next at.now result) [] heap.now
+            ≡ rest_at (table self.now) at.now wait.now c.now heap.now };
 
     /// What an open part does with the completion of the part that it waits for so, where these values are beside its frame.
     /// The calls of the host with which its row goes on are made. Where there are such values, and the completion has one too,

@@ -6,6 +6,7 @@ ghost use Rattle.rip_runs.specs.Law.{SameRest, Stands, weight};
 ghost use Rattle.rip_runs.specs.Nesting.{IsInside};
 ghost use Rattle.rip_runs.specs.Rest.{as_row, called_control, called_frame, control_of, frame_of, next_run};
 ghost use Rattle.rip_runs.specs.Room.{WantsMemory, most_values};
+ghost use Rattle.rip_runs.specs.Round.{rest_at};
 ghost use Rattle.rip_runs.specs.Run.{run};
 ghost use Rattle.rip_runs.specs.Settle.{settle};
 ghost use Rattle.rip_runs.specs.Stack.{count_of_values, framed, last_values, without_last};
@@ -14,6 +15,7 @@ use crate::completion::{Completion, Stop};
 use crate::frame::{Frame, Wait};
 use crate::next::{Control, Next};
 use crate::part::Part;
+use crate::round::{Round, RoundWait};
 use crate::rows::Rows;
 use crate::stack::Stack;
 use rip_heap::{Heap, Host};
@@ -189,8 +191,43 @@ pub(crate) fn keep_values(stack: &mut Stack, frame: &Frame, values: &[Value])
     }
 }
 
+/// What a list of statements or a loop does behind one of its parts, with no values beside its frame: its parts are done as
+/// long as they can be done at once. Nobody has to try again what it waits for then.
+fn go_round<R: Rows, H: Host>(
+    rows: &R,
+    heap: &mut Heap,
+    at: &Part,
+    wait: &RoundWait,
+    c: &Completion,
+    left: &mut u64,
+) -> Next
+    ensures run { (k : ℕ) (host : H) → next_run H.answers (R.table rows.now) at.now result
+        (left.new + k) heap.new host ≡ run H.answers (R.table rows.now) (at.now.room - 1)
+        (rest_at (R.table rows.now) at.now wait.now c.now heap.old) (left.old + k) host }
+    ensures within { left.new ≤ left.old }
+    ensures grows { Grows heap.old heap.new }
+{
+    let mut place = *wait;
+    let mut completion = *c;
+    loop {
+        match rows.round(heap, at, &place, &completion) {
+            Round::End(last) => return Next::End(last),
+            Round::Part { node, wait } => {
+                match rows.at_once(heap, &at.inside(&at.inner(node)), *left) {
+                    Some(done) => {
+                        *left -= done.units;
+                        place = wait;
+                        completion = done.completion;
+                    },
+                    None => return wait.asked(at.inner(node)),
+                }
+            },
+        }
+    }
+}
+
 /// The part that an open part waits for, with no values beside its frame, is done at once, and next is what the open part does
-/// with its completion; and whether there was such a part.
+/// with its completion; and whether what it waits for then may be tried.
 fn take_part<R: Rows, H: Host>(
     rows: &R,
     heap: &mut Heap,
@@ -214,12 +251,27 @@ fn take_part<R: Rows, H: Host>(
             match rows.at_once(heap, &at.inside(inner), *left) {
                 Some(done) => {
                     *left -= done.units;
-                    match rows.finish(heap, host, at, wait, &[], &[], &done.completion) {
-                        Ok(then) => {
-                            *next = then;
-                            Ok(true)
+                    match RoundWait::of(wait) {
+                        Some(place) => {
+                            *next = go_round::<R, H>(
+                                rows,
+                                heap,
+                                at,
+                                &place,
+                                &done.completion,
+                                left,
+                            );
+                            Ok(false)
                         },
-                        Err(NoMemory) => Err(NoMemory),
+                        None => {
+                            match rows.finish(heap, host, at, wait, &[], &[], &done.completion) {
+                                Ok(then) => {
+                                    *next = then;
+                                    Ok(true)
+                                },
+                                Err(NoMemory) => Err(NoMemory),
+                            }
+                        },
                     }
                 },
                 None => Ok(false),
@@ -475,6 +527,10 @@ fn finish_alone<R: Rows, H: Host>(
     ensures fits { H.fits host.new heap.new }
     ensures grows { Grows heap.old heap.new }
 {
+    if let Some(place) = RoundWait::of(wait) {
+        ahead.next = go_round::<R, H>(rows, heap, at, &place, c, &mut ahead.left);
+        return Ok(());
+    }
     match rows.finish(heap, host, at, wait, &[], &[], c) {
         Ok(then) => ahead.next = then,
         Err(NoMemory) => return Err(NoMemory),

@@ -39,6 +39,6 @@ pub use statement::{
     after_do_body, after_do_test, after_expression, after_for_body, after_for_start,
     after_for_test, after_for_update, after_if_test, after_initialiser, after_return_value,
     after_statement, after_while_body, after_while_test, begin_block, begin_do, begin_expression,
-    begin_for, begin_if, begin_return, begin_var, begin_while, statements,
+    begin_for, begin_if, begin_return, begin_var, begin_while, round, statements,
 };
 pub use switch::{after_case_test, after_clause_statement, after_discriminant, begin_switch};

@@ -3,15 +3,16 @@ ghost use Rattle.rip_heap.specs.World.{World};
 ghost use Rattle.rip_heap.specs.Growth.{Grows};
 ghost use Rattle.rip_runs.specs.Row.{Ends, Row, with_value};
 ghost use Rattle.rip_answers.specs.Does.{Does, DoesPurely, DoesAlways};
-ghost use Rattle.rip_language.specs.Reading.{child_at, children_from};
+ghost use Rattle.rip_language.specs.Reading.{child, child_at, children_from};
 ghost use Rattle.rip_language.specs.Rows.Statements.{block_row, constructed, declarations, declarators_in, declared, do_row, ended, expression_row, for_row, for_statement, for_turn, for_update_by, goes_on, if_row, is_bindings, is_declaration, is_for, return_row, returned, script_ended, statements, switched, tested, var_row, while_row, IsFirst, done, return_end};
 ghost use Rattle.rip_language.specs.Table.{own_rest};
+ghost use Rattle.rip_runs.specs.Round.{own_wait, round_next};
 ghost use Rattle.rip_runs.specs.declared.frame.Ending.{Ending};
 
-use rip_answers::{ask, end, give, throw, turn};
+use rip_answers::{ask, end, give, throw};
 use rip_heap::Heap;
 use rip_language::{Listed, Source, is_declaration, is_for, truth_of, value_of, write};
-use rip_runs::{Completion, Ending, Next, OwnWait, Part};
+use rip_runs::{Completion, Ending, Next, OwnWait, Part, Round, RoundWait};
 use rip_tree::Form;
 use rip_values::Value;
 
@@ -89,30 +90,30 @@ pub(crate) fn first_statement(p: &Source, at: &Part, from: u32) -> Option<Listed
 }
 
 /// The statements of a list from this place on.
-pub fn statements(p: &Source, at: &Part, ending: Ending, from: u32) -> Next
-    ensures row { DoesPurely p.now at.now result
+pub fn statements(p: &Source, at: &Part, ending: Ending, from: u32) -> Round
+    ensures row { DoesPurely p.now at.now (round_next at.now result)
         (statements p.now at.now ending (children_from p.now at.now.node from)) }
 {
     match first_statement(p, at, from) {
-        Some(s) => ask(
-            at.inner(s.node),
-            OwnWait::Statement {
+        Some(s) => Round::Part {
+            node: s.node,
+            wait: RoundWait::Statement {
                 place: s.place,
                 ending,
             },
-        ),
-        None => end(&ended(ending, Completion::Normal(Value::Undefined))),
+        },
+        None => Round::End(ended(ending, Completion::Normal(Value::Undefined))),
     }
 }
 
 /// Behind a statement of a list comes the next one, or the list ends.
-pub fn after_statement(p: &Source, at: &Part, place: u32, ending: Ending, c: &Completion) -> Next
-    ensures row { DoesPurely p.now at.now result
+pub fn after_statement(p: &Source, at: &Part, place: u32, ending: Ending, c: &Completion) -> Round
+    ensures row { DoesPurely p.now at.now (round_next at.now result)
         (own_rest p.now at.now (OwnWait.Statement place ending) [] c.now) }
 {
     match c {
         Completion::Normal(_) => statements(p, at, ending, p.behind(place, 1)),
-        _ => end(&ended(ending, *c)),
+        _ => Round::End(ended(ending, *c)),
     }
 }
 
@@ -120,7 +121,7 @@ pub fn after_statement(p: &Source, at: &Part, place: u32, ending: Ending, c: &Co
 pub fn begin_block(p: &Source, at: &Part) -> Next
     ensures row { DoesPurely p.now at.now result (block_row p.now at.now) }
 {
-    statements(p, at, Ending::Block, 0)
+    statements(p, at, Ending::Block, 0).next(at)
 }
 
 // SIMPLE STATEMENTS
@@ -219,120 +220,169 @@ fn tested(heap: &Heap, c: &Completion) -> Result<(), Completion>
     }
 }
 
+/// A part of a turn of a loop.
+fn turned(p: &Source, at: &Part, place: u32, wait: RoundWait) -> Round
+    ensures { result ≡ Round.Part (child p.now at.now.node place) wait }
+{
+    Round::Part {
+        node: p.child(at.node, place),
+        wait,
+    }
+}
+
+/// A turn of `do`: its body.
+fn do_turn(p: &Source, at: &Part) -> Round
+    ensures row { DoesPurely p.now at.now (round_next at.now result) (do_row p.now at.now) }
+{
+    turned(p, at, 0, RoundWait::DoBody)
+}
+
 /// `do` begins with its body (12.6.1).
 pub fn begin_do(p: &Source, at: &Part) -> Next
     ensures row { DoesPurely p.now at.now result (do_row p.now at.now) }
 {
-    turn(p.part_at(at, 0), OwnWait::DoBody)
+    do_turn(p, at).next(at)
 }
 
 /// Behind the body of `do` comes its test, unless the loop ends.
-pub fn after_do_body(p: &Source, at: &Part, c: &Completion) -> Next
-    ensures row { DoesPurely p.now at.now result (own_rest p.now at.now OwnWait.DoBody [] c.now) }
+pub fn after_do_body(p: &Source, at: &Part, c: &Completion) -> Round
+    ensures row { DoesPurely p.now at.now (round_next at.now result)
+        (own_rest p.now at.now OwnWait.DoBody [] c.now) }
 {
     match goes_on(c) {
-        Ok(()) => turn(p.part_at(at, 1), OwnWait::DoTest),
-        Err(other) => end(&other),
+        Ok(()) => turned(p, at, 1, RoundWait::DoTest),
+        Err(other) => Round::End(other),
     }
 }
 
 /// Behind the test of `do` comes the body again, or the loop ends.
-pub fn after_do_test(p: &Source, heap: &Heap, at: &Part, c: &Completion) -> Next
-    ensures row { Does p.now at.now result heap.now
+pub fn after_do_test(p: &Source, heap: &Heap, at: &Part, c: &Completion) -> Round
+    ensures row { Does p.now at.now (round_next at.now result) heap.now
         (own_rest p.now at.now OwnWait.DoTest [] c.now heap.now) }
 {
     match tested(heap, c) {
-        Ok(()) => begin_do(p, at),
-        Err(other) => end(&other),
+        Ok(()) => do_turn(p, at),
+        Err(other) => Round::End(other),
     }
+}
+
+/// A turn of `while`: its test.
+fn while_turn(p: &Source, at: &Part) -> Round
+    ensures row { DoesPurely p.now at.now (round_next at.now result) (while_row p.now at.now) }
+{
+    turned(p, at, 0, RoundWait::WhileTest)
 }
 
 /// `while` begins with its test (12.6.2).
 pub fn begin_while(p: &Source, at: &Part) -> Next
     ensures row { DoesPurely p.now at.now result (while_row p.now at.now) }
 {
-    turn(p.part_at(at, 0), OwnWait::WhileTest)
+    while_turn(p, at).next(at)
 }
 
 /// Behind the test of `while` comes its body, or the loop ends.
-pub fn after_while_test(p: &Source, heap: &Heap, at: &Part, c: &Completion) -> Next
-    ensures row { Does p.now at.now result heap.now
+pub fn after_while_test(p: &Source, heap: &Heap, at: &Part, c: &Completion) -> Round
+    ensures row { Does p.now at.now (round_next at.now result) heap.now
         (own_rest p.now at.now OwnWait.WhileTest [] c.now heap.now) }
 {
     match tested(heap, c) {
-        Ok(()) => turn(p.part_at(at, 1), OwnWait::WhileBody),
-        Err(other) => end(&other),
+        Ok(()) => turned(p, at, 1, RoundWait::WhileBody),
+        Err(other) => Round::End(other),
     }
 }
 
 /// Behind the body of `while` comes its test, unless the loop ends.
-pub fn after_while_body(p: &Source, at: &Part, c: &Completion) -> Next
-    ensures row { DoesPurely p.now at.now result
+pub fn after_while_body(p: &Source, at: &Part, c: &Completion) -> Round
+    ensures row { DoesPurely p.now at.now (round_next at.now result)
         (own_rest p.now at.now OwnWait.WhileBody [] c.now) }
 {
     match goes_on(c) {
-        Ok(()) => begin_while(p, at),
-        Err(other) => end(&other),
+        Ok(()) => while_turn(p, at),
+        Err(other) => Round::End(other),
     }
 }
 
 /// The statement of a `for`.
-fn for_statement(p: &Source, at: &Part) -> Next
-    ensures row { DoesPurely p.now at.now result (for_statement p.now at.now) }
+fn for_statement(p: &Source, at: &Part) -> Round
+    ensures row { DoesPurely p.now at.now (round_next at.now result) (for_statement p.now at.now) }
 {
-    turn(p.part_at(at, 3), OwnWait::ForBody)
+    turned(p, at, 3, RoundWait::ForBody)
 }
 
 /// A turn of a `for`: its test, or its statement where it has none.
-fn for_turn(p: &Source, at: &Part) -> Next
-    ensures row { DoesPurely p.now at.now result (for_turn p.now at.now) }
+fn for_turn(p: &Source, at: &Part) -> Round
+    ensures row { DoesPurely p.now at.now (round_next at.now result) (for_turn p.now at.now) }
 {
     match p.child_at(at.node, 1) {
-        Some(test) => turn(at.inner(test), OwnWait::ForTest),
+        Some(test) => Round::Part {
+            node: test,
+            wait: RoundWait::ForTest,
+        },
         None => for_statement(p, at),
     }
 }
 
 /// Behind the test of `for` comes its body, or the loop ends (12.6.3).
-pub fn after_for_test(p: &Source, heap: &Heap, at: &Part, c: &Completion) -> Next
-    ensures row { Does p.now at.now result heap.now
+pub fn after_for_test(p: &Source, heap: &Heap, at: &Part, c: &Completion) -> Round
+    ensures row { Does p.now at.now (round_next at.now result) heap.now
         (own_rest p.now at.now OwnWait.ForTest [] c.now heap.now) }
 {
     match tested(heap, c) {
         Ok(()) => for_statement(p, at),
-        Err(other) => end(&other),
+        Err(other) => Round::End(other),
     }
 }
 
 /// Behind the body of `for` comes its update, unless the loop ends.
-pub fn after_for_body(p: &Source, at: &Part, c: &Completion) -> Next
-    ensures row { DoesPurely p.now at.now result (own_rest p.now at.now OwnWait.ForBody [] c.now) }
+pub fn after_for_body(p: &Source, at: &Part, c: &Completion) -> Round
+    ensures row { DoesPurely p.now at.now (round_next at.now result)
+        (own_rest p.now at.now OwnWait.ForBody [] c.now) }
 {
     match goes_on(c) {
         Ok(()) => for_update(p, at),
-        Err(other) => end(&other),
+        Err(other) => Round::End(other),
     }
 }
 
 /// The update of a `for`, or its next turn where it has none.
-fn for_update(p: &Source, at: &Part) -> Next
-    ensures row { DoesPurely p.now at.now result
+fn for_update(p: &Source, at: &Part) -> Round
+    ensures row { DoesPurely p.now at.now (round_next at.now result)
         (for_update_by p.now at.now (child_at p.now at.now.node 2)) }
 {
     match p.child_at(at.node, 2) {
-        Some(update) => turn(at.inner(update), OwnWait::ForUpdate),
+        Some(update) => Round::Part {
+            node: update,
+            wait: RoundWait::ForUpdate,
+        },
         None => for_turn(p, at),
     }
 }
 
 /// Behind the update of `for` comes its test.
-pub fn after_for_update(p: &Source, at: &Part, c: &Completion) -> Next
-    ensures row { DoesPurely p.now at.now result
+pub fn after_for_update(p: &Source, at: &Part, c: &Completion) -> Round
+    ensures row { DoesPurely p.now at.now (round_next at.now result)
         (own_rest p.now at.now OwnWait.ForUpdate [] c.now) }
 {
     match value_of(c) {
         Some(_) => for_turn(p, at),
-        None => end(c),
+        None => Round::End(*c),
+    }
+}
+
+/// What a list of statements or a loop does behind one of its parts.
+pub fn round(p: &Source, heap: &Heap, at: &Part, wait: &RoundWait, c: &Completion) -> Round
+    ensures row { Does p.now at.now (round_next at.now result) heap.now
+        (own_rest p.now at.now (own_wait wait.now) [] c.now heap.now) }
+{
+    match wait {
+        RoundWait::Statement { place, ending } => after_statement(p, at, *place, *ending, c),
+        RoundWait::DoBody => after_do_body(p, at, c),
+        RoundWait::DoTest => after_do_test(p, heap, at, c),
+        RoundWait::WhileTest => after_while_test(p, heap, at, c),
+        RoundWait::WhileBody => after_while_body(p, at, c),
+        RoundWait::ForTest => after_for_test(p, heap, at, c),
+        RoundWait::ForUpdate => after_for_update(p, at, c),
+        RoundWait::ForBody => after_for_body(p, at, c),
     }
 }
 
@@ -360,7 +410,7 @@ fn declared(p: &Source, at: &Part) -> Next
     ensures row { DoesPurely p.now at.now result (declared p.now at.now) }
 {
     if is_for(p.form(at.node)) {
-        for_turn(p, at)
+        for_turn(p, at).next(at)
     } else {
         give(Value::Undefined)
     }
@@ -420,7 +470,7 @@ pub fn begin_for(p: &Source, at: &Part) -> Next
                 ask(at.inner(start), OwnWait::ForStart)
             }
         },
-        None => for_turn(p, at),
+        None => for_turn(p, at).next(at),
     }
 }
 
@@ -429,7 +479,7 @@ pub fn after_for_start(p: &Source, at: &Part, c: &Completion) -> Next
     ensures row { DoesPurely p.now at.now result (own_rest p.now at.now OwnWait.ForStart [] c.now) }
 {
     match value_of(c) {
-        Some(_) => for_turn(p, at),
+        Some(_) => for_turn(p, at).next(at),
         None => end(c),
     }
 }
