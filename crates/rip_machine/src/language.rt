@@ -28,8 +28,8 @@ impl Rows for Language<'_> {
 
     ghost table = { table_of };
 
-    fn begin(&self, heap: &mut Heap, at: &Part) -> Next {
-        begin(&self.source, heap, at, &self.source.form(at.node))
+    fn begin(&self, heap: &mut Heap, at: &Part, next: &mut Next) {
+        *next = begin(&self.source, heap, at, &self.source.form(at.node));
     }
 
     fn at_once(&self, heap: &mut Heap, at: &Part, most: u64) -> Option<Completed> {
@@ -52,10 +52,17 @@ impl Rows for Language<'_> {
         values: &[Value],
         all: &[Value],
         c: &Completion,
-    ) -> Result<Next, NoMemory> {
+        next: &mut Next,
+    ) -> Result<(), NoMemory> {
         match wait {
-            Wait::Own(wait) => Ok(finish_own(&self.source, heap, at, wait, values, all, c)),
-            Wait::Hosted(wait) => finish_hosted(&self.source, heap, host, at, wait, values, all, c),
+            Wait::Own(wait) => *next = finish_own(&self.source, heap, at, wait, values, all, c),
+            Wait::Hosted(wait) => {
+                match finish_hosted(&self.source, heap, host, at, wait, values, all, c) {
+                    Ok(then) => *next = then,
+                    Err(e) => return Err(e),
+                }
+            },
         }
+        Ok(())
     }
 }

@@ -9,7 +9,7 @@ use rip_values::{NoMemory, Value};
 /// The rows of a program, as code. What the table of its meaning says, these do, each time up to the next part. A fault and a
 /// limit are a `Next`; memory is wanting only where the host may want it.
 pub trait Rows {
-    ghost use Rattle.std.specs.Prelude.{◌≡◌, ◌<◌, ◌≤◌, List, [], length, IfOk, IsTrue, MatchOption, OnErr};
+    ghost use Rattle.std.specs.Prelude.{◌≡◌, ◌<◌, ◌≤◌, List, [], length, IsTrue, MatchOption, OnErr, OnOk};
     ghost use Rattle.rip_values.specs.declared.value.Value.{Value as ScriptValue};
     ghost use Rattle.rip_heap.specs.Growth.{Grows};
     ghost use Rattle.rip_runs.specs.Done.{Done};
@@ -24,10 +24,10 @@ pub trait Rows {
     // The meaning of the program.
     ghost table: { Self → Table };
 
-    /// What a part does that is entered. Some depth is left for it.
-    fn begin(&self, heap: &mut Heap, at: &Part) -> Next
+    /// Next is what a part does that is entered. Some depth is left for it.
+    fn begin(&self, heap: &mut Heap, at: &Part, next: &mut Next)
         ensures row { (values : List ScriptValue)
-            → as_row (table self.now) at.now result values heap.new
+            → as_row (table self.now) at.now next.new values heap.new
             ≡ (table self.now).row at.now heap.old }
         ensures grows { Grows heap.old heap.new };
 
@@ -44,9 +44,9 @@ pub trait Rows {
         ensures row { as_row (table self.now) at.now (round_next at.now result) [] heap.now
             ≡ rest_at (table self.now) at.now wait.now c.now heap.now };
 
-    /// What an open part does with the completion of the part that it waits for so, where these values are beside its frame.
-    /// The calls of the host with which its row goes on are made. Where there are such values, and the completion has one too,
-    /// all of them are at hand side by side.
+    /// Next is what an open part does with the completion of the part that it waits for so, where these values are beside its
+    /// frame. The calls of the host with which its row goes on are made. Where there are such values, and the completion has
+    /// one too, all of them are at hand side by side.
     fn finish<H: Host>(
         &self,
         heap: &mut Heap,
@@ -56,11 +56,12 @@ pub trait Rows {
         values: &[Value],
         all: &[Value],
         c: &Completion,
-    ) -> Result<Next, NoMemory>
+        next: &mut Next,
+    ) -> Result<(), NoMemory>
         requires fits { H.fits host.old heap.old }
         requires all { 0 < length values.now → AreTogether values.now c.now all.now }
-        ensures row { IfOk result (λ next. (
-          as_row (table self.now) at.now next values.now
+        ensures row { OnOk result ((
+          as_row (table self.now) at.now next.new values.now
               heap.new,
           host.new,
         ) ≡ settle H.answers ((table self.now).rest

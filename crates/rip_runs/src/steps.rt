@@ -248,10 +248,11 @@ fn take_part<R: Rows, H: Host>(
 {
     match &*next {
         Next::Ask(inner, wait) | Next::Turn(inner, wait) => {
+            let wait = *wait;
             match rows.at_once(heap, &at.inside(inner), *left) {
                 Some(done) => {
                     *left -= done.units;
-                    match RoundWait::of(wait) {
+                    match RoundWait::of(&wait) {
                         Some(place) => {
                             *next = go_round::<R, H>(
                                 rows,
@@ -264,13 +265,8 @@ fn take_part<R: Rows, H: Host>(
                             Ok(false)
                         },
                         None => {
-                            match rows.finish(heap, host, at, wait, &[], &[], &done.completion) {
-                                Ok(then) => {
-                                    *next = then;
-                                    Ok(true)
-                                },
-                                Err(NoMemory) => Err(NoMemory),
-                            }
+                            rows.finish(heap, host, at, &wait, &[], &[], &done.completion, next)?;
+                            Ok(true)
                         },
                     }
                 },
@@ -382,7 +378,7 @@ fn begin<R: Rows, H: Host>(
     ensures fits { H.fits host.new heap.new }
     ensures grows { Grows heap.old heap.new }
 {
-    *next = rows.begin(heap, part);
+    rows.begin(heap, part, next);
     take_parts(rows, heap, host, part, next, left)
 }
 
@@ -420,8 +416,8 @@ fn enter_row<R: Rows, H: Host>(
     Ok(())
 }
 
-/// What the innermost frame does with a completion, where values are beside it. For the time of the call the value of the
-/// completion stands behind them.
+/// Next is what the innermost frame does with a completion, where values are beside it. For the time of the call the value of
+/// the completion stands behind them.
 fn finish_beside<R: Rows, H: Host>(
     rows: &R,
     heap: &mut Heap,
@@ -429,13 +425,14 @@ fn finish_beside<R: Rows, H: Host>(
     stack: &mut Stack,
     frame: &Frame,
     c: &Completion,
-) -> Result<Next, NoMemory>
+    next: &mut Next,
+) -> Result<(), NoMemory>
     requires fits { H.fits host.old heap.old }
     requires frame { stack.old.frames ≡ without_last stack.old.frames
         ++ framed frame.now (last_values stack.old.frames) ∷ [] }
     requires room { count_of_values stack.old.frames < stack.old.room }
-    ensures row { IfOk result (λ next. (
-      as_row (R.table rows.now) frame.now.at next (last_values stack.old.frames) heap.new,
+    ensures row { OnOk result ((
+      as_row (R.table rows.now) frame.now.at next.new (last_values stack.old.frames) heap.new,
       host.new,
     ) ≡ settle H.answers ((R.table rows.now).rest
         (framed frame.now (last_values stack.old.frames)) c.now heap.old) host.old) }
@@ -449,11 +446,20 @@ fn finish_beside<R: Rows, H: Host>(
             kept(stack, frame, v);
             let all = stack.values();
             let values = &all[..all.len() - 1];
-            let then = rows.finish(heap, host, &frame.at, &frame.wait, values, all, c);
+            let then = rows.finish(heap, host, &frame.at, &frame.wait, values, all, c, next);
             stack.take_back(frame);
             then
         },
-        _ => rows.finish(heap, host, &frame.at, &frame.wait, stack.values(), &[], c),
+        _ => rows.finish(
+            heap,
+            host,
+            &frame.at,
+            &frame.wait,
+            stack.values(),
+            &[],
+            c,
+            next,
+        ),
     }
 }
 
@@ -499,7 +505,7 @@ fn give<R: Rows, H: Host>(
         finish_alone(rows, heap, host, &at, &frame.wait, c, ahead)?;
     } else {
         let frame = *frame;
-        ahead.next = finish_beside(rows, heap, host, stack, &frame, c)?;
+        finish_beside(rows, heap, host, stack, &frame, c, &mut ahead.next)?;
     }
     reopen(stack, &at, &ahead.next, &mut ahead.control);
     Ok(true)
@@ -531,10 +537,7 @@ fn finish_alone<R: Rows, H: Host>(
         ahead.next = go_round::<R, H>(rows, heap, at, &place, c, &mut ahead.left);
         return Ok(());
     }
-    match rows.finish(heap, host, at, wait, &[], &[], c) {
-        Ok(then) => ahead.next = then,
-        Err(NoMemory) => return Err(NoMemory),
-    }
+    rows.finish(heap, host, at, wait, &[], &[], c, &mut ahead.next)?;
     take_parts(rows, heap, host, at, &mut ahead.next, &mut ahead.left)
 }
 

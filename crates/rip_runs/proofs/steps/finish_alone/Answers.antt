@@ -14,7 +14,7 @@ returns-clause-run g c =
     let row = t.rest (framed (waiting at c.args.wait.now) []) c.args.c.now c.args.heap.now in
     let taken = c.take_parts.new in
     ok_map c.take_parts.result
-    ((k : ℕ) → next_run h t at taken.next (taken.left + k) taken.heap taken.host ≡ next_run h t at c.in-Ok.then (c.args.ahead.now.left + k) c.finish.new.heap c.finish.new.host)
+    ((k : ℕ) → next_run h t at taken.next (taken.left + k) taken.heap taken.host ≡ next_run h t at c.finish.new.next (c.args.ahead.now.left + k) c.finish.new.heap c.finish.new.host)
     ((k : ℕ) → next_run h t at taken.next (taken.left + k) taken.heap taken.host ≡ run h t (at.room - 1) row (c.args.ahead.now.left + k) c.args.host.now)
     c.take_parts.ensures.run
-    (λ ran k. ran k ∙ settled_run h t at c.in-Ok.then [] row (at.room - 1) (c.args.ahead.now.left + k) c.finish.new.heap c.args.host.now c.finish.new.host c.in-Ok.ensures.row)
+    (λ ran k. ran k ∙ settled_run h t at c.finish.new.next [] row (at.room - 1) (c.args.ahead.now.left + k) c.finish.new.heap c.args.host.now c.finish.new.host c.in_ok-finish.ensures.row)

@@ -1,4 +1,4 @@
-use Rattle.std.proofs.Common.{◌≡◌, List, [], ◌∷◌, ◌++◌, IfOk, ap, subst, ◌∙◌}
+use Rattle.std.proofs.Common.{◌≡◌, List, [], ◌∷◌, ◌++◌, OnOk, ap, subst, ◌∙◌}
 use Rattle.rip_values.specs.declared.value.Value.{Value}
 use Rattle.rip_runs.specs.Rest.{as_row}
 use Rattle.rip_runs.specs.Settle.{settle}
@@ -21,5 +21,5 @@ returns-in-Normal-clause-row g c =
     let os = c.args.stack.now.frames in
     let frame = c.args.frame.now in
     let all = c.values-all.ensures ∙ ap (λ (m : Frames). last_values m.frames) c.kept.ensures ∙ last_values-push (without_last os) (framed frame (last_values os ++ c.in-Normal.v ∷ [])) in
-    let P : List Value → Type 0 = λ vs. IfOk c.finish-then.result (λ next. (as_row t frame.at next vs c.finish-then.new.heap, c.finish-then.new.host) ≡ settle h (t.rest (framed frame vs) c.args.c.now c.args.heap.now) c.args.host.now) in
+    let P : List Value → Type 0 = λ vs. OnOk c.finish-then.result ((as_row t frame.at c.finish-then.new.next vs c.finish-then.new.heap, c.finish-then.new.host) ≡ settle h (t.rest (framed frame vs) c.args.c.now c.args.heap.now) c.args.host.now) in
     subst P (taken c.values-all.result.now (last_values os) c.in-Normal.v all) c.finish-then.ensures.row

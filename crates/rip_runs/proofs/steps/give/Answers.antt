@@ -6,7 +6,7 @@ use Rattle.rip_runs.specs.Stack.{Frames, count_of_values, framed, last_values, w
 use Rattle.rip_runs.proofs.Nested.{at_last, went_inside}
 use Rattle.rip_runs.proofs.Roomed.{count_split, went_values}
 use Rattle.rip_runs.proofs.StepLaws.{given_rest, no_values, settled_run}
-use Rattle.rip_runs.proofs.steps.give.Goals.{then-is_empty+in_ok-finish_alone, else-is_empty+in_ok-ahead}
+use Rattle.rip_runs.proofs.steps.give.Goals.{then-is_empty+in_ok-finish_alone, else-is_empty+in_ok-finish_beside}
 use Rattle.rip_runs.proofs.steps.give.Goals as goal
 
 pub returns-clause-rest : goal.returns-clause-rest
@@ -26,12 +26,12 @@ returns-clause-rest g c k =
           let P : List Value → Type 0 = λ vs. run h t (room_in frame) (as_row t frame.at w.finish_alone.new.ahead.next vs w.finish_alone.new.heap) (w.finish_alone.new.ahead.left + k) w.finish_alone.new.host
           ≡ run h t (room_in frame) (t.rest (framed frame vs) c.args.c.now c.args.heap.now) v c.args.host.now in
           rw (w.ahead-is, w.heap-is, w.host-is) (subst P (sym none) (w.in_ok-finish_alone.ensures.run k))
-      | else-is_empty+in_ok-ahead w ↦
-          rw (w.ahead-is, w.heap-is, w.host-is) (settled_run h t frame.at w.in_ok-ahead.field-0 values row (room_in frame) v w.finish_beside.new.heap c.args.host.now w.finish_beside.new.host w.in_ok-ahead.ensures.row)
+      | else-is_empty+in_ok-finish_beside w ↦
+          rw (w.ahead-is, w.heap-is, w.host-is) (settled_run h t frame.at w.finish_beside.new.next values row (room_in frame) v w.finish_beside.new.heap c.args.host.now w.finish_beside.new.host w.in_ok-finish_beside.ensures.row)
     ] in
     let same : c.if-is_empty.stack ≡ c.args.stack.now = elim c.if-is_empty.branch [
       | then-is_empty+in_ok-finish_alone w ↦ w.stack-is
-      | else-is_empty+in_ok-ahead w ↦ w.stack-is ∙ w.in_ok-ahead.ensures.stack
+      | else-is_empty+in_ok-finish_beside w ↦ w.stack-is ∙ w.in_ok-finish_beside.ensures.stack
     ] in
     let frames : c.reopen.new.stack.frames ≡ without_last os ++ frame_of frame.at then.ahead.next values =
     ap (λ (m : Frames). m.frames) c.reopen.ensures.frames ∙ ap (λ (m : Frames). without_last m.frames ++ frame_of frame.at then.ahead.next (last_values m.frames)) same in
@@ -45,7 +45,7 @@ returns-clause-inside g c =
     let next = c.if-is_empty.ahead.next in
     let same : c.if-is_empty.stack ≡ c.args.stack.now = elim c.if-is_empty.branch [
       | then-is_empty+in_ok-finish_alone w ↦ w.stack-is
-      | else-is_empty+in_ok-ahead w ↦ w.stack-is ∙ w.in_ok-ahead.ensures.stack
+      | else-is_empty+in_ok-finish_beside w ↦ w.stack-is ∙ w.in_ok-finish_beside.ensures.stack
     ] in
     let went : c.reopen.new.stack ≡ record c.args.stack.now { frames = without_last os ++ frame_of frame.at next (last_values os) } =
     c.reopen.ensures.frames ∙ ap (λ (m : Frames). record m { frames = without_last m.frames ++ frame_of frame.at next (last_values m.frames) }) same in
@@ -59,11 +59,11 @@ returns-clause-values g c =
     let next = c.if-is_empty.ahead.next in
     let same : c.if-is_empty.stack ≡ c.args.stack.now = elim c.if-is_empty.branch [
       | then-is_empty+in_ok-finish_alone w ↦ w.stack-is
-      | else-is_empty+in_ok-ahead w ↦ w.stack-is ∙ w.in_ok-ahead.ensures.stack
+      | else-is_empty+in_ok-finish_beside w ↦ w.stack-is ∙ w.in_ok-finish_beside.ensures.stack
     ] in
     let within : c.if-is_empty.ahead.left ≤ c.args.ahead.now.left = elim c.if-is_empty.branch [
       | then-is_empty+in_ok-finish_alone w ↦ rw w.ahead-is w.finish_alone.ensures.within
-      | else-is_empty+in_ok-ahead w ↦ rw w.ahead-is (omega arith)
+      | else-is_empty+in_ok-finish_beside w ↦ rw w.ahead-is (omega arith)
     ] in
     let went : c.reopen.new.stack ≡ record c.args.stack.now { frames = without_last os ++ frame_of frame.at next (last_values os) } =
     c.reopen.ensures.frames ∙ ap (λ (m : Frames). record m { frames = without_last m.frames ++ frame_of frame.at next (last_values m.frames) }) same in

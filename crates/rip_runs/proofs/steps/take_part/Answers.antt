@@ -7,14 +7,14 @@ use Rattle.rip_runs.specs.Stack.{framed}
 use Rattle.rip_runs.proofs.Doing.{part-asked, part-turned, rest-asked, rest-turned}
 use Rattle.rip_runs.proofs.steps.take_part.Goals as goal
 
-pub returns-in-Ok-clause-run : goal.returns-in-Ok-clause-run
-returns-in-Ok-clause-run g c k =
+pub returns-in_ok-finish-in-None-of-clause-run : goal.returns-in_ok-finish-in-None-of-clause-run
+returns-in_ok-finish-in-None-of-clause-run g c k =
     let h = g.H.Host.answers in
     let t = g.R.Rows.table c.args.rows.now in
     let at = c.args.at.now in
     let inner = c.in-Ask.inner in
     let wait = c.in-Ask.wait in
-    let next = c.in-Ok.then in
+    let next = c.finish.new.next in
     let done = c.in-Some.done in
     let l = c.args.left.now in
     let w = c.args.heap.now in
@@ -25,9 +25,9 @@ returns-in-Ok-clause-run g c k =
     let first : Done t (inside at inner) done.units w done.completion y =
     subst (λ part. Done t part done.units w done.completion y) c.inside.ensures c.in-Some.ensures.done.0 in
     elim c.in-Ask.is [
-      | inl e ↦ part-asked h t at inner wait next done.units l (l - done.units) k done.completion w y z s r first (omega (arith, c.in-Some.ensures.done.1)) c.in-Ok.ensures.row
+      | inl e ↦ part-asked h t at inner wait next done.units l (l - done.units) k done.completion w y z s r first (omega (arith, c.in-Some.ensures.done.1)) c.in_ok-finish-in-None-of.ensures.row
           ∙ ap (λ n. next_run h t at n (l + k) w s) (sym e)
-      | inr e ↦ part-turned h t at inner wait next done.units l (l - done.units) k done.completion w y z s r first (omega (arith, c.in-Some.ensures.done.1)) c.in-Ok.ensures.row
+      | inr e ↦ part-turned h t at inner wait next done.units l (l - done.units) k done.completion w y z s r first (omega (arith, c.in-Some.ensures.done.1)) c.in_ok-finish-in-None-of.ensures.row
           ∙ ap (λ n. next_run h t at n (l + k) w s) (sym e)
     ]
 
