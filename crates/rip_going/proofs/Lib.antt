@@ -1,0 +1,6 @@
+mod Deciding
+mod GoLemmas
+mod Handling
+mod OnLemmas
+pub mod ServeLemmas
+mod TurnLemmas
