@@ -13,13 +13,13 @@ use Rattle.rip_values.specs.declared.value.Fault.TheVariants.{BadArgument, LoneS
 use Rattle.rip_values.specs.Pool.{Texts, text_at}
 use Rattle.rip_heap.specs.declared.holder.Holder.{Holder}
 use Rattle.rip_heap.specs.declared.holder.Holder.TheVariants.{PlainObject, ArrayObject, OtherObject}
-use Rattle.rip_heap.specs.declared.property.Property.{Property}
+use Rattle.rip_pages.specs.declared.property.Property.{Property}
 use Rattle.rip_heap.specs.Arrays.{elements_at}
 use Rattle.rip_heap.specs.Holders.{holder_of}
 use Rattle.rip_heap.specs.World.{World, Object as HeapObject, object_at}
 use Rattle.rip_convert.specs.Arguments.{are_units, properties_of, or_fault, text_fault, elements_fault, fields_fault, properties_fault, parts_fault, whole_fault, value_fault, fault_of}
 use Rattle.rip_convert.specs.Written.{then_left, spelled_left, whole_left, elements_left, fields_left, parts_left, value_left, piece_left, left_after, AreWalked, mark_of}
-use Rattle.rip_convert.proofs.Judging.{named, property_here}
+use Rattle.rip_convert.proofs.Judging.{named}
 use Rattle.rip_convert.proofs.Telling.{is_whole_of}
 use Rattle.rip_values.specs.Whole.{IsWhole}
 use Rattle.rip_convert.proofs.Judged.{then-ok, spelled-ok, whole-ok}
@@ -180,12 +180,6 @@ pub element_fault : (walk : Value → Option Fault) (vs : List Value) (i : ℕ) 
     → elements_fault walk (drop i vs) ≡ or_fault (walk v) (elements_fault walk (drop (i + 1) vs))
 element_fault walk vs i v below is =
     at_drop_more (elements_fault walk) vs i Undefined below ∙ ap (λ x. or_fault (walk x) (elements_fault walk (drop (i + 1) vs))) (sym is)
-
-pub field_fault : (walk : Value → Option Fault) (pool : Texts) (o : Option HeapObject) (i : ℕ) (name : Span) (v : Value)
-    → option_map named (option_and_then (λ o. slice_get o.properties i) o) ≡ Some (name, v)
-    → fields_fault walk pool (drop i (properties_of o)) ≡ or_fault (text_fault (text_at pool name)) (or_fault (walk v) (fields_fault walk pool (drop (i + 1) (properties_of o))))
-field_fault walk pool o i name v h =
-    property_here (fields_fault walk pool) (λ q ps. or_fault (text_fault (text_at pool q.0)) (or_fault (walk q.1) (fields_fault walk pool ps))) (λ p ps. refl) o i (name, v) h
 
 -- past the last place there is no property
 pub place_past : (o : Option HeapObject) (i : ℕ) → is_some (option_map named (option_and_then (λ o. slice_get o.properties i) o)) ≡ false → length (properties_of o) ≤ i

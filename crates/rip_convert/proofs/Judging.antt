@@ -1,7 +1,7 @@
 -- The judging of values, one part behind the other.
 use Rattle.std.proofs.Common.{◌≡◌, ℕ, ℤ, zero, suc, ◌+◌, ◌-◌, ◌<◌, ◌≤◌, ◌&&◌, true, cond, inl, inr, Option, None, Some, option_map, Result, Ok, Err, List, [], ◌∷◌, drop, length, get_or, refl, sym, ap, ap₂, ◌∙◌, arith}
 use Rattle.std.specs.Char.Utf16.{has_unpaired_surrogate}
-use Rattle.std.specs.Prelude.{slice_get, option_and_then, unwrap_or}
+use Rattle.std.specs.Prelude.{slice_get, option_and_then, unwrap_or, is_some}
 use Rattle.std.proofs.lemmas.Bool.{le-leb}
 use Rattle.std.proofs.lemmas.List.{at_drop_more, at_drop_all}
 use Rattle.std.proofs.lemmas.Option.{slice_get_cases}
@@ -12,7 +12,7 @@ use Rattle.rip_values.specs.declared.value.Fault.{Fault}
 use Rattle.rip_values.specs.declared.value.Fault.TheVariants.{BadArgument, LoneSurrogate}
 use Rattle.rip_values.specs.Pool.{Texts, text_at}
 use Rattle.rip_values.specs.Whole.{IsWhole}
-use Rattle.rip_heap.specs.declared.property.Property.{Property}
+use Rattle.rip_pages.specs.declared.property.Property.{Property}
 use Rattle.rip_heap.specs.Holders.{holder_of}
 use Rattle.rip_heap.specs.World.{World, Object as HeapObject, object_at}
 use Rattle.rip_convert.specs.Arguments.{are_units, properties_of}
@@ -34,27 +34,18 @@ property_here f g step (Some o) i q h = elim (slice_get_cases o.properties i).1 
   | inr past ↦ absurd (let none : ◌≡◌ {A = Option (Span × Value)} None (Some q) = sym (ap (option_map named) past.1) ∙ h in cc)
 ]
 
--- past the last property there is none
-pub property_end : {Y : Type 0} (f : List Property → Y) (o : Option HeapObject) (i : ℕ)
-    → option_map named (option_and_then (λ o. slice_get o.properties i) o) ≡ None → f (drop i (properties_of o)) ≡ f []
-property_end f None i h = at_drop_all f [] i (omega arith)
-property_end f (Some o) i h = elim (slice_get_cases o.properties i).1 [
-  | inl there ↦ absurd (let some : ◌≡◌ {A = Option (Span × Value)} (Some (named there.0)) None = sym (ap (option_map named) there.2) ∙ h in cc)
-  | inr past ↦ at_drop_all f o.properties i past.0
+-- before the number of the properties there is one at each place
+pub property_there : (o : Option HeapObject) (i : ℕ) → i < length (properties_of o) → is_some (option_map named (option_and_then (λ o. slice_get o.properties i) o)) ≡ true
+property_there None i h = absurd (omega (arith, h))
+property_there (Some o) i h = elim (slice_get_cases o.properties i).1 [
+  | inl there ↦ ap (λ r. is_some (option_map named r)) there.2
+  | inr past ↦ absurd (omega (arith, h, past.0))
 ]
 
 pub element_here : (judge : Value → ℕ → Result ℕ Fault) (vs : List Value) (i : ℕ) (v : Value) (left : ℕ) → i < length vs → v ≡ get_or vs i Undefined
     → elements_left judge (drop i vs) left ≡ then_left (judge v left) (elements_left judge (drop (i + 1) vs))
 element_here judge vs i v left below is =
     at_drop_more (λ l. elements_left judge l left) vs i Undefined below ∙ ap (λ x. then_left (judge x left) (elements_left judge (drop (i + 1) vs))) (sym is)
-
-pub field_here : (judge : Value → ℕ → Result ℕ Fault) (pool : Texts) (o : Option HeapObject) (i : ℕ) (name : Span) (v : Value) (left : ℕ)
-    → option_map named (option_and_then (λ o. slice_get o.properties i) o) ≡ Some (name, v)
-    → fields_left judge pool (drop i (properties_of o)) left
-    ≡ then_left (spelled_left (text_at pool name) left) (λ rest. then_left (judge v rest) (fields_left judge pool (drop (i + 1) (properties_of o))))
-field_here judge pool o i name v left h =
-    property_here (λ ps. fields_left judge pool ps left) (λ q ps. then_left (spelled_left (text_at pool q.0) left) (λ rest. then_left (judge q.1 rest) (fields_left judge pool ps)))
-    (λ p ps. refl) o i (name, v) h
 
 -- an object where a level is left
 pub left_object : (levels : ℕ) (w : World) (n left : ℕ) → 0 < levels → 0 < left

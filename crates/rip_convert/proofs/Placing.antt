@@ -12,7 +12,7 @@ use Rattle.rip_values.specs.declared.value.Span.{Span}
 use Rattle.rip_values.specs.declared.value.Value.{Value}
 use Rattle.rip_values.specs.declared.value.Value.TheVariants.{Undefined}
 use Rattle.rip_values.specs.Pool.{Texts, text_at}
-use Rattle.rip_heap.specs.declared.property.Property.{Property}
+use Rattle.rip_pages.specs.declared.property.Property.{Property}
 use Rattle.rip_heap.specs.Objects.{own_at}
 use Rattle.rip_heap.specs.World.{World, object_at}
 use Rattle.rip_data.specs.Datum.{utf8_of}
@@ -21,7 +21,7 @@ use Rattle.serde_json.specs.Data.{null}
 use Rattle.rip_data.specs.Datum.{AreInOrder}
 use Rattle.rip_convert.specs.Written.{fields_data, field_at, name_at, members_before, members_at, IsOrdered}
 use Rattle.rip_convert.proofs.ToldData.{ordered-put}
-use Rattle.rip_convert.proofs.Judging.{property_here, property_end}
+use Rattle.rip_convert.proofs.Judging.{property_here, property_there}
 
 -- LISTS
 
@@ -175,10 +175,6 @@ some-own : (o : Option (Span × Value)) (d : Span × Value) → is_some o ≡ tr
 some-own None d h = absurd (cc)
 some-own (Some q) d h = refl
 
-none-own : (o : Option (Span × Value)) → is_some o ≡ false → o ≡ None
-none-own None h = refl
-none-own (Some q) h = absurd (cc)
-
 -- the places that are filled with those of the properties before this one
 pub record IsFilled (w : World) (n : ℕ) (old places : List ℕ) (place : ℕ) : Type 0 where
   pub first : take (length old) places ≡ old
@@ -202,18 +198,16 @@ filled-none w n old =
       ordered = subst (IsOrdered w n) (sym none) tt;
     }
 
--- there is a property at this place
-pub is_property : (w : World) (n place : ℕ) → is_some (own_at w n place) ≡ true → place < length (properties_of (object_at w n))
-is_property w n place h =
-    let some = some-own (own_at w n place) (record { start = 0; count = 0 }, Undefined) h in
-    let e : length (drop place (properties_of (object_at w n))) ≡ suc (length (drop (place + 1) (properties_of (object_at w n)))) =
-    property_here length (λ q ps. suc (length ps)) (λ p ps. refl) (object_at w n) place (field_at w n place) some in
-    omega (arith, e, length-drop place (properties_of (object_at w n)))
+-- the first of the properties from a place on, and those behind it
+pub gone_through : (all : List Property) (place : ℕ) (p : Property) (ps : List Property) → p ∷ ps ≡ drop place all → (place < length all) × (ps ≡ drop (place + 1) all)
+gone_through all place p ps h =
+    let below : place < length all = omega (arith, ap length h, length-drop place all) in
+    let whole : p ∷ ps ≡ get_or all place p ∷ drop (place + 1) all = h ∙ drop_more all place p below in
+    (below, cc)
 
-pub filled-more : (w : World) (n : ℕ) (old places new : List ℕ) (place : ℕ) → is_some (own_at w n place) ≡ true → IsFilled w n old places place → IsPut w n places (length old) place new → IsFilled w n old new (place + 1)
-filled-more w n old places new place h f p =
-    let some = some-own (own_at w n place) (record { start = 0; count = 0 }, Undefined) h in
-    let there = is_property w n place h in
+pub filled-more : (w : World) (n : ℕ) (old places new : List ℕ) (place : ℕ) → place < length (properties_of (object_at w n)) → IsFilled w n old places place → IsPut w n places (length old) place new → IsFilled w n old new (place + 1)
+filled-more w n old places new place there f p =
+    let some = some-own (own_at w n place) (record { start = 0; count = 0 }, Undefined) (property_there (object_at w n) place there) in
     record {
       first = p.first ∙ f.first;
       members = λ tell.
@@ -229,7 +223,6 @@ filled-more w n old places new place h f p =
       ordered = subst AreInOrder (sym (p.members (λ v. null))) (ordered-put (name_at w n place) null (members_at w (λ v. null) n (drop (length old) places)) f.ordered);
     }
 
-pub filled-all : (w : World) (n : ℕ) (old places : List ℕ) (place : ℕ) → is_some (own_at w n place) ≡ false → IsFilled w n old places place → (tell : Value → Data)
+pub filled-all : (w : World) (n : ℕ) (old places : List ℕ) (place : ℕ) → [] ≡ drop place (properties_of (object_at w n)) → IsFilled w n old places place → (tell : Value → Data)
     → members_at w tell n (drop (length old) places) ≡ fields_data tell w.pool no_members (properties_of (object_at w n))
-filled-all w n old places place h f tell =
-    sym (property_end (fields_data tell w.pool (members_at w tell n (drop (length old) places))) (object_at w n) place (none-own (own_at w n place) h)) ∙ f.members tell
+filled-all w n old places place h f tell = ap (fields_data tell w.pool (members_at w tell n (drop (length old) places))) h ∙ f.members tell

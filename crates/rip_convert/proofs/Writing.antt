@@ -9,7 +9,7 @@ use Rattle.rip_values.specs.declared.value.Span.{Span}
 use Rattle.rip_values.specs.declared.value.Value.{Value}
 use Rattle.rip_values.specs.declared.value.Value.TheVariants.{Undefined}
 use Rattle.rip_values.specs.Pool.{Texts, text_at}
-use Rattle.rip_heap.specs.declared.property.Property.{Property}
+use Rattle.rip_pages.specs.declared.property.Property.{Property}
 use Rattle.rip_heap.specs.World.{World, Object as HeapObject, object_at}
 use Rattle.rip_convert.specs.Arguments.{properties_of}
 use Rattle.rip_convert.specs.Written.{added, elements_data, elements_pieces, fields_pieces, field_at, name_at, members_at, pieces}

@@ -14,9 +14,10 @@ use Rattle.rip_values.specs.declared.value.Fault.TheVariants.{BadArgument, LoneS
 use Rattle.rip_values.specs.Pool.{Texts, text_at}
 use Rattle.rip_heap.specs.declared.holder.Holder.{Holder}
 use Rattle.rip_heap.specs.declared.holder.Holder.TheVariants.{PlainObject, ArrayObject, OtherObject}
-use Rattle.rip_heap.specs.declared.property.Property.{Property}
+use Rattle.rip_pages.specs.declared.property.Property.{Property}
 use Rattle.rip_heap.specs.Arrays.{elements_at}
 use Rattle.rip_heap.specs.Holders.{holder_of}
+use Rattle.rip_heap.specs.Stored.{properties_of as properties_in_heap}
 use Rattle.rip_heap.specs.World.{World, Object as HeapObject, object_at}
 use Rattle.rip_data.specs.Datum.{number_of_whole, utf8_of}
 use Rattle.rip_data.specs.Reading.{is_whole}
@@ -61,8 +62,7 @@ fields_walked walk pool found (p ∷ ps) left =
 
 -- the properties of an object
 abbrev pub properties_of : Option HeapObject → List Property
-properties_of None = []
-properties_of (Some o) = o.properties
+properties_of = properties_in_heap
 
 -- an object: an array by its elements, and a plain object, of which thrown codes are some, by its own properties;
 -- nothing else is data

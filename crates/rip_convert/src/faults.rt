@@ -103,17 +103,16 @@ fn fields_fault(heap: &Heap, object: u32, levels: u8, marks: &mut Marks) -> Opti
     if heap.own_at(object, u32::MAX).is_some() {
         return Some(Fault::BadArgument);
     }
-    let mut place = 0;
-    while let Some((name, v)) = heap.own_at(object, place) {
-        let of_name = text_fault(heap.pool().get(name));
+    let mut own = heap.own_properties(object);
+    while let Some(property) = own.next() {
+        let of_name = text_fault(heap.pool().get(property.name));
         if of_name.is_some() {
             return of_name;
         }
-        let of_value = first_fault(heap, v, levels, marks);
+        let of_value = first_fault(heap, property.value, levels, marks);
         if of_value.is_some() {
             return of_value;
         }
-        place += 1;
     }
     None
 }

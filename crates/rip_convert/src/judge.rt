@@ -86,11 +86,10 @@ fn fields_left(heap: &Heap, object: u32, levels: usize, pieces: u32) -> Result<u
     ensures no_more { IfOk result (λ rest. rest ≤ pieces) }
 {
     let mut left = pieces;
-    let mut place = 0;
-    while let Some((name, v)) = heap.own_at(object, place) {
-        let rest = spelled_left(heap.pool().get(name), left)?;
-        left = left_after(heap, v, levels, rest)?;
-        place += 1;
+    let mut own = heap.own_properties(object);
+    while let Some(property) = own.next() {
+        let rest = spelled_left(heap.pool().get(property.name), left)?;
+        left = left_after(heap, property.value, levels, rest)?;
     }
     Ok(left)
 }

@@ -111,7 +111,8 @@ pub(crate) fn put_fields(heap: &Heap, object: u32, places: &mut Places)
 {
     let base = places.count();
     let mut place = 0;
-    while heap.own_at(object, place).is_some() {
+    let mut own = heap.own_properties(object);
+    while let Some(_property) = own.next() {
         put_field(heap, object, places, base, place);
         place += 1;
     }

@@ -6,8 +6,9 @@ use Rattle.rip_values.specs.declared.fixed.FixedText.TheVariants.{Prototype as P
 use Rattle.rip_values.specs.FixedTexts.{text_of, fixed_span}
 use Rattle.rip_heap.specs.declared.class.Class.{Class}
 use Rattle.rip_heap.specs.declared.class.Class.TheVariants.{Plain, Prototype, Function}
-use Rattle.rip_heap.specs.declared.property.Property.{Property}
+use Rattle.rip_pages.specs.declared.property.Property.{Property}
 use Rattle.rip_heap.specs.Names.{place_of, named}
+use Rattle.rip_heap.specs.Stored.{properties_of}
 use Rattle.rip_heap.specs.World.{World, Object, object_at, with_object, proto_of, first_object, charging, cost_of_object, cost_of_property, cost_of_function}
 
 -- MAKING
@@ -60,6 +61,10 @@ new_function w node scope = charging cost_of_function w (adding_function node sc
 -- the value of the object's own property with this name (8.12.1)
 abbrev pub own : World → ℕ → Span → Option Value
 own w n name = option_and_then (λ o. named w.pool name o.properties) (object_at w n)
+
+-- the own properties, in the order of making; what is no object of the world has none
+abbrev pub own_properties : World → ℕ → List Property
+own_properties w n = properties_of (object_at w n)
 
 -- the name and the value of the own property at this place, in the order of making
 abbrev pub own_at : World → ℕ → ℕ → Option (Span × Value)

@@ -2,7 +2,7 @@
 -- clause cites this.
 use Rattle.std.specs.Prelude.{Option, None, Some, List, [], ◌∷◌}
 use Rattle.rip_values.specs.declared.value.Value.{Value}
-use Rattle.rip_heap.specs.declared.property.Property.{Property}
+use Rattle.rip_pages.specs.declared.property.Property.{Property}
 use Rattle.rip_heap.specs.declared.stored.StoredObject.{StoredObject}
 use Rattle.rip_heap.specs.World.{Object}
 

@@ -5,7 +5,7 @@ use Rattle.rip_values.specs.Pool.{Texts}
 use Rattle.rip_heap.specs.declared.class.Class.{Class}
 use Rattle.rip_heap.specs.declared.class.Class.TheVariants.{Plain, Prototype, Array, Function, Error, TypeError, RangeError, ThrownTypeError, ThrownReferenceError, Code, Event}
 use Rattle.rip_heap.specs.declared.limits.HeapLimits.{HeapLimits}
-use Rattle.rip_heap.specs.declared.property.Property.{Property}
+use Rattle.rip_pages.specs.declared.property.Property.{Property}
 
 -- an object (ECMA-262 8.6): its class, its prototype, of a script function the node and the scope, its properties in
 -- the order of making, and of an array its elements

@@ -1,7 +1,8 @@
-ghost use Rattle.std.specs.Prelude.{◌≡◌, ◌+◌, ◌<◌, IfOk, MatchOption, slice_get, length};
+ghost use Rattle.std.specs.Prelude.{◌≡◌, ◌+◌, ◌<◌, ⊤, IfOk, MatchOption, slice_get, length};
 ghost use Rattle.rip_values.specs.declared.value.Value.{Value};
 ghost use Rattle.rip_heap.specs.Growth.{Grows};
 ghost use Rattle.rip_heap.specs.Arrays.{new_array, new_piece, cut, elements_at, last_of, with_item, popped, push_item, push_items};
+ghost use Rattle.rip_heap.specs.NamedObjects.{IsArrayAt};
 ghost use Rattle.rip_heap.specs.Step.{Makes, Changes, TakesNoMemory};
 ghost use Rattle.rip_heap.specs.World.{object_at, as_array, first_object, IsObject};
 
@@ -18,7 +19,7 @@ impl Heap {
         ensures grows { Grows self.old self.new }
     {
         self.room_for(items.len() + 1)?;
-        let number = FIRST_HEAP_OBJECT + self.parts.named.len() as u32;
+        let number = FIRST_HEAP_OBJECT + self.parts.named.len();
         self.parts.named.push_array(items);
         self.used += items.len() as u32 + 1;
         Ok(number)
@@ -63,7 +64,7 @@ impl Heap {
             return Ok(());
         };
         self.room_for(1)?;
-        self.parts.named.push_elements(at, &[v]);
+        self.parts.named.push_element(at, v);
         self.used += 1;
         Ok(())
     }
@@ -103,7 +104,7 @@ impl Heap {
         let end = to.min(self.parts.named.element_count(at));
         let count = end - from.min(end);
         self.room_for(count as usize + 1)?;
-        let number = FIRST_HEAP_OBJECT + self.parts.named.len() as u32;
+        let number = FIRST_HEAP_OBJECT + self.parts.named.len();
         self.parts.named.push_piece(at, from, to);
         self.used += count + 1;
         Ok(number)
@@ -131,10 +132,11 @@ impl Heap {
     }
 
     // The place of the array of that number in the list of objects.
-    fn place_of_array(&self, number: u32) -> Option<usize>
-        ensures { MatchOption result (as_array (object_at self.now number) ≡ None)
+    fn place_of_array(&self, number: u32) -> Option<u32>
+        ensures place { MatchOption result (as_array (object_at self.now number) ≡ None)
             (λ i. (number ≡ first_object + i) × (i < length self.now.objects)
             × (slice_get self.now.objects i ≡ as_array (object_at self.now number))) }
+        ensures array { MatchOption result ⊤ (λ i. IsArrayAt self.now.objects i) }
     {
         let place = self.place_of_object(number)?;
         let found = self.parts.named.get(place)?;

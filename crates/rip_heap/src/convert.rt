@@ -5,8 +5,8 @@ ghost use Rattle.rip_heap.specs.Growth.{Grows};
 ghost use Rattle.rip_heap.specs.Conversions.{boolean_of, number_of, IsSpelled, integer_of, uint32_of, int32_of, text_of_value, room_for_text, strictly_equal, span_of};
 
 use crate::heap::Heap;
-use crate::names::same_text;
 use crate::outcome::Halt;
+use rip_chains::same_text;
 use rip_values::{
     Fault, FixedText, Limit, Numeral, Span, Value, Whole, number_of_text, text_of_whole,
 };

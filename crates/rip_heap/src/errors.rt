@@ -9,8 +9,8 @@ use crate::class::Class;
 use crate::convert::to_text;
 use crate::heap::Heap;
 use crate::outcome::Abrupt;
-use crate::property::Property;
 use crate::stored::StoredObject;
+use rip_pages::Property;
 use rip_values::{FIRST_HEAP_OBJECT, Fault, FixedText, Limit, Span, Value, Whole, text_of_whole};
 use std::alloc::Global;
 
@@ -49,7 +49,7 @@ impl Heap {
         if self.free_cells() < COST_OF_ERROR {
             return Err(Abrupt::Limit(Limit::Cells));
         }
-        let number = FIRST_HEAP_OBJECT + self.parts.named.len() as u32;
+        let number = FIRST_HEAP_OBJECT + self.parts.named.len();
         let property = Property {
             name: FixedText::Message.span(),
             value: Value::Text(message),
@@ -83,7 +83,7 @@ impl Heap {
         if count > self.parts.named.pool().free() as usize {
             return Err(Abrupt::Limit(Limit::Units));
         }
-        let number = FIRST_HEAP_OBJECT + self.parts.named.len() as u32;
+        let number = FIRST_HEAP_OBJECT + self.parts.named.len();
         self.parts.named.push_error(alloc, class, &room[..count]);
         self.used += COST_OF_ERROR;
         Ok(Value::Object(number))

@@ -6,7 +6,6 @@ ghost use Rattle.rip_heap.specs.Step.{Charges};
 
 use crate::limits::HeapLimits;
 use crate::named_objects::NamedObjects;
-use crate::scope_rows::ScopeRows;
 use crate::search::SearchTable;
 use rip_values::{FIRST_HEAP_OBJECT, FIRST_NODE, Limit, NoMemory, Pool};
 use std::alloc::Global;
@@ -25,7 +24,6 @@ pub struct Heap {
 #[derive(Debug, Drop)]
 pub(crate) struct HeapParts {
     pub named: NamedObjects,
-    pub scopes: ScopeRows,
     pub table: SearchTable,
 }
 
@@ -41,13 +39,12 @@ impl Model for Heap {
       cells = h.used;
       pool = h.parts.value.named.pool;
       objects = h.parts.value.named.objects;
-      scopes = h.parts.value.scopes.scopes;
+      scopes = h.parts.value.named.scopes;
     } };
 
     ghost invariant = { λ h. record {
-      sound : IsSound h.limit h.used h.parts.value.named.objects h.parts.value.scopes.scopes;
-      objects : ArePaid h.limit h.used h.parts.value.named.rooms;
-      scopes : ArePaid h.limit h.used h.parts.value.scopes.rooms;
+      sound : IsSound h.limit h.used h.parts.value.named.objects h.parts.value.named.scopes;
+      paid : ArePaid h.limit h.used h.parts.value.named.rooms;
     } };
 }
 
@@ -64,7 +61,6 @@ impl Heap {
         let pool = Pool::make(alloc, limits.units, limits.text)?;
         let parts = HeapParts {
             named: NamedObjects::new(alloc, pool, limits.cells)?,
-            scopes: ScopeRows::make(alloc, limits.cells)?,
             table: SearchTable::make(alloc, limits.text)?,
         };
         Ok(Heap {
@@ -82,14 +78,14 @@ impl Heap {
         ensures numbers { first_object + self.now.limit ≤ first_node }
         ensures older { HaveOlderProtos self.now.objects }
     {
-        self.parts.named.len() as u32
+        self.parts.named.len()
     }
 
     /// How many scopes were made.
     pub fn scopes(&self) -> u32
         ensures { result ≡ length self.now.scopes }
     {
-        self.parts.scopes.len() as u32
+        self.parts.named.scopes()
     }
 
     /// The cells that were charged.

@@ -6,7 +6,7 @@ ghost use Rattle.rip_heap.specs.Keys.{look_up, looked_up, is_barred, is_undersco
 use crate::class::Class;
 use crate::convert::to_number;
 use crate::heap::Heap;
-use crate::names::same_text;
+use rip_chains::same_text;
 use rip_values::{FixedText, Numeral, Span, Value, Whole, text_of_whole};
 
 /// Where the look-up of a name along prototypes ends.

@@ -10,9 +10,9 @@
 //! | [`Heap`] | contracts see `World.World`; `World.empty_world` is a new one |
 //! | the charge of each step | `World.charging`, and the table `World.cost_of_object` and those behind it |
 //! | [`Heap::new_object`], [`Heap::new_of`], [`Heap::new_function`] | `Objects.new_object`, `Objects.new_of`, `Objects.new_function` |
-//! | [`Heap::own`], [`Heap::find`], [`Heap::own_at`] | `Objects.own`, `Objects.find`, `Objects.own_at` |
-//! | [`Heap::put`], [`Heap::remove`] | `Objects.put`, `Objects.removed`; the indexes beside them are private, by `NameIndex` |
-//! | arrays and scopes | `Arrays`, `Scopes`; how the elements of all arrays and the properties of all objects lie is private, in `rip_rows` |
+//! | [`Heap::own`], [`Heap::find`], [`Heap::own_at`], [`Heap::own_properties`] | `Objects.own`, `Objects.find`, `Objects.own_at`, `Objects.own_properties` |
+//! | [`Heap::put`], [`Heap::remove`] | `Objects.put`, `Objects.removed`; the indexes beside them are private, in `rip_buckets` |
+//! | arrays and scopes | `Arrays`, `Scopes`; how objects, properties, elements and scopes lie in one region is private, by `Region` |
 //! | [`Heap::new_error`] | `Errors.new_error` |
 //! | [`Heap::concat`], [`same_text`] | `Texts.concat`, `Names.same_text` |
 //! | [`Heap::place_in_text`], [`Heap::place_of_text`] | `Search.first_place_from`; how it is found is private, by `Borders` |
@@ -37,25 +37,20 @@ mod arrays;
 mod class;
 mod convert;
 mod errors;
+mod head_slots;
 mod heap;
 mod holder;
 mod host;
-mod index_blocks;
 mod keys;
 mod laws;
 mod limits;
 mod mark;
-mod name_index;
-mod name_indexes;
 mod named_objects;
-mod names;
-mod object_rows;
 mod objects;
 mod outcome;
 mod properties;
-mod property;
-mod room;
-mod scope_rows;
+mod region;
+mod scope_slots;
 mod scopes;
 mod search;
 mod stored;
@@ -78,6 +73,6 @@ pub use laws::{
 };
 pub use limits::{HeapLimits, Used};
 pub use mark::Mark;
-pub use names::same_text;
 pub use outcome::{Abrupt, Halt, number_done, truth_done};
-pub use property::Property;
+pub use rip_chains::{OwnProperties, same_text};
+pub use rip_pages::Property;

@@ -1,73 +1,70 @@
-ghost use Rattle.std.specs.Prelude.{◌≡◌, ◌<◌, ◌≤◌, ◌+◌, ◌∷◌, ◌++◌, [], IfOk, IfErr, IfSome, IsErr, MatchOption, None, OnErr, OnOk, Some, length, option_map, remove, slice_get, slice_range, slice_set, take, ◌↔◌};
+ghost use Rattle.std.specs.Prelude.{◌≡◌, ◌<◌, ◌≤◌, ◌+◌, ◌-◌, ◌∷◌, ◌++◌, [], false, IfOk, IfErr, IsErr, None, OnErr, OnOk, is_some, length, option_map, replicate, slice_get, slice_range, slice_set, take, ◌↔◌};
 ghost use Rattle.std.specs.Borrow.{MutBor, sem};
 ghost use Rattle.std.specs.Fn.{CalledAtMut};
 ghost use Rattle.rip_values.specs.FixedTexts.{fixed_units};
 ghost use Rattle.rip_values.specs.Pool.{Texts, cut_pool, joined, span_behind, with_text};
 ghost use Rattle.rip_heap.specs.Arrays.{array_object, last_of, elements_of, without_last};
 ghost use Rattle.rip_heap.specs.Errors.{error_object};
+ghost use Rattle.rip_heap.specs.HeadSlots.{IsStorable};
 ghost use Rattle.rip_heap.specs.Lending.{OnlyAddsTexts, PoolGrows};
 ghost use Rattle.rip_heap.specs.LendingNamed.{LendsPoolOf};
-ghost use Rattle.rip_heap.specs.NamedObjects.{KeepObjects, place_at, with_another, with_edit, with_paid_edit};
-ghost use Rattle.rip_heap.specs.Objects.{with_value};
+ghost use Rattle.rip_heap.specs.NamedObjects.{IsArrayAt, KeepObjects, place_at, with_another, with_edit, with_more, with_paid_edit, with_scope};
+ghost use Rattle.rip_heap.specs.Names.{named};
+ghost use Rattle.rip_heap.specs.Region.{valued, without};
+ghost use Rattle.rip_heap.specs.ScopeSlots.{binding_of, bound};
+ghost use Rattle.rip_heap.specs.Scopes.{bindings_of, parent_of};
 ghost use Rattle.rip_heap.specs.Stored.{head_of, object_of, properties_of, stored_with};
 
 use crate::class::Class;
-use crate::name_indexes::NameIndexes;
-use crate::names::{first_named, name_at};
-use crate::object_rows::ObjectRows;
-use crate::property::Property;
+use crate::region::Region;
 use crate::stored::StoredObject;
+use rip_buckets::NameIndexes;
+use rip_chains::OwnProperties;
+use rip_pages::Property;
 use rip_values::{FixedText, Limit, NoMemory, Pool, Refused, Span, Value};
 use std::alloc::Global;
 use std::marker::Model;
 
-/// The texts and the objects of a heap. Objects of many properties have an index from names to properties beside them,
-/// which contracts do not see: it is why texts are changed through these calls alone.
+/// The texts, the objects and the scopes of a heap. Objects of many properties have an index from names to properties
+/// beside them, which contracts do not see: it is why texts are changed through these calls alone.
 #[derive(Debug, Drop)]
 pub struct NamedObjects {
     pool: Pool,
-    rows: ObjectRows,
+    region: Region,
     indexes: NameIndexes,
     // How many units the texts had when a property was last added to an object. No name in an index lies behind them.
     names_end: u32,
 }
 
 impl Model for NamedObjects {
-    ghost use Rattle.std.specs.Prelude.{◌≡◌, ◌≤◌, length};
-    ghost use Rattle.rip_heap.specs.NameIndex.{AreIndexes, first_texts};
-    ghost use Rattle.rip_heap.specs.NamedObjects.{Named};
-    ghost use Rattle.rip_heap.specs.Stored.{all_stored, objects_of};
+    ghost use Rattle.std.specs.Prelude.{◌≤◌, length};
+    ghost use Rattle.rip_heap.specs.NamedObjects.{Named, first_texts, named_in};
+    ghost use Rattle.rip_heap.specs.Region.{AreIndexes, listed};
 
     ghost Value = { Named };
 
-    ghost view = { λ n. record {
-      pool = n.pool;
-      objects = objects_of (all_stored n.rows.heads n.rows.properties) n.rows.elements;
-      rooms = n.rows.rooms;
-    } };
+    ghost view = { λ n. named_in n.pool (listed n.region) };
 
     ghost invariant = { λ n. record {
       named : n.names_end ≤ length n.pool.units;
-      indexed : AreIndexes (first_texts n.pool n.names_end)
-          (all_stored n.rows.heads n.rows.properties) n.indexes;
-      listed : length n.rows.elements ≡ length (all_stored n.rows.heads n.rows.properties);
-      kept : length n.rows.properties ≡ length n.rows.heads;
+      indexed : AreIndexes (first_texts n.pool n.names_end) n.region.pages n.indexes.blocks;
     } };
 }
 
 impl NamedObjects {
-    /// These texts, and no objects yet. The memory for so many objects, properties and elements together is taken here.
-    #[tactic(auto, using(crate::proofs::NameIndexLemmas::indexes_none))]
+    /// These texts, and no objects and no scopes yet. The memory for so many objects, properties, elements, scopes and
+    /// bindings together is taken here.
     pub fn new(alloc: Global, pool: Pool, cells: u32) -> Result<NamedObjects, NoMemory>
         ensures { IfOk result (λ named. named ≡ record {
           pool = pool;
           objects = [];
+          scopes = [];
           rooms = record { spent = 0; room = cells };
         }) }
     {
         Ok(NamedObjects {
             pool,
-            rows: ObjectRows::make(alloc, cells)?,
+            region: Region::make(alloc, cells)?,
             indexes: NameIndexes::make(alloc, cells)?,
             names_end: 0,
         })
@@ -81,60 +78,54 @@ impl NamedObjects {
     }
 
     /// How many objects there are.
-    #[tactic(auto, using(crate::proofs::StoredLemmas::objects_count, crate::proofs::StoredLemmas::stored_count))]
-    pub fn len(&self) -> usize
+    pub fn len(&self) -> u32
         ensures { result ≡ length self.now.objects }
     {
-        self.rows.len()
+        self.region.len()
     }
 
     /// The object at this place, but for its properties and its elements.
-    pub fn get(&self, at: usize) -> Option<&StoredObject>
-        ensures { MatchOption result (option_map head_of (slice_get self.now.objects at) ≡ None)
-            (λ s. option_map head_of (slice_get self.now.objects at) ≡ Some s.now) }
+    pub fn get(&self, at: u32) -> Option<StoredObject>
+        ensures { result ≡ option_map head_of (slice_get self.now.objects at) }
     {
-        match self.rows.head(at) {
-            Some(object) => Some(object),
-            None => None,
-        }
+        self.region.head(at)
     }
 
-    /// The property at this place of the object at that place.
-    pub fn property(&self, at: usize, place: u32) -> Option<Property>
-        ensures { result ≡ slice_get (properties_of (slice_get self.now.objects at)) place }
+    /// The property of this number of the object at that place, in the order of making.
+    pub fn property(&self, at: u32, number: u32) -> Option<Property>
+        ensures { result ≡ slice_get (properties_of (slice_get self.now.objects at)) number }
     {
-        self.rows.properties().get(at, place)
+        self.region.property(at, number)
+    }
+
+    /// The properties of the object at this place, one by one.
+    pub fn own_properties(&self, at: u32) -> OwnProperties<'_>
+        ensures { result ≡ properties_of (slice_get self.now.objects at) }
+    {
+        self.region.own_properties(at)
+    }
+
+    /// The value of the property with this name of the object at this place.
+    pub fn own(&self, at: u32, name: Span) -> Option<Value>
+        requires within { at < length self.now.objects }
+        ensures { result
+            ≡ named self.now.pool name (properties_of (slice_get self.now.objects at)) }
+    {
+        self.region.own(&self.pool, &self.indexes, at, name)
     }
 
     /// How many elements the object at this place has.
-    #[tactic(auto, using(crate::proofs::StoredLemmas::elements_at_place))]
-    pub fn element_count(&self, at: usize) -> u32
+    pub fn element_count(&self, at: u32) -> u32
         ensures { result ≡ length (elements_of (slice_get self.now.objects at)) }
     {
-        self.rows.element_count(at)
+        self.region.element_count(at)
     }
 
     /// The element at this place of the object at that place.
-    #[tactic(auto, using(crate::proofs::StoredLemmas::elements_at_place))]
-    pub fn element(&self, at: usize, place: u32) -> Option<Value>
+    pub fn element(&self, at: u32, place: u32) -> Option<Value>
         ensures { result ≡ slice_get (elements_of (slice_get self.now.objects at)) place }
     {
-        self.rows.element(at, place)
-    }
-
-    /// The place of the property with this name of the object at this place.
-    pub fn place(&self, at: usize, name: Span) -> Option<u32>
-        requires within { at < length self.now.objects }
-        ensures place { result ≡ place_at self.now at name }
-        ensures inside { IfSome result
-            (λ place. IfSome (slice_get self.now.objects at) (λ o. place < length o.properties)) }
-    {
-        if self.indexes.has(at) {
-            self.indexes
-                .find(&self.pool, self.rows.properties(), at, name)
-        } else {
-            first_named(&self.pool, self.rows.properties(), at, name)
-        }
+        self.region.element(at, place)
     }
 
     // TEXTS
@@ -222,19 +213,23 @@ impl NamedObjects {
 
     /// Puts an object with no properties and no elements behind the others.
     pub fn push(&mut self, object: StoredObject)
+        requires storable { IsStorable object }
         requires room { self.old.rooms.spent + 1 ≤ self.old.rooms.room }
         ensures { self.new ≡ with_another self.old (object_of (stored_with object []) []) 1 }
     {
-        self.rows.add(object, &[], &[]);
+        self.region.add(object);
     }
 
     /// Puts an object with this property, and no elements, behind the others.
     pub fn push_with(&mut self, object: StoredObject, property: Property)
+        requires storable { IsStorable object }
         requires room { self.old.rooms.spent + 2 ≤ self.old.rooms.room }
         ensures { self.new
             ≡ with_another self.old (object_of (stored_with object (property ∷ [])) []) 2 }
     {
-        self.rows.add(object, &[property], &[]);
+        let at = self.len();
+        self.push(object);
+        self.add_property(at, property.name, property.value);
     }
 
     /// Puts an array of these elements behind the others.
@@ -242,12 +237,14 @@ impl NamedObjects {
         requires room { self.old.rooms.spent + (1 + length items.now) ≤ self.old.rooms.room }
         ensures { self.new ≡ with_another self.old (array_object items.now) (1 + length items.now) }
     {
-        self.rows
-            .add(StoredObject::bare(Class::Array, None), &[], items);
+        let at = self.len();
+        self.push(StoredObject::bare(Class::Array, None));
+        self.push_elements(at, items);
     }
 
     /// Puts an array of the elements of the object at this place, from one place up to another, behind the others.
-    pub fn push_piece(&mut self, at: usize, from: u32, to: u32)
+    pub fn push_piece(&mut self, at: u32, from: u32, to: u32)
+        requires within { at < length self.old.objects }
         requires room { self.old.rooms.spent
             + (1 + length (slice_range (elements_of (slice_get self.old.objects at)) from to))
             ≤ self.old.rooms.room }
@@ -255,8 +252,28 @@ impl NamedObjects {
             (array_object (slice_range (elements_of (slice_get self.old.objects at)) from to))
             (1 + length (slice_range (elements_of (slice_get self.old.objects at)) from to)) }
     {
-        self.rows
-            .add_piece(StoredObject::bare(Class::Array, None), at, from, to);
+        let made = self.len();
+        let end = to.min(self.element_count(at));
+        let first = from.min(end);
+        self.push(StoredObject::bare(Class::Array, None));
+        self.copy_elements(made, at, first, end);
+    }
+
+    // Puts the elements of an object, from one place up to another, behind those of an array.
+    fn copy_elements(&mut self, to: u32, at: u32, first: u32, end: u32)
+        requires array { IsArrayAt self.old.objects to }
+        requires apart { at < to }
+        requires range { first ≤ end }
+        requires within { end ≤ length (elements_of (slice_get self.old.objects at)) }
+        requires room { self.old.rooms.spent + (end - first) ≤ self.old.rooms.room }
+        ensures { self.new ≡ with_paid_edit self.old to
+            (with_more (slice_range (elements_of (slice_get self.old.objects at)) first end))
+            (end - first) }
+    {
+        for place in first..end {
+            let item = self.element(at, place).unwrap();
+            self.push_element(to, item);
+        }
     }
 
     /// Puts an error with this message behind the others.
@@ -267,30 +284,28 @@ impl NamedObjects {
             (record self.old { pool = with_text self.old.pool message.now (length message.now) })
             (error_object class (span_behind self.old.pool message.now)) 2 }
     {
-        let text = self.pool.add(alloc, message).unwrap();
+        let text = self.add(alloc, message).unwrap();
         let property = Property {
             name: FixedText::Message.span(),
             value: Value::Text(text),
         };
-        self.rows
-            .add(StoredObject::bare(class, None), &[property], &[]);
+        self.push_with(StoredObject::bare(class, None), property);
     }
 
-    /// Gives the property at this place of an object the value.
-    pub fn set_value(&mut self, at: usize, place: u32, v: Value)
+    /// Gives the property with this name of an object the value, and tells whether there is one.
+    pub fn replace(&mut self, at: u32, name: Span, v: Value) -> bool
         requires within { at < length self.old.objects }
-        ensures edited { self.new
-            ≡ with_edit self.old at
-            (λ o. record o { properties = with_value o.properties place v }) }
+        ensures found { result ≡ is_some (place_at self.old at name) }
+        ensures edited { self.new ≡ with_edit self.old at
+            (λ o. record o { properties = valued o.properties v (place_at self.old at name) }) }
+        ensures kept { result ≡ false → self.new ≡ self.old }
         ensures keeps { KeepObjects self.old.objects self.new.objects }
     {
-        let name = name_at(self.rows.properties(), at, place);
-        let property = Property { name, value: v };
-        self.rows.set_property(at, place, property);
+        self.region.replace(&self.pool, &self.indexes, at, name, v)
     }
 
     /// Puts a property behind the others of an object.
-    pub fn add_property(&mut self, at: usize, name: Span, value: Value)
+    pub fn add_property(&mut self, at: u32, name: Span, value: Value)
         requires within { at < length self.old.objects }
         requires room { self.old.rooms.spent + 1 ≤ self.old.rooms.room }
         ensures edited { self.new ≡ with_paid_edit self.old at
@@ -298,63 +313,128 @@ impl NamedObjects {
             1 }
         ensures keeps { KeepObjects self.old.objects self.new.objects }
     {
-        self.rows.push_property(at, Property { name, value });
-        self.indexes.renew(&self.pool, at, self.rows.properties());
+        self.region.push_property(&self.pool, &mut self.indexes, at, Property { name, value });
         self.names_end = self.pool.end();
     }
 
-    /// Takes the property at this place of an object away.
-    pub fn remove_property(&mut self, at: usize, place: u32)
+    /// Takes the property with this name of an object away, and tells whether there was one.
+    pub fn remove(&mut self, at: u32, name: Span) -> bool
         requires within { at < length self.old.objects }
-        ensures edited { self.new
-            ≡ with_edit self.old at (λ o. record o { properties = remove o.properties place }) }
+        ensures found { result ≡ is_some (place_at self.old at name) }
+        ensures edited { self.new ≡ with_edit self.old at
+            (λ o. record o { properties = without o.properties (place_at self.old at name) }) }
         ensures keeps { KeepObjects self.old.objects self.new.objects }
     {
-        self.indexes.drop_name(at, place);
-        self.rows.remove_property(at, place);
+        self.region
+            .remove_property(&self.pool, &mut self.indexes, at, name)
     }
 
     // ELEMENTS
 
     /// Gives the element at this place of an object the value. Past the end nothing is changed.
-    pub fn set_element(&mut self, at: usize, place: u32, v: Value)
+    pub fn set_element(&mut self, at: u32, place: u32, v: Value)
         requires within { at < length self.old.objects }
         ensures edited { self.new
             ≡ with_edit self.old at (λ o. record o { elements = slice_set o.elements place v }) }
         ensures keeps { KeepObjects self.old.objects self.new.objects }
     {
-        self.rows.set_element(at, place, v);
+        self.region.set_element(at, place, v);
     }
 
-    /// Puts these elements behind the others of an object.
-    pub fn push_elements(&mut self, at: usize, items: &[Value])
-        requires within { at < length self.old.objects }
+    /// Puts an element behind the others of an array.
+    pub fn push_element(&mut self, at: u32, v: Value)
+        requires array { IsArrayAt self.old.objects at }
+        requires room { self.old.rooms.spent + 1 ≤ self.old.rooms.room }
+        ensures edited { self.new ≡ with_paid_edit self.old at
+            (λ o. record o { elements = o.elements ++ v ∷ [] }) 1 }
+        ensures keeps { KeepObjects self.old.objects self.new.objects }
+    {
+        self.region.push_element(at, v);
+    }
+
+    /// Puts these elements behind the others of an array.
+    pub fn push_elements(&mut self, at: u32, items: &[Value])
+        requires array { IsArrayAt self.old.objects at }
         requires room { self.old.rooms.spent + length items.now ≤ self.old.rooms.room }
         ensures edited { self.new ≡ with_paid_edit self.old at
             (λ o. record o { elements = o.elements ++ items.now }) (length items.now) }
         ensures keeps { KeepObjects self.old.objects self.new.objects }
     {
-        self.rows.push_elements(at, items);
+        for item in items {
+            self.push_element(at, *item);
+        }
     }
 
     /// Takes the last element of an object away and gives it.
-    pub fn pop_element(&mut self, at: usize) -> Option<Value>
+    pub fn pop_element(&mut self, at: u32) -> Option<Value>
         requires within { at < length self.old.objects }
         ensures last { result ≡ last_of (elements_of (slice_get self.old.objects at)) }
         ensures left { self.new
             ≡ with_edit self.old at (λ o. record o { elements = without_last o.elements }) }
         ensures keeps { KeepObjects self.old.objects self.new.objects }
     {
-        self.rows.pop_element(at)
+        let count = self.element_count(at);
+        let last = count.saturating_sub(1);
+        let item = self.element(at, last);
+        self.cut_elements(at, last);
+        item
     }
 
     /// Takes the elements of an object from this count on away.
-    pub fn cut_elements(&mut self, at: usize, count: u32)
+    pub fn cut_elements(&mut self, at: u32, count: u32)
         requires within { at < length self.old.objects }
         ensures edited { self.new
             ≡ with_edit self.old at (λ o. record o { elements = take count o.elements }) }
         ensures keeps { KeepObjects self.old.objects self.new.objects }
     {
-        self.rows.cut_elements(at, count);
+        self.region.cut_elements(at, count);
+    }
+
+    // SCOPES
+
+    /// How many scopes there are.
+    pub fn scopes(&self) -> u32
+        ensures { result ≡ length self.now.scopes }
+    {
+        self.region.scopes()
+    }
+
+    /// The scope around the scope of that number.
+    pub fn parent(&self, scope: u32) -> Option<u32>
+        ensures { result ≡ parent_of (slice_get self.now.scopes scope) }
+    {
+        self.region.parent(scope)
+    }
+
+    /// How many bindings the scope of that number has.
+    pub fn names(&self, scope: u32) -> u32
+        ensures { result ≡ length (bindings_of (slice_get self.now.scopes scope)) }
+    {
+        self.region.names(scope)
+    }
+
+    /// The value of the binding at this place.
+    pub fn binding(&self, scope: u32, place: u32) -> Option<Value>
+        ensures { result ≡ binding_of (slice_get self.now.scopes scope) place }
+    {
+        self.region.binding(scope, place)
+    }
+
+    /// Gives the binding at this place the value. Where there is none nothing is changed.
+    pub fn bind(&mut self, scope: u32, place: u32, v: Value)
+        ensures { self.new ≡ record self.old {
+          scopes = bound self.old.scopes scope place v (slice_get self.old.scopes scope);
+        } }
+    {
+        self.region.bind(scope, place, v);
+    }
+
+    /// Puts a scope behind the others, with so many bindings, none of which has a value yet.
+    pub fn push_scope(&mut self, parent: Option<u32>, names: u32)
+        requires room { self.old.rooms.spent + (1 + names) ≤ self.old.rooms.room }
+        ensures { self.new ≡ with_scope self.old
+            (record { parent = parent; bindings = replicate names None }) (1 + names) }
+    {
+        self.region.push_scope(parent, names);
     }
 }

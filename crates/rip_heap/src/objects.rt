@@ -1,5 +1,6 @@
 ghost use Rattle.std.specs.Prelude.{◌≡◌, ◌≤◌, ◌+◌, ◌<◌, [], ⊤, IfOk, MatchOption, IfSome, None, Some, option_map, slice_get, length};
 ghost use Rattle.rip_heap.specs.Growth.{Grows};
+ghost use Rattle.rip_heap.specs.HeadSlots.{IsStorable};
 ghost use Rattle.rip_heap.specs.Objects.{adding, kept_proto, new_object, new_of, new_function};
 ghost use Rattle.rip_heap.specs.Step.{Makes, TakesNoMemory};
 ghost use Rattle.rip_heap.specs.Stored.{head_of, object_of, stored_with};
@@ -7,8 +8,8 @@ ghost use Rattle.rip_heap.specs.World.{object_at, IsObject, class_of, proto_of, 
 
 use crate::class::Class;
 use crate::heap::Heap;
-use crate::property::Property;
 use crate::stored::StoredObject;
+use rip_pages::Property;
 use rip_values::{FIRST_HEAP_OBJECT, FixedText, Limit, Refused, Value};
 use std::alloc::Global;
 
@@ -48,7 +49,7 @@ impl Heap {
         ensures grows { Grows self.old self.new }
     {
         self.room_for(COST_OF_FUNCTION as usize)?;
-        let prototype = FIRST_HEAP_OBJECT + self.parts.named.len() as u32;
+        let prototype = FIRST_HEAP_OBJECT + self.parts.named.len();
         let bare = StoredObject::bare(Class::Prototype, None);
         let property = Property {
             name: FixedText::Prototype.span(),
@@ -94,20 +95,20 @@ impl Heap {
     }
 
     // The object of that number, but for its properties and its elements.
-    pub(crate) fn object(&self, number: u32) -> Option<&StoredObject>
+    pub(crate) fn object(&self, number: u32) -> Option<StoredObject>
         ensures object { MatchOption result (object_at self.now number ≡ None)
-            (λ s. option_map head_of (object_at self.now number) ≡ Some s.now) }
+            (λ s. option_map head_of (object_at self.now number) ≡ Some s) }
         ensures older { MatchOption result ⊤
-            (λ s. IfSome s.now.proto (λ proto. (first_object ≤ proto) × (proto < number))) }
+            (λ s. IfSome s.proto (λ proto. (first_object ≤ proto) × (proto < number))) }
     {
         if number < FIRST_HEAP_OBJECT {
             return None;
         }
-        self.parts.named.get((number - FIRST_HEAP_OBJECT) as usize)
+        self.parts.named.get(number - FIRST_HEAP_OBJECT)
     }
 
     // The place of the object of that number in the list of objects.
-    pub(crate) fn place_of_object(&self, number: u32) -> Option<usize>
+    pub(crate) fn place_of_object(&self, number: u32) -> Option<u32>
         ensures { MatchOption result (object_at self.now number ≡ None)
             (λ i. (number ≡ first_object + i) × (i < length self.now.objects)
             × (slice_get self.now.objects i ≡ object_at self.now number)) }
@@ -115,7 +116,7 @@ impl Heap {
         if number < FIRST_HEAP_OBJECT {
             return None;
         }
-        let place = (number - FIRST_HEAP_OBJECT) as usize;
+        let place = number - FIRST_HEAP_OBJECT;
         if place < self.parts.named.len() {
             Some(place)
         } else {
@@ -125,7 +126,8 @@ impl Heap {
 
     // Puts an object that is its own cost behind the others.
     fn add_object(&mut self, object: StoredObject) -> Result<u32, Refused>
-        requires { IfSome object.proto
+        requires storable { IsStorable object }
+        requires older { IfSome object.proto
             (λ proto. (first_object ≤ proto) × (proto < first_object + length self.old.objects)) }
         ensures made { Makes Limit.Cells
             (charging cost_of_object self.old (adding (object_of (stored_with object []) [])))
@@ -135,7 +137,7 @@ impl Heap {
         ensures grows { Grows self.old self.new }
     {
         self.room_for(1)?;
-        let number = FIRST_HEAP_OBJECT + self.parts.named.len() as u32;
+        let number = FIRST_HEAP_OBJECT + self.parts.named.len();
         self.parts.named.push(object);
         self.used += 1;
         Ok(number)

@@ -1,10 +1,11 @@
-ghost use Rattle.std.specs.Prelude.{◌≡◌, is_some, option_map, slice_get};
+ghost use Rattle.std.specs.Prelude.{◌≡◌, is_some};
 ghost use Rattle.rip_heap.specs.Growth.{Grows};
-ghost use Rattle.rip_heap.specs.Objects.{own, own_at, find, or_up, put, removed};
+ghost use Rattle.rip_heap.specs.Objects.{own, own_at, own_properties, find, or_up, put, removed};
 ghost use Rattle.rip_heap.specs.Step.{Changes, TakesNoMemory};
 ghost use Rattle.rip_heap.specs.World.{object_at, proto_of};
 
 use crate::heap::Heap;
+use rip_chains::OwnProperties;
 use rip_values::{Refused, Span, Value};
 use std::alloc::Global;
 
@@ -14,9 +15,7 @@ impl Heap {
         ensures { result ≡ own self.now object name }
     {
         let at = self.place_of_object(object)?;
-        let place = self.parts.named.place(at, name)?;
-        let found = self.parts.named.property(at, place)?;
-        Some(found.value)
+        self.parts.named.own(at, name)
     }
 
     /// The value of the property with this name on the object or, going up, on the first of its prototypes that has one
@@ -48,6 +47,16 @@ impl Heap {
         Some((found.name, found.value))
     }
 
+    /// The own properties of the object, one by one in the order of making. What is no object of this heap has none.
+    pub fn own_properties(&self, object: u32) -> OwnProperties<'_>
+        ensures { result ≡ own_properties self.now object }
+    {
+        let at = self
+            .place_of_object(object)
+            .unwrap_or(self.parts.named.len());
+        self.parts.named.own_properties(at)
+    }
+
     /// Gives the object's own property with this name the value; where there is none, makes it behind the others.
     /// An existing property keeps the span that it was made with. What is no object of this heap stays as it is.
     pub fn put(&mut self, alloc: Global, object: u32, name: Span, v: Value) -> Result<(), Refused>
@@ -59,14 +68,14 @@ impl Heap {
         let Some(at) = self.place_of_object(object) else {
             return Ok(());
         };
-        match self.parts.named.place(at, name) {
-            Some(found) => self.parts.named.set_value(at, found, v),
-            None => {
-                self.room_for(1)?;
-                self.parts.named.add_property(at, name, v);
-                self.used += 1;
-            }
+        // The value is passed on twice, so the first call takes a copy.
+        let value = v;
+        if self.parts.named.replace(at, name, value) {
+            return Ok(());
         }
+        self.room_for(1)?;
+        self.parts.named.add_property(at, name, v);
+        self.used += 1;
         Ok(())
     }
 
@@ -80,12 +89,6 @@ impl Heap {
         let Some(at) = self.place_of_object(object) else {
             return false;
         };
-        match self.parts.named.place(at, name) {
-            Some(found) => {
-                self.parts.named.remove_property(at, found);
-                true
-            }
-            None => false,
-        }
+        self.parts.named.remove(at, name)
     }
 }

@@ -24,9 +24,9 @@ impl Heap {
         ensures grows { Grows self.old self.new }
     {
         self.room_for(names as usize + 1)?;
-        let number = self.parts.scopes.len() as u32;
+        let number = self.parts.named.scopes();
         let parent = self.kept_parent(parent);
-        self.parts.scopes.push(parent, names);
+        self.parts.named.push_scope(parent, names);
         self.used += names + 1;
         Ok(number)
     }
@@ -35,7 +35,7 @@ impl Heap {
     pub fn binding(&self, scope: u32, place: u32) -> Option<Value>
         ensures { result ≡ binding self.now scope place }
     {
-        self.parts.scopes.binding(scope, place)
+        self.parts.named.binding(scope, place)
     }
 
     /// Gives the binding at this place the value. Where there is no such binding nothing is changed.
@@ -43,7 +43,7 @@ impl Heap {
         ensures set { self.new ≡ with_binding self.old scope place v }
         ensures grows { Grows self.old self.new }
     {
-        self.parts.scopes.bind(scope, place, v);
+        self.parts.named.bind(scope, place, v);
     }
 
     /// The scope around the scope, which was made before it.
@@ -51,21 +51,21 @@ impl Heap {
         ensures value { result ≡ parent_of (scope_at self.now scope) }
         ensures older { IfSome result (λ parent. (parent < scope) × IsScope self.now parent) }
     {
-        self.parts.scopes.parent(scope)
+        self.parts.named.parent(scope)
     }
 
     /// How many bindings the scope has. What is no scope of this heap has none.
     pub fn names(&self, scope: u32) -> u32
         ensures { result ≡ length (bindings_of (scope_at self.now scope)) }
     {
-        self.parts.scopes.names(scope)
+        self.parts.named.names(scope)
     }
 
     fn kept_parent(&self, parent: Option<u32>) -> Option<u32>
         ensures { result ≡ kept_parent self.now parent }
     {
         let number = parent?;
-        if (number as usize) < self.parts.scopes.len() {
+        if number < self.parts.named.scopes() {
             Some(number)
         } else {
             None

@@ -11,7 +11,7 @@ use Rattle.rip_values.specs.Pool.{text_at}
 use Rattle.rip_heap.specs.declared.keys.Found.{Found}
 use Rattle.rip_heap.specs.declared.keys.Found.TheVariants.{Here, Barred}
 use Rattle.rip_heap.specs.declared.keys.Key.TheVariants.{Name, Index}
-use Rattle.rip_heap.specs.declared.property.Property.{Property}
+use Rattle.rip_pages.specs.declared.property.Property.{Property}
 use Rattle.rip_heap.specs.Keys.{is_barred, is_underscored, further, look_up, look_up_within}
 use Rattle.rip_heap.specs.Laws.{PutsAreRead}
 use Rattle.rip_heap.specs.Names.{place_of}

@@ -13,7 +13,7 @@ use Rattle.rip_tree.specs.Program.{Code}
 use Rattle.rip_heap.specs.Objects.{own_at}
 use Rattle.rip_heap.specs.World.{World, Object, object_at, class_of, code_of}
 use Rattle.rip_heap.specs.declared.class.Class.{Class}
-use Rattle.rip_heap.specs.declared.property.Property.{Property}
+use Rattle.rip_pages.specs.declared.property.Property.{Property}
 use Rattle.rip_script.specs.Steps.{comma_before}
 use Rattle.rip_script.specs.Values.{builtin_text, contents_text, function_text, is_around, is_function, name_text, object_by_class, object_text, properties_of, property_text, unless_around, value_text}
 

@@ -18,7 +18,7 @@ use Rattle.rip_heap.specs.Arrays.{elements_at}
 use Rattle.rip_heap.specs.World.{World, Object, object_at, class_of, code_of}
 use Rattle.rip_heap.specs.declared.class.Class.{Class}
 use Rattle.rip_heap.specs.declared.class.Class.TheVariants as C
-use Rattle.rip_heap.specs.declared.property.Property.{Property}
+use Rattle.rip_pages.specs.declared.property.Property.{Property}
 
 -- TEXTS
 

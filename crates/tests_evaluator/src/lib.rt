@@ -1,4 +1,4 @@
-//! Tests of rows, the heap, operators, members, built-in functions and runs: what no clause says, and each public call once with ample memory.
+//! Tests of the heap, operators, members, built-in functions and runs: what no clause says, and each public call once with ample memory.
 //!
 //! They stand above the crates that they try, since a crate with tests is proved twice.
 #![tactic(auto)]
@@ -11,7 +11,5 @@ mod heap;
 mod members;
 #[cfg(test)]
 mod ops;
-#[cfg(test)]
-mod rows;
 #[cfg(test)]
 mod runs;

@@ -7,9 +7,7 @@ use Rattle.rip_heap.specs.Arrays.{elements_at}
 use Rattle.rip_heap.specs.World.{object_at}
 use Rattle.rip_convert.specs.Arguments.{properties_of, or_fault, text_fault, elements_fault, fields_fault, fault_of}
 use Rattle.rip_convert.specs.Written.{mark_of}
-use Rattle.rip_convert.proofs.FirstFault.{or_first, or_later, element_fault, field_fault, properties_few, fault_object, deeper_none}
-use Rattle.rip_convert.proofs.Judging.{property_end}
-use Rattle.rip_convert.proofs.Placing.{is_property}
+use Rattle.rip_convert.proofs.FirstFault.{or_first, or_later, element_fault, properties_few, fault_object, deeper_none}
 use Rattle.rip_convert.proofs.faults.+faults.Goals as goal
 
 pub elements_fault-returns-then-is_some-clause-fault : goal.elements_fault-returns-then-is_some-clause-fault
@@ -39,61 +37,51 @@ elements_fault-loop-place-preserved t c =
 pub fields_fault-returns-then-is_some-2-clause-fault : goal.fields_fault-returns-then-is_some-2-clause-fault
 fields_fault-returns-then-is_some-2-clause-fault t c =
     let w = c.args.heap.now in
-    let o = object_at w c.args.object in
     let walk = fault_of c.args.levels w in
-    let name = c.in-Some.name in
-    let rest = or_fault (walk c.in-Some.v) (fields_fault walk w.pool (drop (c.loop-name.place + 1) (properties_of o))) in
-    let spelling : c.get.result.now ≡ text_at w.pool name = c.get.ensures.text ∙ ap (λ p. text_at p name) c.pool.ensures in
-    let here = field_fault walk w.pool o c.loop-name.place name c.in-Some.v (sym c.in-Some.ensures) in
+    let property = c.in-Some.property in
+    let rest = or_fault (walk property.value) (fields_fault walk w.pool c.next.new.self) in
+    let spelling : c.get.result.now ≡ text_at w.pool property.name = c.get.ensures.text ∙ ap (λ p. text_at p property.name) c.pool.ensures in
+    let here = ap (fields_fault walk w.pool) c.in-Some.ensures.steps in
     or_first c.text_fault-of_name.result rest (sym c.is_some-in-Some.ensures ∙ c.if-is_some-2.true)
-    ∙ ap (λ o. or_fault o rest) (c.text_fault-of_name.ensures ∙ ap text_fault spelling) ∙ sym here ∙ c.loop-name.invariant.0
-    ∙ sym (properties_few walk w.pool (properties_of o) c.loop-name.invariant.2)
+    ∙ ap (λ o. or_fault o rest) (c.text_fault-of_name.ensures ∙ ap text_fault spelling) ∙ sym here ∙ c.loop-property.invariant.0
+    ∙ sym (properties_few walk w.pool (properties_of (object_at w c.args.object)) c.loop-property.invariant.2)
 
 pub fields_fault-returns-then-is_some-3-clause-fault : goal.fields_fault-returns-then-is_some-3-clause-fault
 fields_fault-returns-then-is_some-3-clause-fault t c =
     let w = c.args.heap.now in
-    let o = object_at w c.args.object in
     let walk = fault_of c.args.levels w in
-    let name = c.in-Some.name in
-    let end = fields_fault walk w.pool (drop (c.loop-name.place + 1) (properties_of o)) in
-    let rest = or_fault (walk c.in-Some.v) end in
-    let spelling : c.get.result.now ≡ text_at w.pool name = c.get.ensures.text ∙ ap (λ p. text_at p name) c.pool.ensures in
-    let here = field_fault walk w.pool o c.loop-name.place name c.in-Some.v (sym c.in-Some.ensures) in
+    let property = c.in-Some.property in
+    let end = fields_fault walk w.pool c.next.new.self in
+    let rest = or_fault (walk property.value) end in
+    let spelling : c.get.result.now ≡ text_at w.pool property.name = c.get.ensures.text ∙ ap (λ p. text_at p property.name) c.pool.ensures in
+    let here = ap (fields_fault walk w.pool) c.in-Some.ensures.steps in
     or_first c.first_fault-of_value.result end (sym c.is_some-in-Some-2.ensures ∙ c.if-is_some-3.true) ∙ ap (λ o. or_fault o end) c.first_fault-of_value.ensures.fault
     ∙ sym (or_later c.text_fault-of_name.result rest (sym c.is_some-in-Some.ensures ∙ c.if-is_some-2.false))
-    ∙ ap (λ o. or_fault o rest) (c.text_fault-of_name.ensures ∙ ap text_fault spelling) ∙ sym here ∙ c.loop-name.invariant.0
-    ∙ sym (properties_few walk w.pool (properties_of o) c.loop-name.invariant.2)
+    ∙ ap (λ o. or_fault o rest) (c.text_fault-of_name.ensures ∙ ap text_fault spelling) ∙ sym here ∙ c.loop-property.invariant.0
+    ∙ sym (properties_few walk w.pool (properties_of (object_at w c.args.object)) c.loop-property.invariant.2)
 
-pub fields_fault-loop-name-smaller : goal.fields_fault-loop-name-smaller
-fields_fault-loop-name-smaller t c =
+pub fields_fault-loop-property-preserved : goal.fields_fault-loop-property-preserved
+fields_fault-loop-property-preserved t c =
     let w = c.args.heap.now in
-    let there : c.loop-name.place < length (properties_of (object_at w c.args.object)) = is_property w c.args.object c.loop-name.place (ap is_some (sym c.in-Some.ensures)) in
-    omega (arith, there)
-
-pub fields_fault-loop-name-preserved : goal.fields_fault-loop-name-preserved
-fields_fault-loop-name-preserved t c =
-    let w = c.args.heap.now in
-    let o = object_at w c.args.object in
     let walk = fault_of c.args.levels w in
-    let name = c.in-Some.name in
-    let end = fields_fault walk w.pool (drop (c.loop-name.place + 1) (properties_of o)) in
-    let rest = or_fault (walk c.in-Some.v) end in
-    let spelling : c.get.result.now ≡ text_at w.pool name = c.get.ensures.text ∙ ap (λ p. text_at p name) c.pool.ensures in
-    let here = field_fault walk w.pool o c.loop-name.place name c.in-Some.v (sym c.in-Some.ensures) in (
+    let property = c.in-Some.property in
+    let end = fields_fault walk w.pool c.next.new.self in
+    let rest = or_fault (walk property.value) end in
+    let spelling : c.get.result.now ≡ text_at w.pool property.name = c.get.ensures.text ∙ ap (λ p. text_at p property.name) c.pool.ensures in
+    let here = ap (fields_fault walk w.pool) c.in-Some.ensures.steps in (
       sym (or_later c.first_fault-of_value.result end (sym c.is_some-in-Some-2.ensures ∙ c.if-is_some-3.false)) ∙ ap (λ o. or_fault o end) c.first_fault-of_value.ensures.fault
           ∙ sym (or_later c.text_fault-of_name.result rest (sym c.is_some-in-Some.ensures ∙ c.if-is_some-2.false))
-          ∙ ap (λ o. or_fault o rest) (c.text_fault-of_name.ensures ∙ ap text_fault spelling) ∙ sym here ∙ c.loop-name.invariant.0,
+          ∙ ap (λ o. or_fault o rest) (c.text_fault-of_name.ensures ∙ ap text_fault spelling) ∙ sym here ∙ c.loop-property.invariant.0,
       c.first_fault-of_value.ensures.walked,
-      c.loop-name.invariant.2,
+      c.loop-property.invariant.2,
     )
 
 pub fields_fault-returns-clause-fault : goal.fields_fault-returns-clause-fault
 fields_fault-returns-clause-fault t c =
     let w = c.args.heap.now in
-    let o = object_at w c.args.object in
     let walk = fault_of c.args.levels w in
-    sym (property_end (fields_fault walk w.pool) o c.loop-name.place (sym c.in_default.ensures)) ∙ c.loop-name.invariant.0
-    ∙ sym (properties_few walk w.pool (properties_of o) c.loop-name.invariant.2)
+    sym (ap (fields_fault walk w.pool) c.in_default.ensures.steps.0) ∙ c.loop-property.invariant.0
+    ∙ sym (properties_few walk w.pool (properties_of (object_at w c.args.object)) c.loop-property.invariant.2)
 
 pub object_fault-returns-then-mark-levels-clause-fault : goal.object_fault-returns-then-mark-levels-clause-fault
 object_fault-returns-then-mark-levels-clause-fault t c =

@@ -26,11 +26,11 @@ invariant-elements_fault-loop-place l =
     (elements_fault (fault_of l.levels l.heap) (drop l.place (elements_at l.heap l.array)) ≡ elements_fault (fault_of l.levels l.heap) (elements_at l.heap l.array))
     × (AreWalked l.heap l.marks)
 
-abbrev pub invariant-fields_fault-loop-name : goal.invariant-fields_fault-loop-name
-invariant-fields_fault-loop-name l =
-    (fields_fault (fault_of l.levels l.heap) l.heap.pool (drop l.place (properties_of (object_at l.heap l.object)))
+abbrev pub invariant-fields_fault-loop-property : goal.invariant-fields_fault-loop-property
+invariant-fields_fault-loop-property l =
+    (fields_fault (fault_of l.levels l.heap) l.heap.pool l.own
     ≡ fields_fault (fault_of l.levels l.heap) l.heap.pool (properties_of (object_at l.heap l.object)))
     × (AreWalked l.heap l.marks) × (length (properties_of (object_at l.heap l.object)) ≤ 4294967295)
 
-abbrev pub decreases-fields_fault-loop-name : goal.decreases-fields_fault-loop-name
-decreases-fields_fault-loop-name l = length (properties_of (object_at l.heap l.object)) - l.place
+abbrev pub decreases-fields_fault-loop-property : goal.decreases-fields_fault-loop-property
+decreases-fields_fault-loop-property l = length l.own

@@ -7,7 +7,7 @@ use Rattle.rip_heap.specs.Arrays.{elements_at}
 use Rattle.rip_heap.specs.World.{object_at}
 use Rattle.rip_convert.specs.Arguments.{properties_of}
 use Rattle.rip_convert.specs.Written.{then_left, spelled_left, elements_left, fields_left, left_after}
-use Rattle.rip_convert.proofs.Judging.{element_here, field_here, property_end, left_number, left_object, left_text}
+use Rattle.rip_convert.proofs.Judging.{element_here, left_number, left_object, left_text}
 use Rattle.rip_convert.proofs.judge.+judge.Goals as goal
 
 pub elements_left-returns-in_err-left-clause-left : goal.elements_left-returns-in_err-left-clause-left
@@ -35,45 +35,42 @@ pub fields_left-returns-in_err-rest-clause-left : goal.fields_left-returns-in_er
 fields_left-returns-in_err-rest-clause-left t c =
     let w = c.args.heap.now in
     let judge = left_after c.args.levels w in
-    let o = object_at w c.args.object in
-    let ps = drop (c.loop-name.place + 1) (properties_of o) in
-    let further = λ (rest : ℕ). then_left (judge c.in-Some.v rest) (fields_left judge w.pool ps) in
-    let spelling : c.get.result.now ≡ text_at w.pool c.in-Some.name = c.get.ensures.text ∙ ap (λ p. text_at p c.in-Some.name) c.pool.ensures in
-    let here = field_here judge w.pool o c.loop-name.place c.in-Some.name c.in-Some.v c.loop-name.left (sym c.in-Some.ensures) in
+    let property = c.in-Some.property in
+    let further = λ (rest : ℕ). then_left (judge property.value rest) (fields_left judge w.pool c.next.new.self) in
+    let spelling : c.get.result.now ≡ text_at w.pool property.name = c.get.ensures.text ∙ ap (λ p. text_at p property.name) c.pool.ensures in
+    let here = ap (λ ps. fields_left judge w.pool ps c.loop-property.left) c.in-Some.ensures.steps in
     let p = err_from_is_err_and c.from_residual.result c.from_residual.ensures.1 in
-    p.1 ∙ ap Err p.2 ∙ ap (λ m. then_left m further) c.in_err-rest.ensures.left ∙ ap (λ u. then_left (spelled_left u c.loop-name.left) further) spelling ∙ sym here ∙ c.loop-name.invariant.0
+    p.1 ∙ ap Err p.2 ∙ ap (λ m. then_left m further) c.in_err-rest.ensures.left ∙ ap (λ u. then_left (spelled_left u c.loop-property.left) further) spelling ∙ sym here ∙ c.loop-property.invariant.0
 
 pub fields_left-returns-in_err-left-clause-left : goal.fields_left-returns-in_err-left-clause-left
 fields_left-returns-in_err-left-clause-left t c =
     let w = c.args.heap.now in
     let judge = left_after c.args.levels w in
-    let o = object_at w c.args.object in
-    let ps = drop (c.loop-name.place + 1) (properties_of o) in
-    let further = λ (rest : ℕ). then_left (judge c.in-Some.v rest) (fields_left judge w.pool ps) in
-    let spelling : c.get.result.now ≡ text_at w.pool c.in-Some.name = c.get.ensures.text ∙ ap (λ p. text_at p c.in-Some.name) c.pool.ensures in
-    let here = field_here judge w.pool o c.loop-name.place c.in-Some.name c.in-Some.v c.loop-name.left (sym c.in-Some.ensures) in
+    let property = c.in-Some.property in
+    let further = λ (rest : ℕ). then_left (judge property.value rest) (fields_left judge w.pool c.next.new.self) in
+    let spelling : c.get.result.now ≡ text_at w.pool property.name = c.get.ensures.text ∙ ap (λ p. text_at p property.name) c.pool.ensures in
+    let here = ap (λ ps. fields_left judge w.pool ps c.loop-property.left) c.in-Some.ensures.steps in
     let p = err_from_is_err_and c.from_residual-in_err-left.result c.from_residual-in_err-left.ensures.1 in
-    p.1 ∙ ap Err p.2 ∙ ap (λ m. then_left m (fields_left judge w.pool ps)) c.in_err-left.ensures.left ∙ ap (λ m. then_left m further) c.in_ok-rest.ensures.left
-    ∙ ap (λ u. then_left (spelled_left u c.loop-name.left) further) spelling ∙ sym here ∙ c.loop-name.invariant.0
+    p.1 ∙ ap Err p.2 ∙ ap (λ m. then_left m (fields_left judge w.pool c.next.new.self)) c.in_err-left.ensures.left ∙ ap (λ m. then_left m further) c.in_ok-rest.ensures.left
+    ∙ ap (λ u. then_left (spelled_left u c.loop-property.left) further) spelling ∙ sym here ∙ c.loop-property.invariant.0
 
-pub fields_left-loop-name-preserved : goal.fields_left-loop-name-preserved
-fields_left-loop-name-preserved t c =
+pub fields_left-loop-property-preserved : goal.fields_left-loop-property-preserved
+fields_left-loop-property-preserved t c =
     let w = c.args.heap.now in
     let judge = left_after c.args.levels w in
-    let o = object_at w c.args.object in
-    let ps = drop (c.loop-name.place + 1) (properties_of o) in
-    let further = λ (rest : ℕ). then_left (judge c.in-Some.v rest) (fields_left judge w.pool ps) in
-    let spelling : c.get.result.now ≡ text_at w.pool c.in-Some.name = c.get.ensures.text ∙ ap (λ p. text_at p c.in-Some.name) c.pool.ensures in
-    let here = field_here judge w.pool o c.loop-name.place c.in-Some.name c.in-Some.v c.loop-name.left (sym c.in-Some.ensures) in (
-      ap (λ m. then_left m (fields_left judge w.pool ps)) c.in_ok-left.ensures.left ∙ ap (λ m. then_left m further) c.in_ok-rest.ensures.left
-          ∙ ap (λ u. then_left (spelled_left u c.loop-name.left) further) spelling ∙ sym here ∙ c.loop-name.invariant.0,
-      omega (arith, c.in_ok-left.ensures.fewer, c.in_ok-rest.ensures.no_more, c.loop-name.invariant.1),
+    let property = c.in-Some.property in
+    let further = λ (rest : ℕ). then_left (judge property.value rest) (fields_left judge w.pool c.next.new.self) in
+    let spelling : c.get.result.now ≡ text_at w.pool property.name = c.get.ensures.text ∙ ap (λ p. text_at p property.name) c.pool.ensures in
+    let here = ap (λ ps. fields_left judge w.pool ps c.loop-property.left) c.in-Some.ensures.steps in (
+      ap (λ m. then_left m (fields_left judge w.pool c.next.new.self)) c.in_ok-left.ensures.left ∙ ap (λ m. then_left m further) c.in_ok-rest.ensures.left
+          ∙ ap (λ u. then_left (spelled_left u c.loop-property.left) further) spelling ∙ sym here ∙ c.loop-property.invariant.0,
+      omega (arith, c.in_ok-left.ensures.fewer, c.in_ok-rest.ensures.no_more, c.loop-property.invariant.1),
     )
 
 pub fields_left-returns-clause-left : goal.fields_left-returns-clause-left
 fields_left-returns-clause-left t c =
     let w = c.args.heap.now in
-    sym (property_end (λ ps. fields_left (left_after c.args.levels w) w.pool ps c.loop-name.left) (object_at w c.args.object) c.loop-name.place (sym c.in_default.ensures)) ∙ c.loop-name.invariant.0
+    sym (ap (λ ps. fields_left (left_after c.args.levels w) w.pool ps c.loop-property.left) c.in_default.ensures.steps.0) ∙ c.loop-property.invariant.0
 
 pub left_after-returns-else-levels-eq0-clause-left : goal.left_after-returns-else-levels-eq0-clause-left
 left_after-returns-else-levels-eq0-clause-left t c =

@@ -23,11 +23,11 @@ invariant-elements_left-loop-place l =
     (elements_left (left_after l.levels l.heap) (drop l.place (elements_at l.heap l.array)) l.left ≡ elements_left (left_after l.levels l.heap) (elements_at l.heap l.array) l.fn.pieces)
     × (l.left ≤ l.fn.pieces)
 
-abbrev pub invariant-fields_left-loop-name : goal.invariant-fields_left-loop-name
-invariant-fields_left-loop-name l =
-    (fields_left (left_after l.levels l.heap) l.heap.pool (drop l.place (properties_of (object_at l.heap l.object))) l.left
+abbrev pub invariant-fields_left-loop-property : goal.invariant-fields_left-loop-property
+invariant-fields_left-loop-property l =
+    (fields_left (left_after l.levels l.heap) l.heap.pool l.own l.left
     ≡ fields_left (left_after l.levels l.heap) l.heap.pool (properties_of (object_at l.heap l.object)) l.fn.pieces)
-    × (l.place + l.left ≤ l.fn.pieces)
+    × (l.left ≤ l.fn.pieces)
 
-abbrev pub decreases-fields_left-loop-name : goal.decreases-fields_left-loop-name
-decreases-fields_left-loop-name l = l.left
+abbrev pub decreases-fields_left-loop-property : goal.decreases-fields_left-loop-property
+decreases-fields_left-loop-property l = l.left

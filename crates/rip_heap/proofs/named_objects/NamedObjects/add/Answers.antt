@@ -1,12 +1,9 @@
 use Rattle.std.proofs.Common.{arith}
-use Rattle.rip_heap.specs.Stored.{all_stored}
 use Rattle.rip_heap.proofs.NameIndexLemmas.{indexes_grown, kept_longer}
 use Rattle.rip_heap.proofs.named_objects.NamedObjects.add.Goals as goal
 
 pub invariant_of-self : goal.invariant_of-self
 invariant_of-self c = record {
   named = omega (arith, c.self.invariant.named, kept_longer c.self.inside.pool c.add.new.self c.add.ensures.older);
-  indexed = indexes_grown c.self.inside.pool c.add.new.self c.self.inside.names_end (all_stored c.self.inside.rows.heads c.self.inside.rows.properties) c.self.inside.indexes c.self.invariant.named c.add.ensures.older c.self.invariant.indexed;
-  listed = c.self.invariant.listed;
-  kept = c.self.invariant.kept;
+  indexed = indexes_grown c.self.inside.pool c.add.new.self c.self.inside.names_end c.self.inside.region.pages c.self.inside.indexes.blocks c.self.invariant.named c.add.ensures.older c.self.invariant.indexed;
 }

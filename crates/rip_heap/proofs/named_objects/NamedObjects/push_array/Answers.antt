@@ -1,16 +1,14 @@
-use Rattle.std.proofs.Common.{[], ◌∙◌, ap, ◌+◌, length}
-use Rattle.rip_heap.specs.NameIndex.{first_texts}
-use Rattle.rip_heap.specs.NamedObjects.{with_another}
+use Rattle.std.proofs.Common.{[], ◌∙◌, ◌+◌, length}
+use Rattle.rip_heap.specs.NamedObjects.{with_another, with_more, with_paid_edit}
 use Rattle.rip_heap.specs.Stored.{object_of, stored_with}
-use Rattle.rip_heap.proofs.StoredLemmas.{another_kept, another_stands}
+use Rattle.rip_heap.proofs.StoredLemmas.{edit_last}
 use Rattle.rip_heap.proofs.named_objects.NamedObjects.push_array.Goals as goal
-
-pub invariant_of-self : goal.invariant_of-self
-invariant_of-self c =
-    let all = another_kept (first_texts c.self.inside.pool c.self.inside.names_end) c.self.inside.rows c.add.new.self c.bare.result [] c.args.items.now c.self.inside.indexes c.self.invariant.indexed c.self.invariant.listed c.self.invariant.kept c.add.ensures in
-    record { named = c.self.invariant.named; indexed = all.indexed; listed = all.listed; kept = all.kept }
 
 pub returns : goal.returns
 returns c =
-    another_stands c.args.self.now c.self.inside.pool c.self.inside.rows c.add.new.self c.bare.result [] c.args.items.now c.self.view_is c.self.invariant.listed c.self.invariant.kept c.add.ensures
-    ∙ ap (λ head. with_another c.args.self.now (object_of (stored_with head []) c.args.items.now) (1 + length c.args.items.now)) c.bare.ensures
+    let n = c.args.self.now in
+    let items = c.args.items.now in
+    c.push_elements.ensures.edited
+    ∙ (λ t. with_paid_edit (c.push.ensures t) (c.len-at.ensures t) (with_more items) (length items))
+    ∙ edit_last n (object_of (stored_with c.bare.result []) []) (with_more items) 1 (length items)
+    ∙ (λ t. with_another n (with_more items (object_of (stored_with (c.bare.ensures t) []) [])) (1 + length items))

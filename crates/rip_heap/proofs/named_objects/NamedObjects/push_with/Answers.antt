@@ -1,13 +1,13 @@
-use Rattle.std.proofs.Common.{[], ◌∷◌}
-use Rattle.rip_heap.specs.NameIndex.{first_texts}
-use Rattle.rip_heap.proofs.StoredLemmas.{another_kept, another_stands}
+use Rattle.std.proofs.Common.{[], ◌∙◌, ◌∷◌, ◌++◌}
+use Rattle.rip_heap.specs.NamedObjects.{with_paid_edit}
+use Rattle.rip_heap.specs.Stored.{object_of, stored_with}
+use Rattle.rip_heap.specs.World.{Object}
+use Rattle.rip_heap.proofs.StoredLemmas.{edit_last}
 use Rattle.rip_heap.proofs.named_objects.NamedObjects.push_with.Goals as goal
-
-pub invariant_of-self : goal.invariant_of-self
-invariant_of-self c =
-    let all = another_kept (first_texts c.self.inside.pool c.self.inside.names_end) c.self.inside.rows c.add.new.self c.args.object (c.args.property ∷ []) [] c.self.inside.indexes c.self.invariant.indexed c.self.invariant.listed c.self.invariant.kept c.add.ensures in
-    record { named = c.self.invariant.named; indexed = all.indexed; listed = all.listed; kept = all.kept }
 
 pub returns : goal.returns
 returns c =
-    another_stands c.args.self.now c.self.inside.pool c.self.inside.rows c.add.new.self c.args.object (c.args.property ∷ []) [] c.self.view_is c.self.invariant.listed c.self.invariant.kept c.add.ensures
+    let more : Object → Object = λ o. record o { properties = o.properties ++ c.args.property ∷ [] } in
+    c.add_property.ensures.edited
+    ∙ (λ t. with_paid_edit (c.push.ensures t) (c.len-at.ensures t) more 1)
+    ∙ edit_last c.args.self.now (object_of (stored_with c.args.object []) []) more 1 1

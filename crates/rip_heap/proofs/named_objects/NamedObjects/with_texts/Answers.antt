@@ -1,7 +1,6 @@
 use Rattle.std.proofs.Common.{ap, arith, refl, subst, sym}
 use Rattle.rip_values.specs.Pool.{KeepsTexts}
 use Rattle.rip_heap.specs.NamedObjects.{Named}
-use Rattle.rip_heap.specs.Stored.{all_stored}
 use Rattle.rip_heap.proofs.NameIndexLemmas.{indexes_grown, kept_longer}
 use Rattle.rip_heap.proofs.named_objects.NamedObjects.with_texts.Goals as goal
 
@@ -12,9 +11,7 @@ invariant_of-self g c =
     let keeps = subst (λ p. KeepsTexts p c.add.new.arg2) (sym (ap (λ (n : Named). n.pool) c.self.view_is)) adds.texts in
     record {
       named = omega (arith, c.self.invariant.named, kept_longer c.self.inside.pool c.add.new.arg2 keeps);
-      indexed = indexes_grown c.self.inside.pool c.add.new.arg2 c.self.inside.names_end (all_stored c.self.inside.rows.heads c.self.inside.rows.properties) c.self.inside.indexes c.self.invariant.named keeps c.self.invariant.indexed;
-      listed = c.self.invariant.listed;
-      kept = c.self.invariant.kept;
+      indexed = indexes_grown c.self.inside.pool c.add.new.arg2 c.self.inside.names_end c.self.inside.region.pages c.self.inside.indexes.blocks c.self.invariant.named keeps c.self.invariant.indexed;
     }
 
 pub returns-clause-adds : goal.returns-clause-adds

@@ -1,0 +1,4 @@
+pub mod BlockLemmas
+pub mod NameIndexLemmas
+pub mod PlaceLemmas
+pub mod KeptLemmas

@@ -1,0 +1,20 @@
+//! Indexes of the names of properties: for an object of many, where one of a name stands is found at once.
+//!
+//! Properties whose names fall into one bucket hang together by their links, the last made first. The buckets of all indexes
+//! lie in one row of numbers, each index in a block of its own, which knows the object that it is of.
+//!
+//! | what | its definition in `specs/` |
+//! |---|---|
+//! | [`NameIndexes`] | its blocks: `Blocks.ListedBlocks`, `Blocks.buckets_at` |
+//! | what an index is | `NameIndex.IsIndex`, `NameIndex.IsPlaced`, `NameIndex.IsIndexAt` |
+//!
+//! A layer above may rest on this: only `make` takes memory, an index that cannot be had is no refusal, and nothing of a row
+//! but the links of one chain is touched.
+#![tactic(auto)]
+
+mod blocks;
+mod index;
+mod indexes;
+mod names;
+
+pub use indexes::NameIndexes;

@@ -1,0 +1,4 @@
+pub mod ChainLemmas
+pub mod ChangeLemmas
+pub mod NameLemmas
+pub mod WalkLemmas

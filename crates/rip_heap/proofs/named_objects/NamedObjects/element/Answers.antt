@@ -1,0 +1,8 @@
+use Rattle.std.proofs.Common.{◌∙◌, ap, slice_get, sym}
+use Rattle.rip_heap.specs.Region.{listed}
+use Rattle.rip_heap.proofs.StoredLemmas.{elements_here, listed_even}
+use Rattle.rip_heap.proofs.named_objects.NamedObjects.element.Goals as goal
+
+pub returns : goal.returns
+returns c =
+    c.element.ensures ∙ sym (ap (λ items. slice_get items c.args.place) (elements_here c.args.self.now c.self.inside.pool (listed c.self.inside.region) c.args.at c.self.view_is (listed_even c.self.inside.region)))

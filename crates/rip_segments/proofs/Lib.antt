@@ -1,0 +1,5 @@
+mod ValueLemmas
+mod SegmentLemmas
+mod ArrayLemmas
+mod CallLemmas
+pub mod ListLemmas
