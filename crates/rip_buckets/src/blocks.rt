@@ -1,8 +1,8 @@
 ghost use Rattle.std.specs.Prelude.{◌≡◌, ◌<◌, ◌≤◌, ℕ, [], IfOk, length, map, replicate, slice_index, slice_set, ◌^◌};
 ghost use Rattle.rip_buckets.specs.Blocks.{OthersStay, block_of, buckets_at, relinked};
 
+use crate::memory::IndexMemory;
 use rip_values::NoMemory;
-use std::alloc::Global;
 use std::marker::Model;
 
 /// The most blocks that there may be: an object has four bits less than a `u32` for the number of its index.
@@ -25,8 +25,8 @@ impl IndexBlock {
     };
 }
 
-/// The buckets of all indexes, in one row of numbers of which each index has a block. The row has so much room; blocks and
-/// numbers are reserved when they are made, so that no call takes memory. A block whose index was made anew is not used
+/// The buckets of all indexes, in one row of numbers of which each index has a block. The row has so much room; the memory of
+/// blocks and numbers is reserved before, so that no call takes memory. A block whose index was made anew is not used
 /// again before all are dropped.
 #[derive(Debug, Drop)]
 pub struct IndexBlocks {
@@ -48,18 +48,16 @@ impl Model for IndexBlocks {
 }
 
 impl IndexBlocks {
-    /// No indexes, with room for those of so many objects and properties together. An index is made of 17 properties or
-    /// more with half as many buckets, and made anew where there are six for each: those of one object are less than seven
-    /// eighths of its properties together.
-    pub fn make(alloc: Global, cells: u32) -> Result<IndexBlocks, NoMemory>
-        ensures { IfOk result (λ indexes. (index owner : ℕ) → buckets_at indexes index owner ≡ []) }
+    /// No indexes, in that memory.
+    pub fn of(memory: IndexMemory) -> IndexBlocks
+        ensures { (index owner : ℕ) → buckets_at result index owner ≡ [] }
     {
-        let room = cells - cells / 8;
-        Ok(IndexBlocks {
-            blocks: Vec::with_capacity(alloc, (cells / 16) as usize + 1)?,
-            numbers: Vec::with_capacity(alloc, room as usize)?,
+        let room = memory.numbers.capacity() as u32;
+        IndexBlocks {
+            blocks: memory.blocks,
+            numbers: memory.numbers,
             room,
-        })
+        }
     }
 
     /// How many buckets the owner's index of this number has; 0 where it has none.

@@ -1,4 +1,4 @@
-ghost use Rattle.std.specs.Prelude.{◌≡◌, ℕ, ◌-◌, ◌<◌, ◌^◌, ◌↔◌, [], IfOk, IsTrue, Some, length, option_and_then, remove, slice_get, take, true};
+ghost use Rattle.std.specs.Prelude.{◌≡◌, ℕ, ◌-◌, ◌<◌, ◌^◌, ◌↔◌, [], IsTrue, Some, length, option_and_then, remove, slice_get, take, true};
 ghost use Rattle.rip_values.specs.Pool.{Texts};
 ghost use Rattle.rip_pages.specs.declared.for_rows.Row.TheVariants.{Properties};
 ghost use Rattle.rip_pages.specs.Pages.{with_row};
@@ -9,11 +9,11 @@ ghost use Rattle.rip_buckets.specs.NameIndex.{IsIndexAt, IsPlaced, OthersKeepLin
 
 use crate::blocks::IndexBlocks;
 use crate::index::relink_chain;
+use crate::memory::IndexMemory;
 use crate::names::{bucket_of, has_text, number_at};
 use rip_chains::Chain;
 use rip_pages::{Pages, Row};
-use rip_values::{NoMemory, Pool, Span};
-use std::alloc::Global;
+use rip_values::{Pool, Span};
 
 /// How many properties an object has before their names are worth an index.
 const INDEXED_FROM: u32 = 16;
@@ -29,13 +29,13 @@ pub struct NameIndexes {
 }
 
 impl NameIndexes {
-    /// No indexes, with room for those of so many properties together.
-    pub fn make(alloc: Global, cells: u32) -> Result<NameIndexes, NoMemory>
-        ensures { IfOk result (λ indexes. (i owner : ℕ) → buckets_at indexes.blocks i owner ≡ []) }
+    /// No indexes, in that memory.
+    pub fn of(memory: IndexMemory) -> NameIndexes
+        ensures { (i owner : ℕ) → buckets_at result.blocks i owner ≡ [] }
     {
-        Ok(NameIndexes {
-            blocks: IndexBlocks::make(alloc, cells)?,
-        })
+        NameIndexes {
+            blocks: IndexBlocks::of(memory),
+        }
     }
 
     /// Whether that object has an index.

@@ -6,15 +6,18 @@
 //! | what | its definition in `specs/` |
 //! |---|---|
 //! | [`NameIndexes`] | its blocks: `Blocks.ListedBlocks`, `Blocks.buckets_at` |
+//! | [`IndexMemory`], the memory of all indexes | contracts see `Memory.Memory`; `Memory.bytes_of` is how many bytes it takes |
 //! | what an index is | `NameIndex.IsIndex`, `NameIndex.IsPlaced`, `NameIndex.IsIndexAt` |
 //!
-//! A layer above may rest on this: only `make` takes memory, an index that cannot be had is no refusal, and nothing of a row
-//! but the links of one chain is touched.
+//! A layer above may rest on this: all memory is taken by [`IndexMemory::reserve`], an index that cannot be had is no
+//! refusal, and nothing of a row but the links of one chain is touched.
 #![tactic(auto)]
 
 mod blocks;
 mod index;
 mod indexes;
+mod memory;
 mod names;
 
 pub use indexes::NameIndexes;
+pub use memory::IndexMemory;

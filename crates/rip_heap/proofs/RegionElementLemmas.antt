@@ -1,15 +1,15 @@
 -- What a change of an object's elements, and of scopes, is for all that lies in a region.
-use Rattle.std.proofs.Common.{◌≡◌, ℕ, zero, suc, ◌+◌, ◌-◌, ◌%◌, ◌^◌, ◌<◌, ◌≤◌, ◌⊎◌, inl, inr, List, [], ◌∷◌, ◌++◌, length, Option, None, Some, refl, sym, ap, ◌∙◌, subst, arith, slice_get, slice_index_or, take}
-use Rattle.std.specs.Prelude.{map, option_map, slice_set, replicate}
+use Rattle.std.proofs.Common.{◌≡◌, ℕ, zero, suc, ◌+◌, ◌-◌, ◌%◌, ◌^◌, ◌<◌, ◌≤◌, List, [], ◌∷◌, length, None, Some, refl, sym, ap, ◌∙◌, subst, arith, slice_get, slice_index_or, take}
+use Rattle.std.specs.Prelude.{map, option_map, slice_set}
 use Rattle.std.proofs.lemmas.List.{length-map, length-set, take_all}
-use Rattle.std.proofs.lemmas.Option.{get_or_from_slice_get, same_Some, slice_get-get_or, slice_get-map, slice_get_past}
+use Rattle.std.proofs.lemmas.Option.{get_or_from_slice_get, same_Some, slice_get_past}
 use Rattle.rip_values.specs.declared.value.Value.{Value}
 use Rattle.rip_pages.specs.declared.slot.Slot.{Slot}
 use Rattle.rip_pages.specs.declared.for_rows.Row.TheVariants.{Objects, Elements, Bindings}
 use Rattle.rip_pages.specs.Pages.{Paged, filled, no_slot, slot_at, with_row}
 use Rattle.rip_chains.specs.Chains.{AreChains, properties_of}
 use Rattle.rip_segments.specs.declared.array.Array.{Array}
-use Rattle.rip_segments.specs.Segments.{AreArrays, AreLaid, AreSegments, IsArray, elements_of, lists_from}
+use Rattle.rip_segments.specs.Segments.{AreArrays, AreLaid, IsArray, elements_of, lists_from}
 use Rattle.rip_segments.proofs.ListLemmas.{array_of, arrays_fewer, elements_count, lists_get}
 use Rattle.rip_heap.specs.declared.class.Class.{Class}
 use Rattle.rip_heap.specs.declared.class.Class.TheVariants.{Array as ArrayClass}
@@ -18,7 +18,7 @@ use Rattle.rip_heap.specs.HeadSlots.{array_if, array_in, class_in, head_in, inde
 use Rattle.rip_heap.specs.Rooms.{Rooms}
 use Rattle.rip_heap.specs.ScopeSlots.{AreScopes, LieWithin, binding_in, scope_head_in, scopes_in, scopes_of}
 use Rattle.rip_heap.specs.World.{Scope}
-use Rattle.rip_heap.specs.Region.{AreRows, IndexesStay, Kept, Listed, arrays_in, chains_in, listed, with_elements}
+use Rattle.rip_heap.specs.Region.{AreRows, IndexesStay, Kept, arrays_in, chains_in, listed, with_elements}
 use Rattle.rip_heap.proofs.HeadRowLemmas.{arrays_with_array, chains_with_array, heads_with_array, indexes_with_array}
 use Rattle.rip_heap.proofs.RegionLemmas.{array_there, indexes_stay, set_kept}
 

@@ -1,36 +1,33 @@
 -- What a change of one row of a region is for the objects that lie in it.
 use Rattle.std.proofs.Common.{◌≡◌, ◌≢◌, ℕ, zero, suc, ◌+◌, ◌-◌, ◌^◌, ◌<◌, ◌≤◌, ◌⊎◌, inl, inr, true, false, List, [], ◌∷◌, ◌++◌, length, Option, None, Some, refl, sym, ap, ◌∙◌, subst, arith, slice_get, slice_index_or}
 use Rattle.std.specs.List.{position_or_len}
-use Rattle.std.specs.Prelude.{IfSome, cond, is_some, map, nat_lt, option_and_then, option_map, slice_set, slice_index, remove, take}
+use Rattle.std.specs.Prelude.{IfSome, cond, map, nat_lt, option_and_then, option_map, slice_set, slice_index, remove, take}
 use Rattle.std.proofs.lemmas.Bool.{cases_eq, cases_lt}
 use Rattle.std.proofs.lemmas.Bool.Decides.{nat_tests}
 use Rattle.std.proofs.lemmas.List.{get_or_append_left, get_or_past, get_or-set_other, get_or-set_same, length-append, length-map, length-set, map-append, take-append-le, take_all}
-use Rattle.std.proofs.lemmas.Option.{get_or_from_slice_get, same_Some, slice_get-get_or, none-some, slice_get-map, slice_get_within}
+use Rattle.std.proofs.lemmas.Option.{same_Some, slice_get-get_or, none-some, slice_get-map}
 use Rattle.rip_values.specs.Pool.{IsSpan, Texts}
 use Rattle.rip_pages.specs.declared.property.Property.{Property}
 use Rattle.rip_pages.specs.declared.slot.Slot.{Slot}
-use Rattle.rip_pages.specs.declared.for_rows.Row.TheVariants.{Objects, Properties, Elements}
+use Rattle.rip_pages.specs.declared.for_rows.Row.TheVariants.{Objects, Properties}
 use Rattle.rip_pages.specs.Pages.{Paged, filled, no_slot, slot_at, with_row}
 use Rattle.rip_chains.specs.declared.chain.Chain.{Chain}
 use Rattle.rip_chains.specs.Chains.{AreChains, AreHung, IfOneOf, IsChain, OnlyLinks, SameLinks, chain_at, places_of, properties_of, property_in}
 use Rattle.rip_chains.specs.Chains.{with_value as chain_with_value}
-use Rattle.rip_chains.specs.Names.{place_of as chain_place_of}
 use Rattle.rip_chains.proofs.ChainLemmas.{chain_of, chains_more, hung_by_links, place_within, places_count, properties_count, properties_get}
-use Rattle.rip_segments.specs.declared.array.Array.{Array}
-use Rattle.rip_segments.specs.Segments.{AreArrays, AreLaid, elements_of, lists_from}
+use Rattle.rip_segments.specs.Segments.{AreArrays, lists_from}
 use Rattle.rip_segments.proofs.ListLemmas.{arrays_more, lists_more}
 use Rattle.rip_buckets.specs.Blocks.{ListedBlocks, OthersStay, buckets_at}
 use Rattle.rip_buckets.specs.NameIndex.{IsIndex, IsIndexAt, IsIndexOf, IsLast, IsPlaced, OthersKeepLinks, bucket_at, name_at}
-use Rattle.rip_heap.specs.declared.class.Class.TheVariants.{Array as ArrayClass}
 use Rattle.rip_heap.specs.declared.stored.StoredObject.{StoredObject}
-use Rattle.rip_heap.specs.HeadSlots.{IsStorable, array_in, chain_in, head_in, index_in, slot_of, with_array, with_chain}
-use Rattle.rip_heap.specs.Names.{named, place_of, same_text}
+use Rattle.rip_heap.specs.HeadSlots.{IsStorable, array_in, chain_in, head_in, index_in, slot_of, with_chain}
+use Rattle.rip_heap.specs.Names.{place_of, same_text}
 use Rattle.rip_heap.specs.Objects.{with_value}
-use Rattle.rip_heap.specs.Rooms.{Rooms, spending}
+use Rattle.rip_heap.specs.Rooms.{Rooms}
 use Rattle.rip_heap.specs.ScopeSlots.{AreScopes, LieWithin, scope_head_in}
 use Rattle.rip_heap.specs.Region.{AreIndexes, AreRows, IndexesStay, Kept, arrays_in, chains_in, listed, valued, with_bare, with_properties, without}
-use Rattle.rip_heap.proofs.HeadRowLemmas.{arrays_with_array, arrays_with_chain, arrays_with_slot, chains_with_array, chains_with_chain, chains_with_slot, heads_with_array, heads_with_chain, heads_with_slot, indexes_with_array, indexes_with_chain, indexes_with_slot}
-use Rattle.rip_heap.proofs.HeadLemmas.{index_of_slot, index_with_chain, index_with_array}
+use Rattle.rip_heap.proofs.HeadRowLemmas.{arrays_with_chain, arrays_with_slot, chains_with_chain, chains_with_slot, heads_with_chain, heads_with_slot, indexes_with_chain}
+use Rattle.rip_heap.proofs.HeadLemmas.{index_of_slot, index_with_chain}
 
 -- LISTS
 

@@ -11,6 +11,7 @@ pub mod Laws
 pub mod Lending
 pub mod LendingNamed
 pub mod Marks
+pub mod Memory
 pub mod NamedObjects
 pub mod Names
 pub mod Objects

@@ -1,5 +1,5 @@
--- How a heap keeps its objects: the head of each, and the properties and the elements of all of them beside. No public
--- clause cites this.
+-- How a heap keeps its objects: the head of each, and the properties and the elements of all of them beside. Of this
+-- public clauses cite the properties of an object alone.
 use Rattle.std.specs.Prelude.{Option, None, Some, List, [], ◌∷◌}
 use Rattle.rip_values.specs.declared.value.Value.{Value}
 use Rattle.rip_pages.specs.declared.property.Property.{Property}

@@ -5,9 +5,10 @@ ghost use Rattle.rip_heap.specs.World.{charging, empty_world, first_node, first_
 ghost use Rattle.rip_heap.specs.Step.{Charges};
 
 use crate::limits::HeapLimits;
+use crate::memory::HeapMemory;
 use crate::named_objects::NamedObjects;
 use crate::search::SearchTable;
-use rip_values::{FIRST_HEAP_OBJECT, FIRST_NODE, Limit, NoMemory, Pool};
+use rip_values::{Limit, NoMemory, Pool};
 use std::alloc::Global;
 use std::marker::Model;
 
@@ -49,19 +50,25 @@ impl Model for Heap {
 }
 
 impl Heap {
-    /// A heap with the fixed texts alone. A limit past the numbers that objects can have is want of memory. The memory of
-    /// all objects, properties, elements, scopes and bindings is taken here, for as many as there are cells, and that of all
-    /// texts that may be charged.
+    /// A heap with the fixed texts alone. Its memory is [`HeapMemory::reserve`], and one block for its own fields. Limits past
+    /// the numbers that objects, slots and units can have are want of memory.
     pub fn make(alloc: Global, limits: HeapLimits) -> Result<Heap, NoMemory>
         ensures { IfOk result (λ heap. heap ≡ empty_world limits) }
     {
-        if limits.cells > FIRST_NODE - FIRST_HEAP_OBJECT {
-            return Err(NoMemory);
-        }
-        let pool = Pool::make(alloc, limits.units, limits.text)?;
+        Heap::of(alloc, HeapMemory::reserve(alloc, limits)?)
+    }
+
+    /// A heap with the fixed texts alone, which has its memory there: that of all objects, properties, elements, scopes and
+    /// bindings, for as many as there are cells, and that of all texts that may be charged. What is taken here is one block for
+    /// its own fields.
+    pub fn of(alloc: Global, memory: HeapMemory) -> Result<Heap, NoMemory>
+        ensures { IfOk result (λ heap. heap ≡ empty_world memory.limits) }
+    {
+        let limits = memory.limits;
+        let pool = Pool::of(memory.units, limits.units, limits.text);
         let parts = HeapParts {
-            named: NamedObjects::new(alloc, pool, limits.cells)?,
-            table: SearchTable::make(alloc, limits.text)?,
+            named: NamedObjects::of(pool, memory.pages, memory.indexes, limits.cells),
+            table: SearchTable::of(memory.table, limits.text),
         };
         Ok(Heap {
             limit: limits.cells,

@@ -3,11 +3,12 @@
 //! Contracts see a heap as a world, which holds the objects, the scopes and the texts, each in the order of making
 //! (ECMA-262 5.1, sections 8 and 10.2). A world never changes: each call of [`Heap`] that changes a heap is one step
 //! that gives a new one, with its charge. A step that would pass a limit is none, and the heap stays as it was. Its
-//! memory is taken when it is made. Values are converted by tables of sections 9 and 11.9.6.
+//! memory is taken before it is made, and is a number that a contract shows. Values are converted by tables of sections 9 and 11.9.6.
 //!
 //! | what | its definition in `specs/` |
 //! |---|---|
 //! | [`Heap`] | contracts see `World.World`; `World.empty_world` is a new one |
+//! | [`HeapMemory`], all memory of a heap | contracts see `Memory.Memory`; `Memory.bytes_of` is how many bytes it takes |
 //! | the charge of each step | `World.charging`, and the table `World.cost_of_object` and those behind it |
 //! | [`Heap::new_object`], [`Heap::new_of`], [`Heap::new_function`] | `Objects.new_object`, `Objects.new_of`, `Objects.new_function` |
 //! | [`Heap::own`], [`Heap::find`], [`Heap::own_at`], [`Heap::own_properties`] | `Objects.own`, `Objects.find`, `Objects.own_at`, `Objects.own_properties` |
@@ -45,6 +46,7 @@ mod keys;
 mod laws;
 mod limits;
 mod mark;
+mod memory;
 mod named_objects;
 mod objects;
 mod outcome;
@@ -73,6 +75,7 @@ pub use laws::{
 };
 pub use limits::{HeapLimits, Used};
 pub use mark::Mark;
+pub use memory::HeapMemory;
 pub use outcome::{Abrupt, Halt, number_done, truth_done};
 pub use rip_chains::{OwnProperties, same_text};
 pub use rip_pages::Property;

@@ -1,14 +1,16 @@
-ghost use Rattle.std.specs.Prelude.{◌≡◌, ◌<◌, ◌≤◌, ◌+◌, ◌-◌, ◌∷◌, ◌++◌, [], false, IfOk, IfErr, IsErr, None, OnErr, OnOk, is_some, length, option_map, replicate, slice_get, slice_range, slice_set, take, ◌↔◌};
+ghost use Rattle.std.specs.Prelude.{◌≡◌, ◌<◌, ◌≤◌, ◌+◌, ◌-◌, ◌∷◌, ◌++◌, [], false, IfOk, IfErr, IsErr, None, OnErr, OnOk, is_some, length, option_map, replicate, slice_get, slice_range, slice_set, take, true, ◌↔◌};
 ghost use Rattle.std.specs.Borrow.{MutBor, sem};
 ghost use Rattle.std.specs.Fn.{CalledAtMut};
 ghost use Rattle.rip_values.specs.FixedTexts.{fixed_units};
 ghost use Rattle.rip_values.specs.Pool.{Texts, cut_pool, joined, span_behind, with_text};
+ghost use Rattle.rip_pages.specs.Memory.{memory_for};
 ghost use Rattle.rip_heap.specs.Arrays.{array_object, last_of, elements_of, without_last};
 ghost use Rattle.rip_heap.specs.Errors.{error_object};
 ghost use Rattle.rip_heap.specs.HeadSlots.{IsStorable};
 ghost use Rattle.rip_heap.specs.Lending.{OnlyAddsTexts, PoolGrows};
 ghost use Rattle.rip_heap.specs.LendingNamed.{LendsPoolOf};
 ghost use Rattle.rip_heap.specs.NamedObjects.{IsArrayAt, KeepObjects, place_at, with_another, with_edit, with_more, with_paid_edit, with_scope};
+ghost use Rattle.rip_heap.specs.Memory.{slots_for};
 ghost use Rattle.rip_heap.specs.Names.{named};
 ghost use Rattle.rip_heap.specs.Region.{valued, without};
 ghost use Rattle.rip_heap.specs.ScopeSlots.{binding_of, bound};
@@ -18,9 +20,9 @@ ghost use Rattle.rip_heap.specs.Stored.{head_of, object_of, properties_of, store
 use crate::class::Class;
 use crate::region::Region;
 use crate::stored::StoredObject;
-use rip_buckets::NameIndexes;
+use rip_buckets::{IndexMemory, NameIndexes};
 use rip_chains::OwnProperties;
-use rip_pages::Property;
+use rip_pages::{PageMemory, Property};
 use rip_values::{FixedText, Limit, NoMemory, Pool, Refused, Span, Value};
 use std::alloc::Global;
 use std::marker::Model;
@@ -52,22 +54,24 @@ impl Model for NamedObjects {
 }
 
 impl NamedObjects {
-    /// These texts, and no objects and no scopes yet. The memory for so many objects, properties, elements, scopes and
-    /// bindings together is taken here.
-    pub fn new(alloc: Global, pool: Pool, cells: u32) -> Result<NamedObjects, NoMemory>
-        ensures { IfOk result (λ named. named ≡ record {
+    /// These texts, and no objects and no scopes yet, with room for so many objects, properties, elements, scopes and
+    /// bindings together.
+    pub fn of(pool: Pool, pages: PageMemory, indexes: IndexMemory, cells: u32) -> NamedObjects
+        requires memory { pages ≡ memory_for (slots_for cells) }
+        requires most { slots_for cells ≤ 2147418112 }
+        ensures { result ≡ record {
           pool = pool;
           objects = [];
           scopes = [];
           rooms = record { spent = 0; room = cells };
-        }) }
+        } }
     {
-        Ok(NamedObjects {
+        NamedObjects {
             pool,
-            region: Region::make(alloc, cells)?,
-            indexes: NameIndexes::make(alloc, cells)?,
+            region: Region::of(pages, cells),
+            indexes: NameIndexes::of(indexes),
             names_end: 0,
-        })
+        }
     }
 
     /// The texts.
@@ -427,6 +431,17 @@ impl NamedObjects {
         } }
     {
         self.region.bind(scope, place, v);
+    }
+
+    /// Gives the binding at this place the value, if it has one already, and tells whether it has.
+    pub fn rebind(&mut self, scope: u32, place: u32, v: Value) -> bool
+        ensures told { result ≡ is_some (binding_of (slice_get self.old.scopes scope) place) }
+        ensures bound { result ≡ true → self.new ≡ record self.old {
+          scopes = bound self.old.scopes scope place v (slice_get self.old.scopes scope);
+        } }
+        ensures same { result ≡ false → self.new ≡ self.old }
+    {
+        self.region.rebind(scope, place, v)
     }
 
     /// Puts a scope behind the others, with so many bindings, none of which has a value yet.

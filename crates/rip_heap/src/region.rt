@@ -1,8 +1,10 @@
-ghost use Rattle.std.specs.Prelude.{◌≡◌, ◌+◌, ◌<◌, ◌≤◌, ◌∷◌, ◌++◌, ℕ, [], IfOk, None, is_some, length, option_and_then, replicate, slice_get, slice_set, take};
+ghost use Rattle.std.specs.Prelude.{◌≡◌, ◌+◌, ◌<◌, ◌≤◌, ◌∷◌, ◌++◌, ℕ, [], None, false, is_some, length, option_and_then, replicate, slice_get, slice_set, take, true};
 ghost use Rattle.rip_values.specs.Pool.{Texts};
+ghost use Rattle.rip_pages.specs.Memory.{memory_for};
 ghost use Rattle.rip_buckets.specs.Blocks.{ListedBlocks};
 ghost use Rattle.rip_heap.specs.Arrays.{last_of, without_last};
 ghost use Rattle.rip_heap.specs.HeadSlots.{IsStorable};
+ghost use Rattle.rip_heap.specs.Memory.{slots_for};
 ghost use Rattle.rip_heap.specs.Names.{named, place_of};
 ghost use Rattle.rip_heap.specs.Region.{AreIndexes, IndexesStay, IsArrayHere, elements_here, listed, places_here, properties_here, valued, with_bare, with_elements, with_properties, without};
 ghost use Rattle.rip_heap.specs.Rooms.{spending};
@@ -13,13 +15,12 @@ use crate::stored::StoredObject;
 use crate::{head_slots, scope_slots};
 use rip_buckets::NameIndexes;
 use rip_chains::OwnProperties;
-use rip_pages::{Pages, Property, Row};
-use rip_values::{NoMemory, Pool, Span, Value};
-use std::alloc::Global;
+use rip_pages::{PageMemory, Pages, Property, Row};
+use rip_values::{Pool, Span, Value};
 use std::marker::Model;
 
-/// The objects and the scopes of a heap as they lie in its region. The region is reserved when it is made, so that no call
-/// takes memory: each object, property, element, scope and binding is one cell, and each cell that may be spent has its
+/// The objects and the scopes of a heap as they lie in its region. Its memory was reserved before, so that no call
+/// takes any: each object, property, element, scope and binding is one cell, and each cell that may be spent has its
 /// slot; a sixteenth more is spare, for the places that arrays get ahead.
 #[derive(Debug, Drop)]
 pub struct Region {
@@ -40,23 +41,24 @@ impl Model for Region {
 
 impl Region {
     /// No objects and no scopes, with room for so many objects, properties, elements, scopes and bindings together.
-    pub fn make(alloc: Global, cells: u32) -> Result<Region, NoMemory>
-        ensures listed { IfOk result (λ r. listed r ≡ record {
+    pub fn of(memory: PageMemory, cells: u32) -> Region
+        requires memory { memory ≡ memory_for (slots_for cells) }
+        requires most { slots_for cells ≤ 2147418112 }
+        ensures listed { listed result ≡ record {
           heads = [];
           properties = [];
           elements = [];
           scopes = [];
           rooms = record { spent = 0; room = cells };
-        }) }
-        ensures indexes { IfOk result (λ r. (pool : Texts) (blocks : ListedBlocks)
-            → AreIndexes pool r.pages blocks) }
+        } }
+        ensures indexes { (pool : Texts) (blocks : ListedBlocks)
+            → AreIndexes pool result.pages blocks }
     {
-        let room = cells.saturating_add(cells / 16);
-        Ok(Region {
-            pages: Pages::make(alloc, room)?,
+        Region {
+            pages: Pages::of(memory, cells + cells / 16),
             spent: 0,
             room: cells,
-        })
+        }
     }
 
     /// How many objects there are.
@@ -316,6 +318,18 @@ impl Region {
         ensures indexes { IndexesStay self.old.pages self.new.pages }
     {
         scope_slots::bind_at(&mut self.pages, scope, place, v);
+    }
+
+    /// Gives the binding at this place the value, if it has one already, and tells whether it has.
+    pub fn rebind(&mut self, scope: u32, place: u32, v: Value) -> bool
+        ensures told { result ≡ is_some (binding_of (slice_get (listed self.old).scopes scope) place) }
+        ensures listed { result ≡ true → listed self.new ≡ record (listed self.old) {
+          scopes = bound (listed self.old).scopes scope place v (slice_get (listed self.old).scopes scope);
+        } }
+        ensures same { result ≡ false → self.new ≡ self.old }
+        ensures indexes { IndexesStay self.old.pages self.new.pages }
+    {
+        scope_slots::rebind_at(&mut self.pages, scope, place, v)
     }
 
     /// Puts a scope behind the others, with so many bindings, none of which has a value yet.

@@ -1,4 +1,4 @@
-ghost use Rattle.std.specs.Prelude.{◌≡◌, ◌+◌, ◌≤◌, ◌∷◌, ◌++◌, [], None, length, replicate, slice_get};
+ghost use Rattle.std.specs.Prelude.{◌≡◌, ◌+◌, ◌≤◌, ◌∷◌, ◌++◌, [], None, false, is_some, length, replicate, slice_get, true};
 ghost use Rattle.rip_pages.specs.declared.for_rows.Row.TheVariants.{Bindings};
 ghost use Rattle.rip_pages.specs.Pages.{filled, no_slot, with_row};
 ghost use Rattle.rip_heap.specs.ScopeSlots.{AreScopes, binding_in, binding_of, bound, parent_in, scope_head_in, scopes_of, slot_of_scope, slot_of_value};
@@ -72,6 +72,35 @@ pub(crate) fn bind_at(pages: &mut Pages, scope: u32, place: u32, v: Value)
         let _within = pages.len(Row::Bindings);
         pages.set(Row::Bindings, head.start + place, slot_of_value(v));
     }
+}
+
+/// Gives the binding at this place of the scope of that number the value, if it has one already, and tells whether it
+/// has. The scope is looked up once.
+pub(crate) fn rebind_at(pages: &mut Pages, scope: u32, place: u32, v: Value) -> bool
+    requires scopes { AreScopes pages.old }
+    ensures told { result
+        ≡ is_some (binding_of (slice_get (scopes_of pages.old) scope) place) }
+    ensures row { pages.new ≡ with_row Bindings pages.new.bindings pages.old }
+    ensures size { length pages.new.bindings ≡ length pages.old.bindings }
+    ensures kept { AreScopes pages.new }
+    ensures scopes { result ≡ true → scopes_of pages.new
+        ≡ bound (scopes_of pages.old) scope place v (slice_get (scopes_of pages.old) scope) }
+    ensures same { result ≡ false → pages.new ≡ pages.old }
+{
+    if scope >= pages.len(Row::Scopes) {
+        return false;
+    }
+    let head = scope_head_in(pages.get(Row::Scopes, scope));
+    if place >= head.count {
+        return false;
+    }
+    // What is less than the length of the row is a `u32`.
+    let _within = pages.len(Row::Bindings);
+    if binding_in(pages.get(Row::Bindings, head.start + place)).is_none() {
+        return false;
+    }
+    pages.set(Row::Bindings, head.start + place, slot_of_value(v));
+    true
 }
 
 /// Puts a scope behind the others, with so many bindings, none of which has a value yet.

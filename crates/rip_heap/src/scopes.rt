@@ -1,4 +1,4 @@
-ghost use Rattle.std.specs.Prelude.{◌≡◌, ◌<◌, IfOk, IfSome, length};
+ghost use Rattle.std.specs.Prelude.{◌≡◌, ◌<◌, IfOk, IfSome, false, is_some, length, true};
 ghost use Rattle.rip_heap.specs.Growth.{Grows};
 ghost use Rattle.rip_heap.specs.Scopes.{new_scope, kept_parent, parent_of, bindings_of, binding, with_binding};
 ghost use Rattle.rip_heap.specs.Step.{Makes, TakesNoMemory};
@@ -44,6 +44,20 @@ impl Heap {
         ensures grows { Grows self.old self.new }
     {
         self.parts.named.bind(scope, place, v);
+    }
+
+    /// Gives the binding at this place the value, if it has one already, and tells whether it has. Where it has none nothing
+    /// is changed.
+    pub fn rebind(&mut self, scope: u32, place: u32, v: Value) -> bool
+        ensures told { result ≡ is_some (binding self.old scope place) }
+        ensures set { result ≡ true → self.new ≡ with_binding self.old scope place v }
+        ensures kept { result ≡ false → self.new ≡ self.old }
+        ensures grows { Grows self.old self.new }
+    {
+        if self.parts.named.rebind(scope, place, v) {
+            return true;
+        }
+        false
     }
 
     /// The scope around the scope, which was made before it.

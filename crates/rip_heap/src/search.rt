@@ -1,11 +1,10 @@
-ghost use Rattle.std.specs.Prelude.{◌≡◌, ℕ, List, ◌+◌, ◌<◌, ◌≤◌, ◌^◌, ◌∷◌, ◌++◌, [], length, vec_capacity, IfOk, IfSome};
+ghost use Rattle.std.specs.Prelude.{◌≡◌, ℕ, List, ◌+◌, ◌<◌, ◌≤◌, ◌^◌, ◌∷◌, ◌++◌, [], length, vec_capacity, IfSome};
 ghost use Rattle.rip_values.specs.Pool.{text_at};
 ghost use Rattle.rip_heap.specs.Borders.{IsLongest, IsTable};
 ghost use Rattle.rip_heap.specs.Search.{first_place, first_place_from};
 
 use crate::heap::Heap;
-use rip_values::{NoMemory, Span};
-use std::alloc::Global;
+use rip_values::Span;
 use std::marker::Model;
 
 /// The row in which the table of a pattern is written when the pattern is looked for. It is reserved when it is made,
@@ -27,14 +26,12 @@ impl Model for SearchTable {
 }
 
 impl SearchTable {
-    /// Room for the tables of patterns of at most so many units.
-    pub fn make(alloc: Global, longest: u32) -> Result<SearchTable, NoMemory>
-        ensures { IfOk result (λ table. table ≡ longest) }
+    /// A table of patterns of at most so many units, in that memory.
+    pub fn of(entries: Vec<u32>, longest: u32) -> SearchTable
+        requires { longest ≤ vec_capacity entries }
+        ensures { result ≡ longest }
     {
-        Ok(SearchTable {
-            entries: Vec::with_capacity(alloc, longest as usize)?,
-            longest,
-        })
+        SearchTable { entries, longest }
     }
 
     /// The first place of the text at which the pattern stands, found in time linear in both (Knuth, Morris and Pratt).

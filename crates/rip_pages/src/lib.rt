@@ -9,17 +9,20 @@
 //! | [`Pages`] | contracts see `Pages.Paged`: a list for each row, and the room |
 //! | a row, and the rows with another one in its place | `Pages.row_of`, `Pages.with_row` |
 //! | how many slots are used | `Pages.filled` |
+//! | [`PageMemory`], the memory of all rows | contracts see `Memory.Memory`; `Memory.bytes_of` is how many bytes it takes |
 //!
-//! A layer above may rest on this: only `make` takes memory, and a slot is never moved.
+//! A layer above may rest on this: all memory is taken by [`PageMemory::reserve`], and a slot is never moved.
 #![tactic(auto)]
 
 mod for_rows;
+mod memory;
 mod page;
 mod pages;
 mod property;
 mod slot;
 
 pub use for_rows::Row;
+pub use memory::PageMemory;
 pub use pages::Pages;
 pub use property::Property;
 pub use slot::Slot;

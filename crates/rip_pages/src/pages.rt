@@ -1,15 +1,13 @@
-ghost use Rattle.std.specs.Prelude.{◌≡◌, ◌<◌, ◌≤◌, ◌∷◌, ◌++◌, [], IfOk, length, slice_set};
+ghost use Rattle.std.specs.Prelude.{◌≡◌, ◌<◌, ◌≤◌, ◌∷◌, ◌++◌, [], length, slice_set};
+ghost use Rattle.rip_pages.specs.Memory.{memory_for};
 ghost use Rattle.rip_pages.specs.Pages.{empty_pages, filled, row_of, slot_at, with_row};
 
 use crate::for_rows::{ForRows, Row};
-use crate::page::{PAGE, make_room, place_of};
+use crate::memory::PageMemory;
+use crate::page::{make_room, place_of};
 use crate::slot::Slot;
-use rip_values::{NoMemory, Value};
-use std::alloc::Global;
+use rip_values::Value;
 use std::marker::Model;
-
-/// The most slots that there may be room for: what is told of them is counted by a `u32`.
-const MOST_ROOM: u32 = 0x7fff_0000;
 
 /// Five rows of slots, which share the room of all.
 #[derive(Debug, Drop)]
@@ -35,20 +33,19 @@ impl Model for Pages {
 }
 
 impl Pages {
-    /// Empty rows, with room for so many slots in all of them together.
-    pub fn make(alloc: Global, room: u32) -> Result<Pages, NoMemory>
-        ensures { IfOk result (λ pages. pages ≡ empty_pages room) }
+    /// Empty rows, with room for so many slots in all of them together, which lie in that memory.
+    pub fn of(memory: PageMemory, room: u32) -> Pages
+        requires memory { memory ≡ memory_for room }
+        requires most { room ≤ 2147418112 }
+        ensures { result ≡ empty_pages room }
     {
-        if room > MOST_ROOM {
-            return Err(NoMemory);
-        }
-        Ok(Pages {
-            slots: Vec::with_capacity(alloc, room as usize + 5 * PAGE as usize)?,
-            starts: Vec::with_capacity(alloc, (room / PAGE) as usize + 1)?,
+        Pages {
+            slots: memory.slots,
+            starts: memory.starts,
             lens: ForRows::NONE,
             filled: 0,
             room,
-        })
+        }
     }
 
     /// For how many slots there is room.

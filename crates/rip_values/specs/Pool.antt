@@ -49,3 +49,10 @@ pub record IsPool (units : List ℕ) (used limit capacity : ℕ) : Type 0 where
   pub within : used ≤ limit
   pub room : length units + (limit - used) ≤ capacity
   pub spans : length units + (limit - used) < 2 ^ 32
+
+-- the units with which a pool begins, and for how many there is memory: the fixed texts, then so many as may be charged, and
+-- 4,096 of the names of a usual program and page
+pub record IsReserved (units : List ℕ) (capacity limit : ℕ) : Type 0 where
+  pub fixed : units ≡ fixed_units
+  pub room : capacity ≡ 773 + 4096 + limit
+  pub spans : 773 + limit < 2 ^ 32

@@ -1,6 +1,6 @@
 ghost use Rattle.std.specs.Prelude.{◌≡◌, ◌↔◌, ℕ, ◌+◌, ◌-◌, ◌^◌, ◌<◌, ◌≤◌, ◌++◌, [], length, OnOk, OnErr, IfOk, IfErr, IsErr, IfSome, IsNone, vec_len, vec_capacity, min};
 ghost use Rattle.std.specs.List.{flat_map};
-ghost use Rattle.rip_values.specs.Pool.{Texts, cut_pool, text_at, IsSpan, held, span_behind, with_text, joined, KeepsTexts};
+ghost use Rattle.rip_values.specs.Pool.{Texts, cut_pool, text_at, IsReserved, IsSpan, held, span_behind, with_text, joined, KeepsTexts};
 ghost use Rattle.rip_values.specs.FixedTexts.{text_of, fixed_span, fixed_units};
 ghost use Rattle.rip_values.specs.declared.fixed.FixedText.{FixedText};
 
@@ -10,8 +10,11 @@ use crate::value::{Limit, Refused, Span};
 use std::alloc::Global;
 use std::marker::Model;
 
+/// How many units the fixed texts have together.
+const FIXED_UNITS: u32 = 773;
+
 /// Units that a pool has room for from the start beside its limit: the names of a usual program and page.
-const ROOM_FOR_NAMES: usize = 4_096;
+const ROOM_FOR_NAMES: u32 = 4_096;
 
 /// The texts of a session. Texts are only added, so that a span stands for the same text for ever.
 ///
@@ -44,17 +47,35 @@ impl Pool {
             (λ pool. pool ≡ record
             { units = fixed_units; used = 0; limit = limit; text_limit = text }) }
     {
-        let mut units = fixed_units(alloc)?;
-        if limit as usize > u32::MAX as usize - units.len() {
+        Ok(Pool::of(Pool::reserve(alloc, limit)?, limit, text))
+    }
+
+    /// The units with which a pool of that limit begins. All memory that charged texts will need is taken here, and no more
+    /// than this: two bytes for each unit of the limit, and 9,738 more.
+    pub fn reserve(alloc: Global, limit: u32) -> Result<Vec<u16>, NoMemory>
+        ensures { IfOk result (λ units. IsReserved units.items (vec_capacity units) limit) }
+    {
+        if limit > u32::MAX - FIXED_UNITS {
             return Err(NoMemory);
         }
-        units.reserve_exact(limit as usize + ROOM_FOR_NAMES)?;
-        Ok(Pool {
+        let room = FIXED_UNITS as usize + ROOM_FOR_NAMES as usize + limit as usize;
+        let mut units = Vec::with_capacity(alloc, room)?;
+        push_fixed(&mut units);
+        Ok(units)
+    }
+
+    /// A pool that has its memory in these units.
+    pub fn of(units: Vec<u16>, limit: u32, text: u32) -> Pool
+        requires { IsReserved units.items (vec_capacity units) limit }
+        ensures { result
+            ≡ record { units = fixed_units; used = 0; limit = limit; text_limit = text } }
+    {
+        Pool {
             units,
             used: 0,
             limit,
             text_limit: text,
-        })
+        }
     }
 
     /// The longest text that a run makes, in units.
@@ -149,7 +170,7 @@ impl Pool {
         if text.len() > u32::MAX as usize - start - left {
             return Err(NoMemory);
         }
-        self.units.reserve(text.len() + left)?;
+        reserve_more(&mut self.units, text.len() + left)?;
         self.units.extend_from_slice(text)?;
         Ok(Span {
             start: start as u32,
@@ -238,29 +259,49 @@ fn within(s: Span, length: usize) -> (usize, usize)
     ((s.start as usize).min(end), end)
 }
 
-// The units of all fixed texts, one after another.
-#[tactic(auto, unfolding(crate::specs::FixedTexts::fixed_units, crate::specs::FixedTexts::fixed_texts))]
-fn fixed_units(alloc: Global) -> Result<Vec<u16>, NoMemory>
-    ensures { IfOk result (λ units. units.items ≡ fixed_units) }
+// Has room for so many units more. What is taken is half as much as there is beside them, so that names past those that a
+// pool has room for are not moved for each of them.
+fn reserve_more(units: &mut Vec<u16>, more: usize) -> Result<(), NoMemory>
+    requires { length units.old.items + more < 2 ^ 32 }
+    ensures same { units.new.items ≡ units.old.items }
+    ensures kept { vec_capacity units.old ≤ vec_capacity units.new }
+    ensures room { OnOk result (length units.old.items + more ≤ vec_capacity units.new) }
 {
-    units_of_all(alloc, &FIXED_TEXTS)
-}
-
-fn units_of_all(alloc: Global, texts: &[FixedText]) -> Result<Vec<u16>, NoMemory>
-    ensures { IfOk result (λ units. units.items ≡ flat_map text_of texts.now) }
-{
-    let mut units = Vec::new(alloc);
-    for fixed in texts {
-        push_ascii(&mut units, fixed.text())?;
-    }
-    Ok(units)
-}
-
-fn push_ascii(units: &mut Vec<u16>, text: &str) -> Result<(), NoMemory>
-    ensures { OnOk result (units.new.items ≡ units.old.items ++ text.now) }
-{
-    for byte in text.as_bytes() {
-        units.push(u16::from(*byte))?;
+    let len = units.len();
+    if more > units.capacity() - len {
+        units.reserve_exact(more + len / 2)?;
     }
     Ok(())
+}
+
+// Puts the units of all fixed texts, one after another, where none are.
+#[tactic(auto, unfolding(crate::specs::FixedTexts::fixed_units, crate::specs::FixedTexts::fixed_texts))]
+fn push_fixed(units: &mut Vec<u16>)
+    requires none { units.old.items ≡ [] }
+    requires room { 773 ≤ vec_capacity units.old }
+    ensures units { units.new.items ≡ fixed_units }
+    ensures room { vec_capacity units.new ≡ vec_capacity units.old }
+{
+    push_all(units, &FIXED_TEXTS);
+}
+
+fn push_all(units: &mut Vec<u16>, texts: &[FixedText])
+    requires room { length units.old.items + length (flat_map text_of texts.now)
+        ≤ vec_capacity units.old }
+    ensures units { units.new.items ≡ units.old.items ++ flat_map text_of texts.now }
+    ensures room { vec_capacity units.new ≡ vec_capacity units.old }
+{
+    for fixed in texts {
+        push_ascii(units, fixed.text());
+    }
+}
+
+fn push_ascii(units: &mut Vec<u16>, text: &str)
+    requires room { length units.old.items + length text.now ≤ vec_capacity units.old }
+    ensures units { units.new.items ≡ units.old.items ++ text.now }
+    ensures room { vec_capacity units.new ≡ vec_capacity units.old }
+{
+    for byte in text.as_bytes() {
+        units.push_reserved(u16::from(*byte));
+    }
 }
