@@ -43,7 +43,7 @@ pub fn begin_name(p: &Source, heap: &mut Heap, at: &Part) -> Next
     ensures grows { Grows heap.old heap.new }
 {
     match at.role {
-        Role::Value | Role::Callee => match found(heap, at.scope, p.scoping(at.node).resolved) {
+        Role::Value | Role::Callee => match found(heap, at.scope, p.resolved(at.node)) {
             Some(v) => give(v),
             None => throw(p.alloc(), heap, Class::ThrownReferenceError),
         },

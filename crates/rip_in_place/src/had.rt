@@ -126,7 +126,7 @@ fn value_of_name(p: &Source, heap: &Heap, at: &Part) -> Option<Value>
         ≡ Ends (Completion.Normal v) heap.now) }
 {
     match at.role {
-        Role::Value | Role::Callee => found(heap, at.scope, p.scoping(at.node).resolved),
+        Role::Value | Role::Callee => found(heap, at.scope, p.resolved(at.node)),
         Role::Target => Some(Value::Undefined),
     }
 }
@@ -136,7 +136,7 @@ fn name_inside(p: &Source, heap: &Heap, at: &Part, node: u32) -> Option<Value>
     ensures { IfSome result (λ v. name_row p.now (part at.now node) Role.Value heap.now
         ≡ Ends (Completion.Normal v) heap.now) }
 {
-    found(heap, at.scope, p.scoping(node).resolved)
+    found(heap, at.scope, p.resolved(node))
 }
 
 // OPERATORS

@@ -22,10 +22,10 @@ fn scope_up(heap: &Heap, scope: u32, up: u32) -> u32
 }
 
 /// What a name means from this scope on, or none where it is not bound yet.
-pub fn found(heap: &Heap, scope: u32, name: Option<Resolved>) -> Option<Value>
-    ensures { result ≡ found heap.now scope name }
+pub fn found(heap: &Heap, scope: u32, name: &Option<Resolved>) -> Option<Value>
+    ensures { result ≡ found heap.now scope name.now }
 {
-    match name {
+    match *name {
         Some(Resolved::Binding { up, place }) => heap.binding(scope_up(heap, scope, up), place),
         Some(Resolved::Global(global)) => Some(global.value()),
         None => Some(Value::Undefined),
@@ -36,7 +36,7 @@ pub fn found(heap: &Heap, scope: u32, name: Option<Resolved>) -> Option<Value>
 pub fn target_found(p: &Source, heap: &Heap, at: &Part) -> Option<Value>
     ensures { result ≡ target_found p.now at.now heap.now }
 {
-    found(heap, at.scope, p.scoping(p.child(at.node, 0)).resolved)
+    found(heap, at.scope, p.resolved(p.child(at.node, 0)))
 }
 
 /// Writes a value to what a name means from this scope on, or answers the class of the error to be thrown.
@@ -52,12 +52,10 @@ pub fn write(heap: &mut Heap, scope: u32, scoping: Scoping, v: Value) -> Result<
     match scoping.resolved {
         Some(Resolved::Binding { up, place }) => {
             let target = scope_up(heap, scope, up);
-            match heap.binding(target, place) {
-                Some(_) => {
-                    heap.set_binding(target, place, v);
-                    Ok(())
-                },
-                None => Err(Class::ThrownReferenceError),
+            if heap.rebind(target, place, v) {
+                Ok(())
+            } else {
+                Err(Class::ThrownReferenceError)
             }
         },
         _ => Ok(()),

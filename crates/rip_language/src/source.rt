@@ -4,7 +4,7 @@ ghost use Rattle.rip_language.specs.Reading.{child, child_at, children_from, for
 
 use crate::worth::Worth;
 use rip_runs::{Inner, Part, Role};
-use rip_tree::{Form, Program, Scoping};
+use rip_tree::{Form, Program, Resolved, Scoping};
 use rip_values::{BinaryOperator, LogicalOperator, Span, StepOperator, UnaryOperator};
 use std::alloc::Global;
 use std::marker::Model;
@@ -112,9 +112,16 @@ impl Source<'_> {
     {
         Scoping {
             names: self.program.names(id),
-            resolved: self.program.resolved(id),
+            resolved: *self.program.resolved(id),
             is_own: self.program.is_own_name(id),
         }
+    }
+
+    /// What the name of a node means.
+    pub fn resolved(&self, id: u32) -> &Option<Resolved>
+        ensures { result.now ≡ (scoping self.now id).resolved }
+    {
+        self.program.resolved(id)
     }
 
     /// The span of the text that a node is.

@@ -204,10 +204,13 @@ impl Program {
     }
 
     /// What the name means that the node reads or binds; none where it reads and binds no name.
-    pub fn resolved(&self, id: u32) -> Option<Resolved>
-        ensures { result ≡ (scoping_of self.now.scoping id).resolved }
+    pub fn resolved(&self, id: u32) -> &Option<Resolved>
+        ensures { result.now ≡ (scoping_of self.now.scoping id).resolved }
     {
-        scoping_at(self.scoping.as_slice(), id).resolved
+        if id as usize >= self.scoping.len() {
+            return &None;
+        }
+        &self.scoping[id as usize].resolved
     }
 
     /// Whether the name that the node reads or binds is a function expression's own, which is never assigned

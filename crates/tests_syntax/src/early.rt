@@ -122,7 +122,7 @@ fn names_are_bound_in_the_order_of_the_text(rt: HostRuntime) -> Result<(), Fail>
     assert_eq!(rt; program.top_names(), 3);
     for &(id, place) in &BOUND {
         assert_eq!(rt;
-            program.resolved(id),
+            *program.resolved(id),
             Some(Resolved::Binding { up: 0, place })
         );
     }
@@ -168,7 +168,7 @@ fn scripts_without_an_early_error_are_a_program(rt: HostRuntime) -> Result<(), F
     let program = check(rt.alloc(), &trees)?;
     assert_eq!(rt; (program.count(), program.top_names()), (5, 0));
     assert_eq!(rt;
-        program.resolved(4),
+        *program.resolved(4),
         Some(Resolved::Global(GlobalName::NaN))
     );
     Ok(())
@@ -184,7 +184,7 @@ fn a_name_of_var_in_a_clause_is_one_of_the_top_scope(rt: HostRuntime) -> Result<
     assert_eq!(rt; program.top_name(0), Some([101].as_slice()));
     assert_eq!(rt; program.vars(1), [0].as_slice());
     let inner = Some(Resolved::Binding { up: 0, place: 0 });
-    assert_eq!(rt; program.resolved(8), inner);
+    assert_eq!(rt; *program.resolved(8), inner);
     Ok(())
 }
 

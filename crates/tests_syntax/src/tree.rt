@@ -120,7 +120,7 @@ fn has_its_last_name(program: &Program) -> bool {
         && program.units(name) == [98].as_slice()
         && program.node_at(6).is_none()
         && (program.names(5), program.names(6)) == (5, 0)
-        && program.resolved(5) == Some(Resolved::Global(GlobalName::String))
+        && *program.resolved(5) == Some(Resolved::Global(GlobalName::String))
         && program.resolved(6).is_none()
         && program.is_own_name(5)
 }
