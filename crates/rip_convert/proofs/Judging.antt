@@ -1,46 +1,24 @@
 -- The judging of values, one part behind the other.
-use Rattle.std.proofs.Common.{◌≡◌, ℕ, ℤ, zero, suc, ◌+◌, ◌-◌, ◌<◌, ◌≤◌, ◌&&◌, true, cond, inl, inr, Option, None, Some, option_map, Result, Ok, Err, List, [], ◌∷◌, drop, length, get_or, refl, sym, ap, ap₂, ◌∙◌, arith}
+use Rattle.std.proofs.Common.{◌≡◌, ℕ, ℤ, zero, suc, ◌+◌, ◌-◌, ◌<◌, ◌≤◌, ◌&&◌, true, cond, Result, Ok, Err, List, drop, length, get_or, sym, ap, ap₂, ◌∙◌, arith}
 use Rattle.std.specs.Char.Utf16.{has_unpaired_surrogate}
-use Rattle.std.specs.Prelude.{slice_get, option_and_then, unwrap_or, is_some}
 use Rattle.std.proofs.lemmas.Bool.{le-leb}
-use Rattle.std.proofs.lemmas.List.{at_drop_more, at_drop_all}
-use Rattle.std.proofs.lemmas.Option.{slice_get_cases}
+use Rattle.std.proofs.lemmas.List.{at_drop_more}
 use Rattle.rip_values.specs.declared.value.Span.{Span}
 use Rattle.rip_values.specs.declared.value.Value.{Value}
 use Rattle.rip_values.specs.declared.value.Value.TheVariants.{Undefined, Num, Text, Object}
 use Rattle.rip_values.specs.declared.value.Fault.{Fault}
 use Rattle.rip_values.specs.declared.value.Fault.TheVariants.{BadArgument, LoneSurrogate}
-use Rattle.rip_values.specs.Pool.{Texts, text_at}
+use Rattle.rip_values.specs.Pool.{text_at}
 use Rattle.rip_values.specs.Whole.{IsWhole}
 use Rattle.rip_pages.specs.declared.property.Property.{Property}
 use Rattle.rip_heap.specs.Holders.{holder_of}
-use Rattle.rip_heap.specs.World.{World, Object as HeapObject, object_at}
-use Rattle.rip_convert.specs.Arguments.{are_units, properties_of}
-use Rattle.rip_convert.specs.Written.{then_left, spelled_left, whole_left, elements_left, fields_left, parts_left, piece_left, left_after}
+use Rattle.rip_heap.specs.World.{World, object_at}
+use Rattle.rip_convert.specs.Arguments.{are_units}
+use Rattle.rip_convert.specs.Written.{then_left, spelled_left, whole_left, elements_left, parts_left, piece_left, left_after}
 use Rattle.rip_convert.proofs.Telling.{is_whole_of}
 
 abbrev pub named : Property → Span × Value
 named p = (p.name, p.value)
-
--- the property at a place is the first of those from there on
-pub property_here : {Y : Type 0} (f : List Property → Y) (g : Span × Value → List Property → Y) → ((p : Property) (ps : List Property) → f (p ∷ ps) ≡ g (named p) ps) → (o : Option HeapObject) (i : ℕ) (q : Span × Value)
-    → option_map named (option_and_then (λ o. slice_get o.properties i) o) ≡ Some q → f (drop i (properties_of o)) ≡ g q (drop (i + 1) (properties_of o))
-property_here f g step None i q h = absurd (cc)
-property_here f g step (Some o) i q h = elim (slice_get_cases o.properties i).1 [
-  | inl there ↦
-      let same : Some (named there.0) ≡ Some q = sym (ap (option_map named) there.2) ∙ h in
-      at_drop_more f o.properties i there.0 there.1 ∙ ap (λ p. f (p ∷ drop (i + 1) o.properties)) there.3
-      ∙ step there.0 (drop (i + 1) o.properties) ∙ ap (λ q'. g q' (drop (i + 1) o.properties)) (ap (λ r. unwrap_or r q) same)
-  | inr past ↦ absurd (let none : ◌≡◌ {A = Option (Span × Value)} None (Some q) = sym (ap (option_map named) past.1) ∙ h in cc)
-]
-
--- before the number of the properties there is one at each place
-pub property_there : (o : Option HeapObject) (i : ℕ) → i < length (properties_of o) → is_some (option_map named (option_and_then (λ o. slice_get o.properties i) o)) ≡ true
-property_there None i h = absurd (omega (arith, h))
-property_there (Some o) i h = elim (slice_get_cases o.properties i).1 [
-  | inl there ↦ ap (λ r. is_some (option_map named r)) there.2
-  | inr past ↦ absurd (omega (arith, h, past.0))
-]
 
 pub element_here : (judge : Value → ℕ → Result ℕ Fault) (vs : List Value) (i : ℕ) (v : Value) (left : ℕ) → i < length vs → v ≡ get_or vs i Undefined
     → elements_left judge (drop i vs) left ≡ then_left (judge v left) (elements_left judge (drop (i + 1) vs))

@@ -1,13 +1,13 @@
 -- Canonical text is one line, and is not empty.
-use Rattle.std.proofs.Common.{◌≡◌, ◌≢◌, ◌==◌, ◌≤◌, ◌<◌, ◌+◌, ◌/◌, ◌%◌, ◌^◌, ℕ, suc, ℤ, pos, negsuc, nat_lt, Bool, true, false, cond, ◌||◌, List, [], ◌∷◌, ◌++◌, All, length, decimal, refl, sym, ap, subst, ◌∙◌, arith, length-append, inl, inr, ◌⊎◌}
+use Rattle.std.proofs.Common.{◌≡◌, ◌≢◌, ◌==◌, ◌≤◌, ◌<◌, ◌+◌, ◌/◌, ◌%◌, ◌^◌, ℕ, suc, pos, negsuc, nat_lt, Bool, true, false, cond, ◌||◌, List, [], ◌∷◌, ◌++◌, All, length, decimal, refl, subst, arith, length-append}
 use Rattle.std.proofs.lemmas.Int.{ints}
 use Rattle.std.specs.Char.{digit_char}
 use Rattle.std.specs.Str.Parse.{AllDigits}
 use Rattle.std.proofs.lemmas.Fmt.{decimal_is_IsNumeral}
 use Rattle.std.proofs.lemmas.List.Elements.{All-append, All-cons, All-nil}
 use Rattle.json.specs.Print.{escape_letter, escape_byte, escape, quoted}
-use Rattle.serde_json.specs.Written.{compact_text, comma_if, items_text, members_text}
-use Rattle.rip_data.specs.Datum.{Tree, null, boolean, number, text, array, object, Elements, no_elements, element, Fields, no_fields, field, data_of, items_of, members_of, utf8_of, IsDatum, AreData, HaveData, canonical_text}
+use Rattle.serde_json.specs.Written.{comma_if, items_text, members_text}
+use Rattle.rip_data.specs.Datum.{Tree, null, boolean, number, text, array, object, Elements, no_elements, element, Fields, no_fields, field, items_of, members_of, utf8_of, IsDatum, AreData, HaveData, canonical_text}
 use Rattle.rip_convert.specs.Arguments.{call_line}
 
 -- the bytes hold no line feed

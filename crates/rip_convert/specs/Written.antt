@@ -1,13 +1,12 @@
 -- The canonical text of values as it is written: first the values are judged, and then their data is written, the fields
 -- of each object in the order of their names.
-use Rattle.std.specs.Prelude.{◌≡◌, ◌≢◌, ◌<◌, ◌≤◌, slice_index_or, ℕ, ℤ, zero, suc, ◌+◌, ◌-◌, ◌&&◌, nat_le, if◌then◌else◌, List, [], ◌∷◌, ◌++◌, length, Option, None, Some, unwrap_or, Result, Ok, Err}
+use Rattle.std.specs.Prelude.{◌≡◌, ◌≢◌, ◌<◌, ◌≤◌, slice_index_or, ℕ, ℤ, zero, suc, ◌+◌, ◌-◌, ◌&&◌, nat_le, if◌then◌else◌, List, [], ◌∷◌, ◌++◌, length, All, Option, None, Some, Result, Ok, Err}
 use Rattle.std.specs.Char.Utf16.{has_unpaired_surrogate}
 use Rattle.std.specs.declared.cmp.Ordering.{Ordering}
 use Rattle.std.specs.declared.cmp.Ordering.TheVariants.{Greater}
 use Rattle.std.specs.Ordering.{nat_cmp}
 use Rattle.std.specs.Cmp.Lexicographic.{slice_cmp}
 use Rattle.serde_json.specs.Data.{Data, null, boolean, number, string, array, object, Items, no_items, item, Members, no_members, member, put}
-use Rattle.rip_values.specs.declared.value.Span.{Span}
 use Rattle.rip_values.specs.declared.value.Value.{Value}
 use Rattle.rip_values.specs.declared.value.Value.TheVariants.{Undefined, Null, Bool as Boolean, Num, NaN, Text, Object}
 use Rattle.rip_values.specs.declared.value.Fault.{Fault}
@@ -18,7 +17,6 @@ use Rattle.rip_heap.specs.declared.holder.Holder.TheVariants.{PlainObject, Array
 use Rattle.rip_pages.specs.declared.property.Property.{Property}
 use Rattle.rip_heap.specs.Arrays.{elements_at}
 use Rattle.rip_heap.specs.Holders.{holder_of}
-use Rattle.rip_heap.specs.Objects.{own_at}
 use Rattle.rip_heap.specs.World.{World, object_at}
 use Rattle.rip_data.specs.Datum.{AreInOrder, number_of_whole, utf8_of}
 use Rattle.rip_data.specs.Reading.{is_whole}
@@ -144,36 +142,54 @@ abbrev pub pieces : ℕ → World → Value → ℕ
 pieces zero w v = pieces_by (λ n. 0) w v
 pieces (suc levels) w v = pieces_by (λ n. parts_pieces (holder_of (object_at w n)) (pieces levels w) w n) w v
 
--- THE ORDER of fields: the places of properties, in the order of their names
+-- THE ORDER of fields
 
--- the name and the value of the property at a place; past the last none has a name
-abbrev pub field_at : World → ℕ → ℕ → Span × Value
-field_at w n place = unwrap_or (own_at w n place) (record { start = 0; count = 0 }, Undefined)
+-- properties, those of one object behind those of the object around it, and the places in this row at which they stand:
+-- those of each object in the order of their names
+pub record Placed : Type 0 where
+  pub properties : List Property
+  pub places : List ℕ
+
+-- no property and no place
+abbrev pub none_placed : Placed
+none_placed = record { properties = []; places = [] }
+
+-- there is room for so many more properties and places
+abbrev pub HasRoom : Placed → ℕ → Type 0
+HasRoom row more = (length row.properties + more ≤ 16384) × (length row.places + more ≤ 16384)
+
+-- the property at a place; past the last none has a name
+abbrev pub field_at : List Property → ℕ → Property
+field_at ps place = slice_index_or ps place (record { name = record { start = 0; count = 0 }; value = Undefined })
 
 -- the name in UTF-8
-abbrev pub name_at : World → ℕ → ℕ → List ℕ
-name_at w n place = utf8_of (text_at w.pool (field_at w n place).0)
+abbrev pub name_at : Texts → List Property → ℕ → List ℕ
+name_at pool ps place = utf8_of (text_at pool (field_at ps place).name)
 
 -- the fields at these places, and then others
-abbrev pub members_before : World → (Value → Data) → ℕ → List ℕ → Members → Members
-members_before w tell n [] others = others
-members_before w tell n (place ∷ places) others = member (name_at w n place) (tell (field_at w n place).1) (members_before w tell n places others)
+abbrev pub members_before : Texts → (Value → Data) → List Property → List ℕ → Members → Members
+members_before pool tell ps [] others = others
+members_before pool tell ps (place ∷ places) others = member (name_at pool ps place) (tell (field_at ps place).value) (members_before pool tell ps places others)
 
-abbrev pub members_at : World → (Value → Data) → ℕ → List ℕ → Members
-members_at w tell n places = members_before w tell n places no_members
+abbrev pub members_at : Texts → (Value → Data) → List Property → List ℕ → Members
+members_at pool tell ps places = members_before pool tell ps places no_members
 
 -- the places stand in the order of their names, each name once
-abbrev pub IsOrdered : World → ℕ → List ℕ → Type 0
-IsOrdered w n places = AreInOrder (members_at w (λ v. null) n places)
+abbrev pub IsOrdered : Texts → List Property → List ℕ → Type 0
+IsOrdered pool ps places = AreInOrder (members_at pool (λ v. null) ps places)
+
+-- each place is one of those from `low` on and before `high`
+abbrev pub AreFrom : ℕ → ℕ → List ℕ → Type 0
+AreFrom low high places = All (λ place. (low ≤ place) × (place < high)) places
 
 -- the order of the names of two properties
-abbrev pub order : World → ℕ → ℕ → ℕ → Ordering
-order w n a b = slice_cmp nat_cmp (name_at w n a) (name_at w n b)
+abbrev pub order : Texts → List Property → ℕ → ℕ → Ordering
+order pool ps a b = slice_cmp nat_cmp (name_at pool ps a) (name_at pool ps b)
 
 -- the names before a place are less than that of a property, and those from another place on are not
-pub record IsBetween (w : World) (n : ℕ) (xs : List ℕ) (base place low high : ℕ) : Type 0 where
+pub record IsBetween (pool : Texts) (ps : List Property) (xs : List ℕ) (base place low high : ℕ) : Type 0 where
   pub from : base ≤ low
   pub ordered : low ≤ high
   pub within : high ≤ length xs
-  pub before : (j : ℕ) → base ≤ j → j < low → order w n place (slice_index_or xs j 0) ≡ Greater
-  pub after : (j : ℕ) → high ≤ j → j < length xs → order w n place (slice_index_or xs j 0) ≢ Greater
+  pub before : (j : ℕ) → base ≤ j → j < low → order pool ps place (slice_index_or xs j 0) ≡ Greater
+  pub after : (j : ℕ) → high ≤ j → j < length xs → order pool ps place (slice_index_or xs j 0) ≢ Greater

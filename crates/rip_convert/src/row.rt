@@ -4,13 +4,13 @@ ghost use Rattle.rip_values.specs.Pool.{text_at};
 ghost use Rattle.rip_data.specs.Datum.{utf8_of};
 ghost use Rattle.rip_convert.specs.Arguments.{arguments_text, call_text};
 ghost use Rattle.rip_convert.specs.Told.{IsCallOf};
-ghost use Rattle.rip_convert.specs.Written.{left_after};
+ghost use Rattle.rip_convert.specs.Written.{left_after, none_placed};
 
 use crate::faults::first_fault;
 use crate::judge::left_after;
 use crate::line::{Line, append};
 use crate::marks::Marks;
-use crate::order::Places;
+use crate::order::Fields;
 use crate::write::write_value;
 use rip_data::{MAX_DEPTH, MAX_LENGTH};
 use rip_heap::Heap;
@@ -26,18 +26,19 @@ const ROW: usize = 16_460;
 pub struct CallRow {
     text: Vec<u8>,
     part: Line,
-    places: Places,
+    fields: Fields,
     marks: Marks,
 }
 
 impl Model for CallRow {
-    ghost use Rattle.std.specs.Prelude.{◌≡◌, ◌≤◌, [], vec_capacity};
+    ghost use Rattle.std.specs.Prelude.{◌≡◌, ◌≤◌, vec_capacity};
+    ghost use Rattle.rip_convert.specs.Written.{none_placed};
 
     ghost Value = { Unit {0} };
 
     ghost view = { λ _. tt };
 
-    ghost invariant = { λ r. (16460 ≤ vec_capacity r.text) × (r.places ≡ []) };
+    ghost invariant = { λ r. (16460 ≤ vec_capacity r.text) × (r.fields ≡ none_placed) };
 }
 
 impl CallRow {
@@ -47,7 +48,7 @@ impl CallRow {
         Ok(CallRow {
             text: Vec::with_capacity(alloc, ROW)?,
             part: Line::make(alloc)?,
-            places: Places::make(alloc)?,
+            fields: Fields::make(alloc)?,
             marks: Marks::make(alloc, cells)?,
         })
     }
@@ -66,7 +67,7 @@ impl CallRow {
         fill(
             &mut self.text,
             &mut self.part,
-            &mut self.places,
+            &mut self.fields,
             &mut self.marks,
             heap,
             name,
@@ -80,18 +81,18 @@ impl CallRow {
 fn fill(
     text: &mut Vec<u8>,
     part: &mut Line,
-    places: &mut Places,
+    fields: &mut Fields,
     marks: &mut Marks,
     heap: &Heap,
     name: Span,
     args: &Value,
 ) -> Result<(), Fault>
     requires room { 16460 ≤ vec_capacity text.old }
-    requires none { places.old ≡ [] }
+    requires none { fields.old ≡ none_placed }
     requires name { length (quoted (utf8_of (text_at heap.now.pool name))) ≤ 73 }
     ensures text { MatchResult result (λ _. call_text heap.now name args.now ≡ Ok text.new.items)
         (λ fault. call_text heap.now name args.now ≡ Err fault) }
-    ensures places { places.new ≡ places.old }
+    ensures fields { fields.new ≡ fields.old }
     ensures room { vec_capacity text.new ≡ vec_capacity text.old }
 {
     judge(marks, heap, args)?;
@@ -102,7 +103,7 @@ fn fill(
     copy(part, text);
     text.push_reserved(b',');
     part.clear();
-    write_value(heap, *args, MAX_DEPTH, places, part);
+    write_value(heap, *args, MAX_DEPTH, fields, part);
     if !copy(part, text) {
         return Err(Fault::BadArgument);
     }

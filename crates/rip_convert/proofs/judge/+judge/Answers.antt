@@ -4,8 +4,6 @@ use Rattle.std.proofs.lemmas.Result.{err_from_is_err_and}
 use Rattle.rip_values.specs.Pool.{text_at}
 use Rattle.rip_values.specs.declared.value.Value.TheVariants.{Undefined}
 use Rattle.rip_heap.specs.Arrays.{elements_at}
-use Rattle.rip_heap.specs.World.{object_at}
-use Rattle.rip_convert.specs.Arguments.{properties_of}
 use Rattle.rip_convert.specs.Written.{then_left, spelled_left, elements_left, fields_left, left_after}
 use Rattle.rip_convert.proofs.Judging.{element_here, left_number, left_object, left_text}
 use Rattle.rip_convert.proofs.judge.+judge.Goals as goal

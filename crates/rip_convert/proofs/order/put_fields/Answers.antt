@@ -1,29 +1,27 @@
-use Rattle.std.proofs.Common.{length, sym, subst, ◌∙◌}
-use Rattle.rip_heap.specs.World.{object_at}
-use Rattle.rip_convert.specs.Arguments.{properties_of}
-use Rattle.rip_convert.proofs.Placing.{IsPut, gone_through, filled-more, filled-all}
+use Rattle.std.proofs.Common.{◌≡◌, ◌<◌, length, sym, ap, subst, ◌∙◌, arith}
+use Rattle.rip_convert.proofs.Placing.{IsPut, filled-more}
 use Rattle.rip_convert.proofs.order.put_fields.Goals as goal
 
-pub loop-property-preserved : goal.loop-property-preserved
-loop-property-preserved c =
-    let w = c.args.heap.now in
-    let old = c.args.places.now in
-    let places = c.loop-property.places in
-    let new = c.put_field.new.places in
-    let base = c.loop-property.invariant.base in
-    let gone = gone_through (properties_of (object_at w c.args.object)) c.loop-property.place c.in-Some._property c.next.new.self (sym c.in-Some.ensures.steps ∙ c.loop-property.invariant.own) in
-    let given : IsPut w c.args.object places c.count-base.result c.loop-property.place new = record {
+pub loop-place-preserved : goal.loop-place-preserved
+loop-place-preserved c =
+    let pool = c.args.heap.now.pool in
+    let pushed = c.push_properties.new.fields in
+    let places = c.loop-place.fields.places in
+    let new = c.put_field.new.fields.places in
+    let place = c.loop-place.place in
+    let same = c.loop-place.invariant.properties in
+    let base : c.count_places-base.result ≡ length pushed.places = c.count_places-base.ensures ∙ ap (λ f. length f.places) (sym c.push_properties.ensures) in
+    let given : IsPut pool c.loop-place.fields.properties places c.count_places-base.result place new = record {
       first = c.put_field.ensures.first;
       members = c.put_field.ensures.members;
-      below = c.put_field.ensures.below;
+      from = c.put_field.ensures.from;
       count = c.put_field.ensures.count;
       kept = c.put_field.ensures.kept;
     } in
-    let put : IsPut w c.args.object places (length old) c.loop-property.place new = subst (λ b. IsPut w c.args.object places b c.loop-property.place new) base given in record {
-      base = base;
-      filled = filled-more w c.args.object old places new c.loop-property.place gone.0 c.loop-property.invariant.filled put;
-      own = gone.1;
+    let put : IsPut pool pushed.properties places (length pushed.places) place new =
+    subst (λ b. IsPut pool pushed.properties places b place new) base (subst (λ ps. IsPut pool ps places c.count_places-base.result place new) same given) in
+    let there : place < length pushed.properties = omega (arith, c.loop-place-test.true, c.count-place-end.ensures) in
+    record {
+      properties = c.put_field.ensures.properties ∙ same;
+      filled = filled-more pool pushed.properties c.count-first.result pushed.places places new place c.loop-place.auto.place there c.loop-place.invariant.filled put;
     }
-
-pub returns-clause-members : goal.returns-clause-members
-returns-clause-members c = filled-all c.args.heap.now c.args.object c.args.places.now c.loop-property.places c.loop-property.place (sym c.in_default.ensures.steps.0 ∙ c.loop-property.invariant.own) c.loop-property.invariant.filled

@@ -18,7 +18,7 @@ returns-in_err-judge-clause-text c =
 pub write_value-requires : goal.write_value-requires
 write_value-requires c =
     let taken = taken-pieces 8 c.args.heap.now c.args.args.now 16384 c.in_ok-judge.field-0 c.in_ok-judge.ensures in
-    omega (arith, taken, ap length c.requires.none)
+    (omega (arith, taken, ap (λ f. length f.properties) c.requires.none), omega (arith, taken, ap (λ f. length f.places) c.requires.none))
 
 pub returns-then-not-copy-clause-text : goal.returns-then-not-copy-clause-text
 returns-then-not-copy-clause-text c =

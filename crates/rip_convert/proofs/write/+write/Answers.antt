@@ -1,4 +1,4 @@
-use Rattle.std.proofs.Common.{◌≡◌, ◌+◌, ◌-◌, ◌<◌, ◌≤◌, ◌∷◌, ◌==◌, [], not, true, false, rules, length, drop, get_or, get_or-drop, length-drop, unwrap_or, sym, ap, ◌∙◌, arith}
+use Rattle.std.proofs.Common.{◌≡◌, ◌+◌, ◌-◌, ◌<◌, ◌≤◌, ◌∷◌, ◌==◌, [], not, true, false, rules, length, drop, get_or, get_or-drop, length-append, length-drop, unwrap_or, sym, ap, ◌∙◌, arith}
 use Rattle.std.proofs.lemmas.Bool.{ne_eqb}
 use Rattle.std.proofs.lemmas.Option.{unwrap_or-slice_get}
 use Rattle.json.specs.Print.{quoted}
@@ -21,7 +21,11 @@ write_elements-write_value-requires t c =
     let v = c.unwrap_or-v.result in
     let is : v ≡ get_or vs c.loop-place.place Undefined = c.unwrap_or-v.ensures ∙ ap (λ o. unwrap_or o Undefined) c.item.ensures ∙ unwrap_or-slice_get vs c.loop-place.place Undefined in
     let room = element-room (pieces c.args.levels w) vs c.loop-place.place (omega (arith, c.loop-place-test.true, c.count-place-end.ensures)) in
-    (first_of (search rules, omega arith), omega (arith, c.requires, room, ap (pieces c.args.levels w) is, ap length c.loop-place.invariant.places))
+    let least = ap (pieces c.args.levels w) is in
+    let fields = c.loop-place.invariant.fields in (
+      first_of (search rules, omega arith),
+      (omega (arith, c.requires.0, room, least, ap (λ f. length f.properties) fields), omega (arith, c.requires.1, room, least, ap (λ f. length f.places) fields)),
+    )
 
 pub write_elements-loop-place-preserved : goal.write_elements-loop-place-preserved
 write_elements-loop-place-preserved t c =
@@ -36,7 +40,7 @@ write_elements-loop-place-preserved t c =
           ∙ ap (λ r. added r rest) (c.write_value.ensures.text ∙ ap (λ v. added c.write_comma.new.line (compact_text (tell v))) is ∙ ap (λ r. added r (compact_text (tell (get_or vs i Undefined)))) c.write_comma.ensures)
           ∙ element-step c.loop-place.line (not (i == 0)) tell vs i (omega (arith, c.loop-place-test.true, c.count-place-end.ensures))
           ∙ c.loop-place.invariant.text;
-      places = c.write_value.ensures.places ∙ c.loop-place.invariant.places;
+      fields = c.write_value.ensures.fields ∙ c.loop-place.invariant.fields;
     }
 
 pub write_elements-returns-clause-text : goal.write_elements-returns-clause-text
@@ -52,32 +56,40 @@ write_elements-returns-clause-text t c =
 pub write_field-returns-clause-text : goal.write_field-returns-clause-text
 write_field-returns-clause-text t c =
     let w = c.args.heap.now in
-    let q = field_at w c.args.object c.args.place in
-    let is = c.field_at-v.ensures in
-    let text = compact_text (value_data c.args.levels w q.1) in
-    let spelling : c.get.result.now ≡ text_at w.pool q.0 = c.get.ensures.text ∙ ap (λ p. text_at p c.field_at-v.result.0) c.pool.ensures ∙ ap (λ r. text_at w.pool r.0) is in
-    c.write_value.ensures.text ∙ ap (λ r. added c.push.new.self (compact_text (value_data c.args.levels w r.1))) is
+    let q = field_at c.args.fields.now.properties c.args.place in
+    let is = c.at-field.ensures in
+    let text = compact_text (value_data c.args.levels w q.value) in
+    let spelling : c.get.result.now ≡ text_at w.pool q.name = c.get.ensures.text ∙ ap (λ p. text_at p c.at-field.result.name) c.pool.ensures ∙ ap (λ r. text_at w.pool r.name) is in
+    c.write_value.ensures.text ∙ ap (λ r. added c.push.new.self (compact_text (value_data c.args.levels w r.value))) is
     ∙ ap (λ r. added r text) (c.push.ensures ∙ ap (λ r. added r (58 ∷ [])) (c.push_text.ensures ∙ ap (λ u. added c.args.line.now (quoted (utf8_of u))) spelling))
-    ∙ added-added (added c.args.line.now (quoted (utf8_of (text_at w.pool q.0)))) (58 ∷ []) text
-    ∙ added-added c.args.line.now (quoted (utf8_of (text_at w.pool q.0))) (58 ∷ text)
+    ∙ added-added (added c.args.line.now (quoted (utf8_of (text_at w.pool q.name)))) (58 ∷ []) text
+    ∙ added-added c.args.line.now (quoted (utf8_of (text_at w.pool q.name))) (58 ∷ text)
 
 pub write_fields-put_fields-requires : goal.write_fields-put_fields-requires
-write_fields-put_fields-requires t c = omega (arith, c.requires, fields-room c.args.levels c.args.heap.now c.args.object)
+write_fields-put_fields-requires t c =
+    let own = properties_of (object_at c.args.heap.now c.args.object) in
+    let room = fields-room c.args.levels c.args.heap.now own in
+    (omega (arith, c.requires.0, room), omega (arith, c.requires.1, room))
 
 pub write_fields-write_field-requires : goal.write_fields-write_field-requires
 write_fields-write_field-requires t c =
     let w = c.args.heap.now in
-    let n = c.args.object in
-    let old = c.args.places.now in
-    let placed = c.put_fields.new.places in
+    let own = properties_of (object_at w c.args.object) in
+    let old = c.args.fields.now in
+    let placed = c.put_fields.new.fields in
+    let fields = c.loop-i.invariant.fields in
     let i = c.loop-i.i in
-    let k = i - length old in
-    let base : length old ≤ i = omega (arith, c.loop-i.invariant.from, c.count-base.ensures) in
-    let below : i < length placed = omega (arith, c.loop-i-test.true, c.count-i-end.ensures) in
-    let at : c.at.result ≡ get_or placed i 0 = c.at.ensures ∙ ap (λ xs. get_or xs i 0) c.loop-i.invariant.places in
-    let there : k < length (drop (length old) placed) = omega (arith, base, below, length-drop (length old) placed) in
-    let same : length old + k ≡ i = omega (arith, base) in
-    let is : get_or (drop (length old) placed) k 0 ≡ get_or placed i 0 = get_or-drop (length old) placed k 0 ∙ ap (λ j. get_or placed j 0) same in
-    let place : get_or placed i 0 < length (properties_of (object_at w n)) = omega (arith, is, c.put_fields.ensures.below k 0 there) in
-    let room = field-room c.args.levels w n (get_or placed i 0) place in
-    (first_of (search rules, omega arith), omega (arith, c.requires, room, c.put_fields.ensures.count, ap (λ p. pieces c.args.levels w (field_at w n p).1) at, ap length c.loop-i.invariant.places))
+    let k = i - length old.places in
+    let base : length old.places ≤ i = omega (arith, c.loop-i.invariant.from, c.count_places-base.ensures) in
+    let below : i < length placed.places = omega (arith, c.loop-i-test.true, c.count_places-i-end.ensures) in
+    let at : c.place.result ≡ get_or placed.places i 0 = c.place.ensures ∙ ap (λ f. get_or f.places i 0) fields in
+    let there : k < length (drop (length old.places) placed.places) = omega (arith, base, below, length-drop (length old.places) placed.places) in
+    let same : length old.places + k ≡ i = omega (arith, base) in
+    let is : get_or (drop (length old.places) placed.places) k 0 ≡ c.place.result = get_or-drop (length old.places) placed.places k 0 ∙ ap (λ j. get_or placed.places j 0) same ∙ sym at in
+    let from = c.put_fields.ensures.from k 0 there in
+    let count = ap length c.put_fields.ensures.properties ∙ length-append old.properties own in
+    let room = field-room c.args.levels w old.properties own c.place.result (omega (arith, is, from.0)) (omega (arith, is, from.1, ap length c.put_fields.ensures.properties)) in
+    let value = ap (λ ps. pieces c.args.levels w (field_at ps c.place.result).value) (ap (λ f. f.properties) fields ∙ c.put_fields.ensures.properties) in (
+      first_of (search rules, omega arith),
+      (omega (arith, c.requires.0, room, value, count, ap (λ f. length f.properties) fields), omega (arith, c.requires.1, room, value, c.put_fields.ensures.count, ap (λ f. length f.places) fields)),
+    )

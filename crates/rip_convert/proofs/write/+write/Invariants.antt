@@ -24,13 +24,13 @@ abbrev pub invariant-write_elements-loop-place : goal.invariant-write_elements-l
 invariant-write_elements-loop-place l = record {
   text : added l.line (items_text (not (l.place == 0)) (elements_data (value_data l.levels l.heap) (drop l.place (elements_at l.heap l.array))))
       ≡ added l.initial.line (items_text false (elements_data (value_data l.levels l.heap) (elements_at l.heap l.array)));
-  places : l.places ≡ l.initial.places;
+  fields : l.fields ≡ l.initial.fields;
 }
 
 abbrev pub invariant-write_fields-loop-i : goal.invariant-write_fields-loop-i
 invariant-write_fields-loop-i l = record {
-  text : added l.line (members_text (not (l.i == l.base)) (members_at l.heap (value_data l.levels l.heap) l.object (drop l.i l.places)))
-      ≡ added l.initial.line (members_text false (members_at l.heap (value_data l.levels l.heap) l.object (drop l.base l.places)));
-  places : l.places ≡ l.initial.places;
+  text : added l.line (members_text (not (l.i == l.base)) (members_at l.heap.pool (value_data l.levels l.heap) l.fields.properties (drop l.i l.fields.places)))
+      ≡ added l.initial.line (members_text false (members_at l.heap.pool (value_data l.levels l.heap) l.fields.properties (drop l.base l.fields.places)));
+  fields : l.fields ≡ l.initial.fields;
   from : l.base ≤ l.i;
 }
