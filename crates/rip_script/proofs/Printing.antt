@@ -1,6 +1,6 @@
 -- How the text of a value is written part by part.
-use Rattle.std.proofs.Common.{◌≡◌, ℕ, zero, suc, ◌+◌, ◌≤◌, Bool, true, false, if◌then◌else◌, List, [], ◌∷◌, ◌++◌, length, map, take, Option, Some, None, refl, sym, ◌∙◌, ap, subst, arith, append_assoc, add-one}
-use Rattle.std.specs.Prelude.{Result, Ok, Err, OnOk, IfSome, codes, slice_get, option_map, option_and_then, unwrap_or}
+use Rattle.std.proofs.Common.{◌≡◌, ℕ, zero, suc, ◌+◌, ◌≤◌, Bool, true, false, if◌then◌else◌, List, [], ◌∷◌, ◌++◌, length, map, take, Option, Some, None, refl, sym, ◌∙◌, ap, subst, arith, append_assoc, append-nil, add-one}
+use Rattle.std.specs.Prelude.{Result, Ok, Err, OnOk, IfSome, codes, slice_get, option_map, unwrap_or}
 use Rattle.std.specs.List.{join_with_byte}
 use Rattle.rip_values.specs.Builtins.{builtins, number_of}
 use Rattle.rip_values.specs.Pool.{Texts, text_at}
@@ -10,11 +10,10 @@ use Rattle.rip_values.specs.declared.value.Span.{Span}
 use Rattle.rip_values.specs.declared.value.Value.{Value}
 use Rattle.rip_values.proofs.BuiltinLemmas.{IfSome-slice_get, slice_get-number_of}
 use Rattle.rip_tree.specs.Program.{Code}
-use Rattle.rip_heap.specs.Objects.{own_at}
+use Rattle.rip_heap.specs.Stored.{properties_of as listed_properties}
 use Rattle.rip_heap.specs.World.{World, Object, object_at, class_of, code_of}
 use Rattle.rip_heap.specs.declared.class.Class.{Class}
-use Rattle.rip_pages.specs.declared.property.Property.{Property}
-use Rattle.rip_script.specs.Steps.{comma_before}
+use Rattle.rip_script.specs.Steps.{comma_before, parts_left}
 use Rattle.rip_script.specs.Values.{builtin_text, contents_text, function_text, is_around, is_function, name_text, object_by_class, object_text, properties_of, property_text, unless_around, value_text}
 
 -- PARTS WITH COMMAS
@@ -38,45 +37,8 @@ join_more show xs i x e =
     rw (add-one) (join_more' show xs i x e)
     ∙ sym (append_assoc (join_with_byte 44 (map show (take i xs))) (comma_before i) (show x))
 
--- PROPERTIES
-
 none_some : {X : Type 0} {x : X} → None ≡ Some x → ⊥
 none_some e = cc
-
-some_property : (properties : List Property) (place : ℕ) (found : Option Property) (name : Span) (v : Value)
-    → slice_get properties place ≡ found → option_map {U = Span × Value} (λ p. (p.name, p.value)) found ≡ Some (name, v)
-    → slice_get properties place ≡ Some (record { name = name; value = v })
-some_property properties place None name v e h = absurd (none_some h)
-some_property properties place (Some p) name v e h =
-    let own : Span × Value = (p.name, p.value) in
-    let names : p.name ≡ name = ap (λ (o : Option (Span × Value)). (unwrap_or o own).0) h in
-    let values : p.value ≡ v = ap (λ (o : Option (Span × Value)). (unwrap_or o own).1) h in
-    e ∙ ap (λ n. Some (record { name = n; value = p.value })) names ∙ ap (λ x. Some (record { name = name; value = x })) values
-
-own_some : (o : Option Object) (place : ℕ) (name : Span) (v : Value)
-    → option_map {U = Span × Value} (λ p. (p.name, p.value)) (option_and_then (λ x. slice_get x.properties place) o) ≡ Some (name, v)
-    → slice_get (properties_of o) place ≡ Some (record { name = name; value = v })
-own_some None place name v h = absurd (none_some h)
-own_some (Some o) place name v h = some_property o.properties place (slice_get o.properties place) name v refl h
-
--- the property that is found at a place
-pub own_at-some : (w : World) (n place : ℕ) (name : Span) (v : Value) → own_at w n place ≡ Some (name, v)
-    → slice_get (properties_of (object_at w n)) place ≡ Some (record { name = name; value = v })
-own_at-some w n place name v h = own_some (object_at w n) place name v h
-
-past_end : (properties : List Property) (place : ℕ) → option_map {U = Span × Value} (λ p. (p.name, p.value)) (slice_get properties place) ≡ None → length properties ≤ place
-past_end [] place h = omega arith
-past_end (p ∷ ps) zero h = cc
-past_end (p ∷ ps) (suc place) h = let rest = past_end ps place h in omega arith
-
-own_none : (o : Option Object) (place : ℕ)
-    → option_map {U = Span × Value} (λ p. (p.name, p.value)) (option_and_then (λ x. slice_get x.properties place) o) ≡ None → length (properties_of o) ≤ place
-own_none None place h = omega arith
-own_none (Some o) place h = past_end o.properties place h
-
--- where none is found all properties stand before the place
-pub own_at-none : (w : World) (n place : ℕ) → own_at w n place ≡ None → length (properties_of (object_at w n)) ≤ place
-own_at-none w n place h = own_none (object_at w n) place h
 
 -- LISTS BETWEEN BRACKETS
 
@@ -114,14 +76,43 @@ no_item [] i h = omega arith
 no_item (x ∷ xs) zero h = absurd (none_some (sym h))
 no_item (x ∷ xs) (suc i) h = let rest = no_item xs i h in omega arith
 
+-- before the first part nothing stands
+pub all_left : (parts : List (List ℕ)) → parts_left [] parts ≡ join_with_byte 44 parts
+all_left [] = refl
+all_left (part ∷ parts) = refl
+
+left_behind : (before part : List ℕ) (parts : List (List ℕ)) → parts_left before (part ∷ parts) ≡ (before ++ part) ++ parts_left (44 ∷ []) parts
+left_behind before part [] = sym (append-nil (before ++ part))
+left_behind before part (next ∷ parts) = sym (append_assoc before part (44 ∷ join_with_byte 44 (next ∷ parts)))
+
+-- one part more is written, and a comma stands before the next
+pub one_less : {X : Type 0} (show : X → List ℕ) (left xs : List X) (x : X) (all before now new : List ℕ) → left ≡ x ∷ xs
+    → now ++ parts_left before (map show left) ≡ all → new ≡ (now ++ before) ++ show x → new ++ parts_left (44 ∷ []) (map show xs) ≡ all
+one_less show left xs x all before now new e h f =
+    let rest = parts_left (44 ∷ []) (map show xs) in
+    ap (λ t. t ++ rest) (f ∙ append_assoc now before (show x))
+    ∙ append_assoc now (before ++ show x) rest
+    ∙ ap (λ t. now ++ t) (sym (left_behind before (show x) (map show xs)))
+    ∙ ap (λ ys. now ++ parts_left before (map show ys)) (sym e)
+    ∙ h
+
+-- where none is left, all are written
+pub none_left : {X : Type 0} (show : X → List ℕ) (left : List X) (all before now : List ℕ) → left ≡ [] → now ++ parts_left before (map show left) ≡ all → now ≡ all
+none_left show left all before now e h = sym (append-nil now) ∙ ap (λ ys. now ++ parts_left before (map show ys)) (sym e) ∙ h
+
+-- the properties that the heap lists are those that are shown
+pub own_listed : (o : Option Object) → listed_properties o ≡ properties_of o
+own_listed None = refl
+own_listed (Some o) = refl
+
 -- a property is its name, a colon and its value
-pub property_parts : (pool : Texts) (show : Value → List ℕ) (name : Span) (v : Value) (comma named colon new units : List ℕ)
-    → named ≡ comma ++ name_text units → units ≡ text_at pool name → colon ≡ named ++ codes ":" → new ≡ colon ++ show v
-    → new ≡ comma ++ property_text pool show (record { name = name; value = v })
-property_parts pool show name v comma named colon new units e same f g =
+pub property_parts : (pool : Texts) (show : Value → List ℕ) (name : Span) (v : Value) (before key new units : List ℕ)
+    → key ≡ before ++ name_text units ++ codes ":" → units ≡ text_at pool name → new ≡ key ++ show v
+    → new ≡ before ++ property_text pool show (record { name = name; value = v })
+property_parts pool show name v before key new units e same f =
     let word = name_text (text_at pool name) in
-    g ∙ ap (λ t. t ++ show v) (f ∙ ap (λ t. t ++ codes ":") (e ∙ ap (λ u. comma ++ name_text u) same) ∙ append_assoc comma word (codes ":"))
-    ∙ append_assoc comma (word ++ codes ":") (show v)
+    f ∙ ap (λ t. t ++ show v) (e ∙ ap (λ u. before ++ name_text u ++ codes ":") same ∙ append_assoc before word (codes ":"))
+    ∙ append_assoc before (word ++ codes ":") (show v)
 
 -- OBJECTS
 

@@ -1,6 +1,6 @@
 -- What the steps of a run do. No public clause cites this.
 use Rattle.std.specs.Prelude.{◌≡◌, ◌++◌, ◌<◌, ◌≤◌, length, ◌⊎◌, ◌∷◌, [], ℕ, zero, suc, List, Option, Some, Result, Ok, Err, reverse}
-use Rattle.std.specs.List.{AllByRecursion, flat_map}
+use Rattle.std.specs.List.{AllByRecursion, flat_map, join_with_byte}
 use Rattle.rip_outer.specs.Outside.{Rose, Front, also}
 use Rattle.rip_outer.specs.declared.writing.SinkError.{SinkError}
 use Rattle.rip_outer.specs.declared.writing.SinkError.TheVariants.{Failed, Memory}
@@ -124,10 +124,15 @@ PutsStop status stop.Memory old new = (status ≡ NoMemory) × (new ≡ old)
 
 -- VALUES
 
--- what stands before the element or property at this place: a comma, but nothing before the first
+-- what stands before the element at this place: a comma, but nothing before the first
 abbrev pub comma_before : ℕ → List ℕ
 comma_before zero = []
 comma_before (suc place) = 44 ∷ []
+
+-- what is left to write of these parts: this before the first of them, and a comma before each other
+abbrev pub parts_left : List ℕ → List (List ℕ) → List ℕ
+parts_left before [] = []
+parts_left before (part ∷ parts) = before ++ join_with_byte 44 (part ∷ parts)
 
 -- RUNNING
 

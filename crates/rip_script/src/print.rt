@@ -1,8 +1,8 @@
-ghost use Rattle.std.specs.Prelude.{◌≡◌, ◌++◌, [], IfOk, OnOk};
+ghost use Rattle.std.specs.Prelude.{◌≡◌, ◌++◌, [], IfOk, OnOk, codes};
 ghost use Rattle.rip_heap.specs.Arrays.{elements_at};
 ghost use Rattle.rip_heap.specs.World.{object_at};
 ghost use Rattle.rip_script.specs.Steps.{comma_before};
-ghost use Rattle.rip_script.specs.Values.{array_text, contents_text, object_text, properties_of, properties_text, shown_levels, value_text};
+ghost use Rattle.rip_script.specs.Values.{array_text, contents_text, name_text, object_text, properties_of, properties_text, shown_levels, value_text};
 
 use crate::named::{
     builtin_at, class_word, is_around, is_function, write_builtin, write_function, write_name,
@@ -19,7 +19,7 @@ pub const LEVELS: u32 = 6;
 /// A value as text: what a script would write for it, as far as it can.
 ///
 /// Objects are shown by what they hold, functions by their names. An object inside itself is `<cycle>`, and below
-/// [`LEVELS`] levels of objects stands `...`. More elements or properties than 32 bits count are refused as want of memory.
+/// [`LEVELS`] levels of objects stands `...`. More elements than 32 bits count are refused as want of memory.
 pub fn value_text(
     alloc: Global,
     heap: &Heap,
@@ -171,16 +171,13 @@ impl Printer {
         ensures around { OnOk result (self.new.around.items ≡ self.old.around.items) }
     {
         self.out.text(b"{")?;
-        for place in 0..u32::MAX {
-            let Some((name, v)) = heap.own_at(number, place) else {
-                return self.out.text(b"}");
-            };
-            write_comma(&mut self.out, place)?;
-            write_name(self.alloc, &mut self.out, heap.pool().get(name))?;
-            self.out.text(b":")?;
-            self.value(heap, program, levels, v)?;
+        let mut before: &[u8] = b"";
+        for own in heap.own_properties(number) {
+            write_key(self.alloc, &mut self.out, before, heap.pool().get(own.name))?;
+            self.value(heap, program, levels, own.value)?;
+            before = b",";
         }
-        Err(NoMemory)
+        self.out.text(b"}")
     }
 }
 
@@ -192,4 +189,14 @@ fn write_comma(out: &mut Writer, place: u32) -> Result<(), NoMemory>
         return Ok(());
     }
     out.text(b",")
+}
+
+/// Writes the name of a property behind what stands before it, and a colon.
+fn write_key(alloc: Global, out: &mut Writer, before: &[u8], name: &[u16]) -> Result<(), NoMemory>
+    ensures { OnOk result
+        (out.new ≡ out.old ++ before.now ++ name_text name.now ++ codes ":") }
+{
+    out.text(before)?;
+    write_name(alloc, out, name)?;
+    out.text(b":")
 }

@@ -1,10 +1,13 @@
-use Rattle.std.proofs.Common.{◌++◌, ◌-◌, ◌∙◌, ap, sym, arith}
+use Rattle.std.proofs.Common.{◌≡◌, ◌++◌, ◌-◌, ◌∙◌, [], ap, map, refl, sym, arith, rules}
 use Rattle.std.specs.Prelude.{codes}
+use Rattle.std.specs.List.{join_with_byte}
 use Rattle.rip_heap.specs.Arrays.{elements_at}
+use Rattle.rip_heap.specs.Objects.{own_properties}
 use Rattle.rip_heap.specs.World.{object_at}
 use Rattle.rip_values.specs.Pool.{text_at}
+use Rattle.rip_script.specs.Steps.{parts_left}
 use Rattle.rip_script.specs.Values.{contents_text, is_around, properties_of, property_text, value_text}
-use Rattle.rip_script.proofs.Printing.{all_shown, listed, no_item, one_more, own_at-none, own_at-some, property_parts, shows_builtin, shows_contents, shows_cycle, shows_deep, shows_function, written_as}
+use Rattle.rip_script.proofs.Printing.{all_left, all_shown, listed, no_item, none_left, one_less, one_more, own_listed, property_parts, shows_builtin, shows_contents, shows_cycle, shows_deep, shows_function, written_as}
 use Rattle.rip_script.proofs.print.Printer.+print.Goals as goal
 
 pub object-returns-in-Some-clause-written : goal.object-returns-in-Some-clause-written
@@ -59,24 +62,43 @@ elements-loop-place-preserved t c =
       around = c.in_ok-value.ensures.around ∙ c.loop-place.invariant.around;
     }
 
-pub properties-returns-in_default-clause-written : goal.properties-returns-in_default-clause-written
-properties-returns-in_default-clause-written t c =
+pub properties-loop-own-init : goal.properties-loop-own-init
+properties-loop-own-init t c =
     let w = c.args.heap.now in
-    let properties = properties_of (object_at w c.args.number) in
-    listed c.text-in_default.result (codes "{") (codes "}") c.args.self.now.out c.text.new.self c.loop-place.self.out c.text-in_default.new.self _ _
-    c.in_ok-text.ensures.ok c.loop-place.invariant.out
-    (all_shown (property_text w.pool (λ v. value_text w c.args.program.now c.args.levels c.args.self.now.around.items v)) properties c.loop-place.place (own_at-none w c.args.number c.loop-place.place (sym c.in_default.ensures)))
-    c.text-in_default.ensures.ok
-
-pub properties-loop-place-preserved : goal.properties-loop-place-preserved
-properties-loop-place-preserved t c =
-    let w = c.args.heap.now in
-    let program = c.args.program.now in
+    let show = property_text w.pool (λ v. value_text w c.args.program.now c.args.levels c.args.self.now.around.items v) in
+    let begun : c.into_iter-own-iterator.result ≡ own_properties w c.args.number = search rules in
     record {
-      out = one_more (property_text w.pool (λ v. value_text w program c.args.levels c.args.self.now.around.items v)) (properties_of (object_at w c.args.number)) c.loop-place.place (record { name = c.in-Some.name; value = c.in-Some.v }) c.text.new.self c.loop-place.self.out c.write_comma.new.out c.value.new.self.out
-          (own_at-some w c.args.number c.loop-place.place c.in-Some.name c.in-Some.v (sym c.in-Some.ensures)) c.loop-place.invariant.out c.in_ok-write_comma.ensures
-          (property_parts w.pool (λ v. value_text w program c.args.levels c.args.self.now.around.items v) c.in-Some.name c.in-Some.v c.write_comma.new.out c.write_name.new.out c.text-in-loop-place.new.self c.value.new.self.out c.get.result.now
-          c.in_ok-write_name.ensures (c.get.ensures.text ∙ ap (λ pool. text_at pool c.in-Some.name) c.pool.ensures) c.in_ok-text-2.ensures.ok
-          (c.in_ok-value.ensures.written ∙ ap (λ around. c.text-in-loop-place.new.self ++ value_text w program c.args.levels around c.in-Some.v) c.loop-place.invariant.around));
-      around = c.in_ok-value.ensures.around ∙ c.loop-place.invariant.around;
+      can = tt;
+      finite = tt;
+      out = ap (λ text. c.text.new.self ++ text) (ap (λ owns. parts_left [] (map show owns)) (begun ∙ own_listed (object_at w c.args.number)) ∙ all_left (map show (properties_of (object_at w c.args.number))));
+      around = refl;
     }
+
+pub properties-loop-own-preserved : goal.properties-loop-own-preserved
+properties-loop-own-preserved t c =
+    let w = c.args.heap.now in
+    let around = c.args.self.now.around.items in
+    let own = c.in-Some.own in
+    let show = property_text w.pool (λ v. value_text w c.args.program.now c.args.levels around v) in
+    let valued = c.in_ok-value.ensures.written ∙ ap (λ objects. c.write_key.new.out ++ value_text w c.args.program.now c.args.levels objects own.value) c.loop-own.invariant.around in
+    let named = c.get.ensures.text ∙ ap (λ pool. text_at pool own.name) c.pool.ensures in
+    record {
+      can = tt;
+      finite = tt;
+      out = one_less show c.loop-own.own-iterator c.next.new.self own
+          (c.text.new.self ++ join_with_byte 44 (map show (properties_of (object_at w c.args.number))))
+          c.loop-own.before.now c.loop-own.self.out c.value.new.self.out c.in-Some.ensures.steps c.loop-own.invariant.out
+          (property_parts w.pool (λ v. value_text w c.args.program.now c.args.levels around v) own.name own.value (c.loop-own.self.out ++ c.loop-own.before.now) c.write_key.new.out c.value.new.self.out c.get.result.now
+          c.in_ok-write_key.ensures named valued);
+      around = c.in_ok-value.ensures.around ∙ c.loop-own.invariant.around;
+    }
+
+pub properties-returns-clause-written : goal.properties-returns-clause-written
+properties-returns-clause-written t c =
+    let w = c.args.heap.now in
+    let show = property_text w.pool (λ v. value_text w c.args.program.now c.args.levels c.args.self.now.around.items v) in
+    let all = join_with_byte 44 (map show (properties_of (object_at w c.args.number))) in
+    let none : c.loop-own.own-iterator ≡ [] = search rules in
+    listed c.text-2.result (codes "{") (codes "}") c.args.self.now.out c.text.new.self c.loop-own.self.out c.text-2.new.self all all
+    c.in_ok-text.ensures.ok (none_left show c.loop-own.own-iterator (c.text.new.self ++ all) c.loop-own.before.now c.loop-own.self.out none c.loop-own.invariant.out) refl
+    c.text-2.ensures.ok
