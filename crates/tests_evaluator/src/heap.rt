@@ -3,6 +3,7 @@ ghost use Rattle.rip_heap.specs.Growth.{Grows};
 
 use rip_heap::*;
 use rip_values::{Fault, FixedText, Limit, Numeral, Refused, Span, Value, Whole};
+use std::alloc::Global;
 use std::test::Fail;
 
 const LIMITS: HeapLimits = HeapLimits {
@@ -166,45 +167,91 @@ fn name_in_a_bucket(k: u16) -> [u16; 2]
     [0x41 + first, 0x200 - 31 * first + k % 16]
 }
 
-/// Names are put, read and taken away at random, beside a list of what should be there.
+/// The next number of a run that looks like chance.
+fn next(number: u32) -> u32 {
+    number.wrapping_mul(1_664_525).wrapping_add(1_013_904_223)
+}
+
+/// An object of a heap, beside a list of what its properties should be.
+#[derive(Drop)]
+struct Listed {
+    object: u32,
+    list: Vec<([u16; 2], Value)>,
+}
+
+impl Listed {
+    /// Reads the property of that name, then takes it away or gives it the number of the step. Tells whether object and list
+    /// give the same.
+    fn call(
+        &mut self,
+        alloc: Global,
+        heap: &mut Heap,
+        units: [u16; 2],
+        step: i64,
+    ) -> Result<bool, Fail> {
+        let name = heap.add_text(alloc, &units)?;
+        let found = self.list.iter().position(|entry| entry.0 == units);
+        let value = match found {
+            Some(place) => Some(self.list[place].1),
+            None => None,
+        };
+        let same = heap.own(self.object, name) == value;
+        if step % 3 == 2 {
+            if let Some(place) = found {
+                self.list.remove(place);
+            }
+            return Ok(same && heap.remove(self.object, name) == found.is_some());
+        }
+        heap.put(alloc, self.object, name, number(step))?;
+        match found {
+            Some(place) => self.list[place].1 = number(step),
+            None => self.list.push((units, number(step)))?,
+        }
+        Ok(same)
+    }
+
+    /// Whether the properties are those of the list, in its order, and no more.
+    fn agrees(&self, heap: &Heap) -> bool {
+        for place in 0..257 {
+            let same = match (
+                heap.own_at(self.object, place),
+                self.list.get(place as usize),
+            ) {
+                (Some((name, value)), Some(entry)) => {
+                    heap.pool().get(name) == entry.0.as_slice() && value == entry.1
+                }
+                (at, entry) => at.is_none() && entry.is_none(),
+            };
+            if !same {
+                return false;
+            }
+        }
+        true
+    }
+}
+
+/// The same names are put, read and taken away in objects by turns, beside lists of what should be there.
 #[test]
 fn names_are_found_as_in_a_list(rt: HostRuntime) -> Result<(), Fail> {
     let alloc = rt.alloc();
     let mut heap = Heap::make(alloc, ROOMY)?;
-    let object = heap.new_object(alloc, None)?;
-    let mut list: Vec<([u16; 2], Value)> = Vec::new(alloc);
+    let mut all: Vec<Listed> = Vec::new(alloc);
+    for _ in 0..3 {
+        let object = heap.new_object(alloc, None)?;
+        let list = Vec::new(alloc);
+        all.push(Listed { object, list })?;
+    }
     let mut drawn: u32 = 1;
     for step in 0..4_000 {
-        drawn = drawn.wrapping_mul(1_664_525).wrapping_add(1_013_904_223);
+        drawn = next(drawn);
         let units = name_in_a_bucket((drawn / 65_536 % 256) as u16);
-        let name = heap.add_text(alloc, &units)?;
-        let found = list.iter().position(|entry| entry.0 == units);
-        let value = match found {
-            Some(place) => Some(list[place].1),
-            None => None,
-        };
-        assert_eq!(rt; heap.own(object, name), value);
-        if step % 3 == 2 {
-            assert_eq!(rt; heap.remove(object, name), found.is_some());
-            if let Some(place) = found {
-                list.remove(place);
-            }
-            continue;
-        }
-        heap.put(alloc, object, name, number(step))?;
-        match found {
-            Some(place) => list[place].1 = number(step),
-            None => list.push((units, number(step)))?,
+        if let Some(listed) = all.get_mut((drawn / 16_777_216 % 3) as usize) {
+            let same = listed.call(alloc, &mut heap, units, step)?;
+            assert!(rt; same, "{step}");
         }
     }
-    for place in 0..256 {
-        match (heap.own_at(object, place), list.get(place as usize)) {
-            (Some((name, value)), Some(entry)) => {
-                assert!(rt; heap.pool().get(name) == entry.0.as_slice());
-                assert_eq!(rt; value, entry.1);
-            }
-            (at, entry) => assert!(rt; at.is_none() && entry.is_none()),
-        }
+    for listed in &all {
+        assert!(rt; listed.agrees(&heap), "{}", listed.object);
     }
     Ok(())
 }
@@ -255,6 +302,37 @@ fn bindings_begin_without_a_value(rt: HostRuntime) -> Result<(), Fail> {
         (None, Some(Value::Null))
     );
     assert_eq!(rt; heap.names(inner), 2);
+    Ok(())
+}
+
+/// Each scope has its own bindings, and one past its end is not written; an array grows between them.
+#[test]
+fn bindings_of_scopes_stay_apart(rt: HostRuntime) -> Result<(), Fail> {
+    let alloc = rt.alloc();
+    let mut heap = Heap::make(alloc, ROOMY)?;
+    let array = heap.new_array(alloc, &[])?;
+    for scope in 0..20 {
+        assert_eq!(rt; heap.new_scope(alloc, None, scope)?, scope);
+        heap.push_item(alloc, array, number(scope as i64))?;
+    }
+    for scope in 0..20 {
+        for place in 0..20 {
+            if place % 3 > 0 {
+                heap.set_binding(scope, place, number((scope * 20 + place) as i64));
+            }
+        }
+    }
+    for scope in 0..20 {
+        for place in 0..20 {
+            let value = if place % 3 > 0 && place < scope {
+                Some(number((scope * 20 + place) as i64))
+            } else {
+                None
+            };
+            assert_eq!(rt; heap.binding(scope, place), value, "{place} of {scope}");
+        }
+        assert_eq!(rt; heap.item(array, scope), Some(number(scope as i64)));
+    }
     Ok(())
 }
 
@@ -364,6 +442,105 @@ fn elements_are_pushed_and_copied_together(rt: HostRuntime) -> Result<(), Fail> 
         Err(Refused::Limit(Limit::Cells))
     );
     assert_eq!(rt; (heap.used_cells(), heap.count(piece)), (7, 2));
+    Ok(())
+}
+
+/// An array of a heap, beside a vector that holds the same.
+#[derive(Drop)]
+struct Both {
+    array: u32,
+    vector: Vec<Value>,
+}
+
+impl Both {
+    /// Makes the call that a drawn number stands for on both sides, with the number of the step, and tells whether they give
+    /// the same.
+    fn call(
+        &mut self,
+        alloc: Global,
+        heap: &mut Heap,
+        drawn: u32,
+        step: i64,
+    ) -> Result<bool, Fail> {
+        let place = drawn / 4_096 % 90;
+        match drawn / 16_777_216 % 16 {
+            0 => {
+                heap.cut_items(self.array, place);
+                self.vector.truncate(place as usize);
+            }
+            1 => return Ok(heap.pop_item(self.array) == self.vector.pop()),
+            2 => {
+                heap.set_item(self.array, place, number(step));
+                set(&mut self.vector, place as usize, number(step));
+            }
+            3 => {
+                self.array = heap.new_piece(alloc, self.array, place / 16, place / 16 + 60)?;
+                self.vector = piece_of(alloc, &self.vector, place / 16, place / 16 + 60)?;
+            }
+            4 | 5 => {
+                heap.push_items(alloc, self.array, &[number(step), Value::Null])?;
+                self.vector.extend_from_slice(&[number(step), Value::Null])?;
+            }
+            _ => {
+                heap.push_item(alloc, self.array, number(step))?;
+                self.vector.push(number(step))?;
+            }
+        }
+        Ok(true)
+    }
+
+    /// Whether both sides hold the same, and nothing behind it.
+    fn agree(&self, heap: &Heap) -> bool {
+        let count = heap.count(self.array);
+        for place in 0..count {
+            if heap.item(self.array, place) != self.vector.get(place as usize).copied() {
+                return false;
+            }
+        }
+        count as usize == self.vector.len() && heap.item(self.array, count).is_none()
+    }
+}
+
+/// Gives the place the value. Past the end nothing is changed.
+fn set(values: &mut [Value], place: usize, v: Value) {
+    if place < values.len() {
+        values[place] = v;
+    }
+}
+
+/// The values from one place up to another, or to the last.
+fn piece_of(alloc: Global, values: &[Value], from: u32, to: u32) -> Result<Vec<Value>, Fail> {
+    let mut piece = Vec::new(alloc);
+    for place in from..to {
+        if let Some(v) = values.get(place as usize) {
+            piece.push(*v)?;
+        }
+    }
+    Ok(piece)
+}
+
+/// Arrays grow by turns, are cut and grow again, beside vectors.
+#[test]
+fn arrays_are_as_vectors(rt: HostRuntime) -> Result<(), Fail> {
+    let alloc = rt.alloc();
+    let mut heap = Heap::make(alloc, ROOMY)?;
+    let mut all: Vec<Both> = Vec::new(alloc);
+    for _ in 0..3 {
+        let array = heap.new_array(alloc, &[])?;
+        let vector = Vec::new(alloc);
+        all.push(Both { array, vector })?;
+    }
+    let mut drawn: u32 = 1;
+    for step in 0..1_500 {
+        drawn = next(drawn);
+        if let Some(both) = all.get_mut((drawn / 256 % 3) as usize) {
+            let same = both.call(alloc, &mut heap, drawn, step)?;
+            assert!(rt; same, "{step}");
+        }
+        for both in &all {
+            assert!(rt; both.agree(&heap), "after {step}");
+        }
+    }
     Ok(())
 }
 

@@ -10,6 +10,8 @@ mod heap;
 #[cfg(test)]
 mod members;
 #[cfg(test)]
+mod memory;
+#[cfg(test)]
 mod ops;
 #[cfg(test)]
 mod runs;

@@ -1,0 +1,57 @@
+use rip_heap::{Heap, HeapLimits, HeapMemory};
+use rip_values::Value;
+use std::test::Fail;
+
+/// Limits, and how many bytes a heap with these takes: 32 for each slot, of which there are a sixteenth more than cells and
+/// 80, 20 for each 16 slots, 12 for each 16 cells, 4 for seven of eight cells, 2 for each unit and 4 for each of a text.
+static COUNTED: [(HeapLimits, u64); 3] = [
+    (
+        HeapLimits {
+            cells: 0,
+            units: 0,
+            text: 0,
+        },
+        12_330,
+    ),
+    (
+        HeapLimits {
+            cells: 16,
+            units: 10,
+            text: 3,
+        },
+        12_330 + 17 * 32 + 20 + 12 + 14 * 4 + 10 * 2 + 3 * 4,
+    ),
+    (
+        HeapLimits {
+            cells: 1_000_000,
+            units: 1_000,
+            text: 100,
+        },
+        39_592_850,
+    ),
+];
+
+#[test]
+fn memory_is_counted_before_a_heap_is_made(rt: HostRuntime) -> Result<(), Fail> {
+    for &(limits, bytes) in &COUNTED {
+        let memory = HeapMemory::reserve(rt.alloc(), limits)?;
+        assert_eq!(rt; memory.bytes(), bytes);
+        let heap = Heap::of(rt.alloc(), memory)?;
+        assert_eq!(rt; (heap.used_cells(), heap.free_cells()), (0, limits.cells));
+    }
+    Ok(())
+}
+
+#[test]
+fn bindings_that_have_a_value_are_written(rt: HostRuntime) -> Result<(), Fail> {
+    let mut heap = Heap::make(rt.alloc(), COUNTED[1].0)?;
+    assert!(rt; !heap.rebind(0, 0, Value::Null));
+    let scope = heap.new_scope(rt.alloc(), None, 1)?;
+    assert!(rt; !heap.rebind(scope, 0, Value::Null));
+    assert_eq!(rt; heap.binding(scope, 0), None);
+    heap.set_binding(scope, 0, Value::Undefined);
+    assert!(rt; heap.rebind(scope, 0, Value::Null));
+    assert_eq!(rt; heap.binding(scope, 0), Some(Value::Null));
+    assert!(rt; !heap.rebind(scope, 1, Value::Null));
+    Ok(())
+}
