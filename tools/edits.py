@@ -4,9 +4,8 @@
     edits.py --check     each edit of edits/NAME/ can be applied: every old text stands once in its file
     edits.py NAME ..     tries the edits of these crates, those of the gate and the others (the crates below are built first)
 
-The gate tries one edit of some thirty crates (crates/NAME/must-fail/), since its time is bounded. The others are of the
-same form and stand in edits/NAME/. Try a crate's when it, or a crate below
-it, has changed.
+The gate tries one or two edits of some thirty crates (crates/NAME/must-fail/), since its time is bounded. The others are
+of the same form and stand in edits/NAME/. Try a crate's when it, or a crate below it, has changed.
 """
 
 import os

@@ -13,7 +13,8 @@
 //!
 //! A layer above may rest on this: what is known of courses ([`rip_course::courses_hold`]) is known of each run, and what
 //! is known of the messages of a stream ([`rip_http::taken_stands`], [`rip_http::cuts_do_not_matter`]) is known of what is
-//! handled on a connection. Not said: that a run that breaks off could have gone on.
+//! handled on a connection. That a run that breaks off is the beginning of one that goes on is said a layer above, by
+//! `rip_going`.
 #![tactic(auto)]
 
 ghost use Rattle.rip_legal.specs.Alone.{RunsIsolate};
