@@ -4,17 +4,17 @@ use Rattle.std.specs.Prelude.{unwrap_or}
 use Rattle.std.proofs.Math.Seq.{take-length}
 use Rattle.rip_values.specs.declared.value.Span.{Span}
 use Rattle.rip_values.specs.declared.fixed.FixedText.{FixedText}
-use Rattle.rip_values.specs.FixedTexts.{text_of, fixed_units, fixed_span}
-use Rattle.rip_values.specs.FixedSearch.{start_of}
+use Rattle.rip_values.specs.FixedTable.{text_of, fixed_size, start_of}
+use Rattle.rip_values.specs.FixedTexts.{fixed_units, fixed_span}
 use Rattle.rip_values.specs.Pool.{text_at}
-use Rattle.rip_values.proofs.FixedLemmas.{fixed_span-text_of, length-fixed_units}
+use Rattle.rip_values.proofs.FixedTableLemmas.{fixed_span-text_of, length-fixed_units}
 use Rattle.rip_values.proofs.PoolLemmas.{fixed_at}
 use Rattle.rip_heap.specs.declared.limits.HeapLimits.{HeapLimits}
 use Rattle.rip_heap.specs.Conversions.{span_of}
 use Rattle.rip_heap.specs.Growth.{Grows}
 use Rattle.rip_heap.specs.World.{World, empty_world}
 
-begins : take 773 fixed_units ≡ fixed_units
+begins : take fixed_size fixed_units ≡ fixed_units
 begins = ap (λ n. take n fixed_units) (sym length-fixed_units) ∙ take-length fixed_units
 
 pub fixed_stands : (limits : HeapLimits) (w : World) (fixed : FixedText) → Grows (empty_world limits) w → text_at w.pool (span_of fixed) ≡ text_of fixed

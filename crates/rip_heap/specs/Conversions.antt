@@ -15,7 +15,8 @@ use Rattle.rip_values.specs.declared.value.Limit.TheVariants.{Units}
 use Rattle.rip_values.specs.declared.fixed.FixedText.{FixedText}
 use Rattle.rip_values.specs.declared.fixed.FixedText.TheVariants.{Undefined as UndefinedText, Null as NullText, True as TrueText, False as FalseText, NaN as NaNText}
 use Rattle.rip_values.specs.Blank.{trimmed}
-use Rattle.rip_values.specs.FixedTexts.{text_of, fixed_span}
+use Rattle.rip_values.specs.FixedTable.{text_of}
+use Rattle.rip_values.specs.FixedTexts.{fixed_span}
 use Rattle.rip_values.specs.Numbers.{IsNumberOf}
 use Rattle.rip_values.specs.NumberScan.{signed_value, is_numeral, is_hexadecimal, is_fraction}
 use Rattle.rip_values.specs.Pool.{Texts, text_at}

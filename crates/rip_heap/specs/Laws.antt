@@ -3,7 +3,7 @@ use Rattle.std.specs.Prelude.{◌≡◌, ℕ, false, Some, is_some, if◌then◌
 use Rattle.rip_values.specs.declared.value.Span.{Span}
 use Rattle.rip_values.specs.declared.value.Value.{Value}
 use Rattle.rip_values.specs.declared.fixed.FixedText.{FixedText}
-use Rattle.rip_values.specs.FixedTexts.{text_of}
+use Rattle.rip_values.specs.FixedTable.{text_of}
 use Rattle.rip_values.specs.Pool.{text_at}
 use Rattle.rip_heap.specs.declared.limits.HeapLimits.{HeapLimits}
 use Rattle.rip_heap.specs.Conversions.{span_of}

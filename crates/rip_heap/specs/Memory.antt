@@ -1,5 +1,6 @@
 -- The memory of a heap: for how many units, slots, pages, indexes, buckets and entries it is, and how many bytes that is.
 use Rattle.std.specs.Prelude.{◌≡◌, ℕ, ◌+◌, ◌-◌, ◌*◌, ◌/◌, ◌<◌, ◌≤◌, ◌^◌, List}
+use Rattle.rip_values.specs.FixedTable.{fixed_size}
 use Rattle.rip_values.specs.FixedTexts.{fixed_units}
 use Rattle.rip_pages.specs.Memory.{Memory as PageMemory, bytes_of as page_bytes, memory_for as pages_for}
 use Rattle.rip_buckets.specs.Memory.{Memory as IndexMemory, bytes_of as index_bytes, memory_for as indexes_for}
@@ -24,7 +25,7 @@ slots_for cells = cells + cells / 16
 abbrev pub memory_for : HeapLimits → Memory
 memory_for limits = record {
   limits = limits;
-  units = 773 + 4096 + limits.units;
+  units = fixed_size + 4096 + limits.units;
   pages = pages_for (slots_for limits.cells);
   indexes = indexes_for limits.cells;
   entries = limits.text;
@@ -38,7 +39,7 @@ bytes_of m = 2 * m.units + page_bytes m.pages + index_bytes m.indexes + 4 * m.en
 pub record CanBeNumbered (limits : HeapLimits) : Type 0 where
   pub objects : limits.cells ≤ first_node - first_object
   pub slots : slots_for limits.cells ≤ 2147418112
-  pub units : 773 + limits.units < 2 ^ 32
+  pub units : fixed_size + limits.units < 2 ^ 32
   pub entries : limits.text < 2 ^ 32
 
 -- what is kept of it: it is the memory of a heap with its limits, and its units begin with the fixed texts

@@ -3,7 +3,8 @@ use Rattle.rip_values.specs.declared.value.Span.{Span}
 use Rattle.rip_values.specs.declared.value.Value.{Value}
 use Rattle.rip_values.specs.declared.value.Value.TheVariants.{Undefined, Object as ObjectValue}
 use Rattle.rip_values.specs.declared.fixed.FixedText.TheVariants.{Prototype as PrototypeText}
-use Rattle.rip_values.specs.FixedTexts.{text_of, fixed_span}
+use Rattle.rip_values.specs.FixedTable.{text_of}
+use Rattle.rip_values.specs.FixedTexts.{fixed_span}
 use Rattle.rip_heap.specs.declared.class.Class.{Class}
 use Rattle.rip_heap.specs.declared.class.Class.TheVariants.{Plain, Prototype, Function}
 use Rattle.rip_pages.specs.declared.property.Property.{Property}

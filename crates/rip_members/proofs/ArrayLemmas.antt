@@ -21,7 +21,8 @@ use Rattle.rip_heap.specs.World.{World, Object, object_at, with_object, first_no
 use Rattle.rip_members.specs.declared.base.Base.TheVariants.{Array as ArrayBase, Builtin as BuiltinBase, Host as HostBase}
 use Rattle.rip_members.specs.declared.outcome.Read.TheVariants.{Value as Gives, Fault as ReadFaults}
 use Rattle.rip_members.specs.Base.{base_of, base_of_object, base_of_class}
-use Rattle.rip_members.specs.Calls.{call_named, calls_of_arrays}
+use Rattle.rip_members.specs.CallTable.{calls_of_arrays}
+use Rattle.rip_members.specs.Calls.{call_named}
 use Rattle.rip_members.specs.Laws.{WrittenToArrayIsRead}
 use Rattle.rip_members.specs.Reading.{read_name, read_index, array_member, element_of, call_or_fault}
 use Rattle.rip_members.specs.Writing.{Writes, Faults, write_name, write_index, write_array, write_element, write_length, stepped}

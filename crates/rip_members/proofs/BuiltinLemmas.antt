@@ -3,7 +3,8 @@ use Rattle.std.proofs.Common.{◌≡◌, ℕ, Option, None, Some, refl, sym, ap,
 use Rattle.std.specs.Prelude.{IfSome, slice_get}
 use Rattle.rip_values.specs.declared.builtin.Builtin.{Builtin}
 use Rattle.rip_values.specs.Builtins.{builtins, number_of}
-use Rattle.rip_values.proofs.BuiltinLemmas.{slice_get-number_of, IfSome-slice_get}
+use Rattle.rip_values.proofs.BuiltinTableLemmas.{slice_get-number_of}
+use Rattle.rip_values.proofs.BuiltinLemmas.{IfSome-slice_get}
 use Rattle.rip_members.specs.Calls.{builtin_of}
 
 -- the only built-in of a number is the one at its place

@@ -1,4 +1,5 @@
 pub mod Base
+pub mod CallTable
 pub mod Calls
 pub mod Deleting
 pub mod Keys

@@ -26,7 +26,8 @@ use Rattle.rip_members.specs.declared.base.Base.TheVariants.{Nothing, Primitive,
 use Rattle.rip_members.specs.declared.outcome.Read.{Read}
 use Rattle.rip_members.specs.declared.outcome.Read.TheVariants.{Value as Gives, TypeFault as Throws, Fault as Faults, Host as AsksHost}
 use Rattle.rip_members.specs.Base.{base_of}
-use Rattle.rip_members.specs.Calls.{call_named, calls_of_texts, calls_of_arrays, calls_of_math}
+use Rattle.rip_members.specs.CallTable.{calls_of_texts, calls_of_arrays, calls_of_math}
+use Rattle.rip_members.specs.Calls.{call_named}
 
 -- a built-in as a value, or that the profile has no such member
 abbrev pub call_or_fault : Option Builtin → Read

@@ -1,31 +1,10 @@
 ghost use Rattle.std.specs.Prelude.{◌≡◌};
-ghost use Rattle.rip_members.specs.Calls.{call_named, calls_of_texts, calls_of_arrays, calls_of_math, builtin_of};
+ghost use Rattle.rip_members.specs.CallTable.{calls_of_texts, calls_of_arrays, calls_of_math};
+ghost use Rattle.rip_members.specs.Calls.{call_named, builtin_of};
 
+use crate::call_table::{CALLS_OF_ARRAYS, CALLS_OF_MATH, CALLS_OF_TEXTS};
 use rip_heap::{Heap, is_named};
 use rip_values::{Builtin, FixedText, Span};
-
-static CALLS_OF_TEXTS: [(FixedText, Builtin); 4] = [
-    (FixedText::CharAt, Builtin::TextCharAt),
-    (FixedText::CharCodeAt, Builtin::TextCharCodeAt),
-    (FixedText::Substring, Builtin::TextSubstring),
-    (FixedText::IndexOf, Builtin::TextIndexOf),
-];
-
-static CALLS_OF_ARRAYS: [(FixedText, Builtin); 6] = [
-    (FixedText::Push, Builtin::ArrayPush),
-    (FixedText::Pop, Builtin::ArrayPop),
-    (FixedText::Slice, Builtin::ArraySlice),
-    (FixedText::IndexOf, Builtin::ArrayIndexOf),
-    (FixedText::Join, Builtin::ArrayJoin),
-    (FixedText::HasOwnProperty, Builtin::HasOwnProperty),
-];
-
-static CALLS_OF_MATH: [(FixedText, Builtin); 4] = [
-    (FixedText::Abs, Builtin::MathAbs),
-    (FixedText::Floor, Builtin::MathFloor),
-    (FixedText::Min, Builtin::MathMin),
-    (FixedText::Max, Builtin::MathMax),
-];
 
 // The call of texts that the name stands for.
 pub fn call_of_texts(heap: &Heap, name: Span) -> Option<Builtin>

@@ -12,7 +12,7 @@
 //! | [`read`] | `Reading.read`: `Reading.member`, one equation for each kind of base, and `Reading.read_index` |
 //! | [`write`] | `Writing.write`: `Writing.written` and `Writing.write_index`; `Writing.IsWriting` says what an answer means |
 //! | [`delete`] | `Deleting.deleted`: `Deleting.deleted_member` and `Deleting.delete_index`; `Deleting.IsDeleting` says what an answer means |
-//! | [`builtin_of`] | `Calls.builtin_of`; the calls of texts, arrays and `Math` are tables there |
+//! | [`builtin_of`] | `Calls.builtin_of`; the calls of texts, arrays and `Math` are the tables of `CallTable` |
 //!
 //! Laws stand in `Laws`, each the contract of a function: what is written to a plain object is read
 //! ([`written_members_are_read`]), and so is what is written to an array ([`written_elements_are_read`]).
@@ -22,6 +22,7 @@
 #![tactic(auto)]
 
 mod base;
+mod call_table;
 mod calls;
 mod deleting;
 mod keys;

@@ -4,8 +4,9 @@ use Rattle.std.specs.Prelude.{IfSome}
 use Rattle.std.proofs.lemmas.Option.{none-some}
 use Rattle.rip_values.specs.declared.fixed.FixedText.{FixedText}
 use Rattle.rip_values.specs.FixedSearch.{fixed_text}
-use Rattle.rip_values.specs.FixedTexts.{text_of}
-use Rattle.rip_values.proofs.FixedLemmas.{fixed_text-text_of, IfSome-fixed_text}
+use Rattle.rip_values.specs.FixedTable.{text_of}
+use Rattle.rip_values.proofs.FixedTableLemmas.{fixed_text-text_of}
+use Rattle.rip_values.proofs.FixedLemmas.{IfSome-fixed_text}
 
 none-is : (text : List ℕ) (found : Option FixedText) → found ≡ fixed_text text → ((f : FixedText) → text_of f ≡ text → None ≡ Some f) → None ≡ found
 none-is text None e only = refl

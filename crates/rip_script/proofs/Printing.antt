@@ -8,7 +8,8 @@ use Rattle.rip_values.specs.declared.builtin.Builtin.{Builtin}
 use Rattle.rip_values.specs.declared.memory.NoMemory.{NoMemory}
 use Rattle.rip_values.specs.declared.value.Span.{Span}
 use Rattle.rip_values.specs.declared.value.Value.{Value}
-use Rattle.rip_values.proofs.BuiltinLemmas.{IfSome-slice_get, slice_get-number_of}
+use Rattle.rip_values.proofs.BuiltinTableLemmas.{slice_get-number_of}
+use Rattle.rip_values.proofs.BuiltinLemmas.{IfSome-slice_get}
 use Rattle.rip_tree.specs.Program.{Code}
 use Rattle.rip_heap.specs.Stored.{properties_of as listed_properties}
 use Rattle.rip_heap.specs.World.{World, Object, object_at, class_of, code_of}

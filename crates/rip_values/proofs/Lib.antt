@@ -1,6 +1,8 @@
 pub mod BuiltinLemmas
+pub mod BuiltinTableLemmas
 pub mod DecimalLemmas
 pub mod FixedLemmas
+pub mod FixedTableLemmas
 pub mod NumberLaws
 pub mod NumberLemmas
 pub mod PoolLemmas

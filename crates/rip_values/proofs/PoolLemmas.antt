@@ -6,22 +6,23 @@ use Rattle.std.proofs.Math.Seq.{take-length, take-append_seam, drop-append_seam}
 use Rattle.std.proofs.lemmas.Grind.{common_steps}
 use Rattle.rip_values.specs.declared.value.Span.{Span}
 use Rattle.rip_values.specs.declared.fixed.FixedText.{FixedText}
-use Rattle.rip_values.specs.FixedTexts.{text_of, fixed_units, fixed_span}
-use Rattle.rip_values.specs.FixedSearch.{start_of}
+use Rattle.rip_values.specs.FixedTable.{text_of, fixed_size, start_of}
+use Rattle.rip_values.specs.FixedTexts.{fixed_units, fixed_span}
 use Rattle.rip_values.specs.Pool.{Texts, text_at, IsSpan, IsPool}
-use Rattle.rip_values.proofs.FixedLemmas.{fixed_span-text_of, fixed_stands, fixed_within, length-fixed_units, range_within}
+use Rattle.rip_values.proofs.FixedTableLemmas.{fixed_span-text_of, length-fixed_units}
+use Rattle.rip_values.proofs.FixedLemmas.{fixed_stands, fixed_within, range_within}
 
 -- the fixed texts are there
-pub fixed_length : (units : List ℕ) → take 773 units ≡ fixed_units → 773 ≤ length units
-fixed_length units h = omega (arith, length-take 773 units, ap length h, length-fixed_units)
+pub fixed_length : (units : List ℕ) → take fixed_size units ≡ fixed_units → fixed_size ≤ length units
+fixed_length units h = omega (arith, length-take fixed_size units, ap length h, length-fixed_units)
 
 -- a text more at the end leaves what a pool keeps, where there is room
-pub IsPool-more : (units text more : List ℕ) (used limit capacity : ℕ) → more ≡ units ++ text → take 773 units ≡ fixed_units → used ≤ limit
+pub IsPool-more : (units text more : List ℕ) (used limit capacity : ℕ) → more ≡ units ++ text → take fixed_size units ≡ fixed_units → used ≤ limit
     → length units + length text + (limit - used) ≤ capacity → length units + length text + (limit - used) < 2 ^ 32 → IsPool more used limit capacity
 IsPool-more units text more used limit capacity is begins within room spans =
     let longer : length more ≡ length units + length text = ap length is ∙ length-append units text in
     record {
-      begins = ap (take 773) is ∙ take-append-le 773 units text (fixed_length units begins) ∙ begins;
+      begins = ap (take fixed_size) is ∙ take-append-le fixed_size units text (fixed_length units begins) ∙ begins;
       within = within;
       room = omega (arith, longer);
       spans = omega (arith, longer);
@@ -33,9 +34,9 @@ pub IsPool-cut : (units more : List ℕ) (end used before limit capacity : ℕ) 
     → before + end ≤ used + length units → IsPool more used limit capacity
 IsPool-cut units more end used before limit capacity is h fixed within less charged =
     let shorter : length more ≡ end = ap length is ∙ length-take-le end units within in
-    let all : 773 ≤ length (take end units) = omega (arith, fixed, length-fixed_units, length-take-le end units within) in
+    let all : fixed_size ≤ length (take end units) = omega (arith, fixed, length-fixed_units, length-take-le end units within) in
     record {
-      begins = ap (take 773) is ∙ sym (take-append-le 773 (take end units) (drop end units) all) ∙ ap (take 773) (take-append-drop end units) ∙ h.begins;
+      begins = ap (take fixed_size) is ∙ sym (take-append-le fixed_size (take end units) (drop end units) all) ∙ ap (take fixed_size) (take-append-drop end units) ∙ h.begins;
       within = omega (arith, less, h.within);
       room = omega (arith, shorter, h.room, h.within, charged, less);
       spans = omega (arith, shorter, h.spans, h.within, charged, less);
@@ -44,14 +45,14 @@ IsPool-cut units more end used before limit capacity is h fixed within less char
 -- a pool of the fixed texts alone
 pub IsPool-fixed : (units : List ℕ) (limit capacity : ℕ) → units ≡ fixed_units → length units + limit ≤ capacity → length units + limit < 2 ^ 32 → IsPool units 0 limit capacity
 IsPool-fixed units limit capacity is room spans = record {
-  begins = let whole : 773 ≡ length units = omega (arith, ap length is, length-fixed_units) in ap (λ n. take n units) whole ∙ take-length units ∙ is;
+  begins = let whole : fixed_size ≡ length units = omega (arith, ap length is, length-fixed_units) in ap (λ n. take n units) whole ∙ take-length units ∙ is;
   within = omega arith;
   room = omega arith;
   spans = omega arith;
 }
 
 -- in every pool a fixed text stands at its span
-pub fixed_at : (pool : Texts) (fixed : FixedText) (span : Span) → take 773 pool.units ≡ fixed_units → fixed_span (text_of fixed) ≡ Some span → (text_at pool span ≡ text_of fixed) × IsSpan pool span
+pub fixed_at : (pool : Texts) (fixed : FixedText) (span : Span) → take fixed_size pool.units ≡ fixed_units → fixed_span (text_of fixed) ≡ Some span → (text_at pool span ≡ text_of fixed) × IsSpan pool span
 fixed_at pool fixed span begins is =
     let place : Span = record { start = start_of fixed; count = length (text_of fixed) } in
     let both : Some span ≡ Some place = sym is ∙ fixed_span-text_of fixed in

@@ -1,3 +1,4 @@
+-- Made from tables/names.txt by tools/names.py.
 use Rattle.std.specs.Prelude.{ℕ, Bool, true, false, List, [], ◌∷◌, codes}
 use Rattle.rip_values.specs.declared.builtin.Builtin.{Builtin}
 use Rattle.rip_values.specs.declared.builtin.Builtin.TheVariants.{Math, Ripley, ParseInt, IsNaN, String, Number, Error, TypeError, RangeError, MathAbs, MathFloor, MathMin, MathMax, HasOwnProperty, FunctionCall, ArrayPush, ArrayPop, ArraySlice, ArrayIndexOf, ArrayJoin, TextCharAt, TextCharCodeAt, TextSubstring, TextIndexOf, RipleyCall, RipleyNow, RipleyRandom, GetElementById, CreateElement, CreateTextNode, HasChildNodes, AppendChild, InsertBefore, ReplaceChild, RemoveChild, GetAttribute, HasAttribute, SetAttribute, RemoveAttribute, AddEventListener, RemoveEventListener, StopPropagation, PreventDefault}
@@ -191,10 +192,10 @@ is_function PreventDefault = true
 -- every built-in, in the order of their numbers
 unfoldable pub builtins : List Builtin
 builtins =
-    Math ∷ Ripley ∷
-    ParseInt ∷ IsNaN ∷ String ∷ Number ∷ Error ∷ TypeError ∷ RangeError ∷
+    Math ∷ Ripley ∷ ParseInt ∷ IsNaN ∷ String ∷ Number ∷ Error ∷ TypeError ∷ RangeError ∷
     MathAbs ∷ MathFloor ∷ MathMin ∷ MathMax ∷
-    HasOwnProperty ∷ FunctionCall ∷
+    HasOwnProperty ∷
+    FunctionCall ∷
     ArrayPush ∷ ArrayPop ∷ ArraySlice ∷ ArrayIndexOf ∷ ArrayJoin ∷
     TextCharAt ∷ TextCharCodeAt ∷ TextSubstring ∷ TextIndexOf ∷
     RipleyCall ∷ RipleyNow ∷ RipleyRandom ∷

@@ -1,7 +1,9 @@
 pub mod Blank
 pub mod Builtins
 pub mod FixedSearch
+pub mod FixedTable
 pub mod FixedTexts
+pub mod GlobalTable
 pub mod Globals
 pub mod Limits
 pub mod NumberScan

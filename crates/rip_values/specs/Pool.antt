@@ -1,5 +1,6 @@
 use Rattle.std.specs.Prelude.{◌≡◌, ℕ, ◌+◌, ◌-◌, ◌^◌, ◌<◌, ◌≤◌, List, ◌++◌, length, take, min, slice_range}
 use Rattle.rip_values.specs.declared.value.Span.{Span}
+use Rattle.rip_values.specs.FixedTable.{fixed_size}
 use Rattle.rip_values.specs.FixedTexts.{fixed_units}
 
 -- what a pool holds: the units of all its texts, one text after another, how many of them were charged, the most that
@@ -45,7 +46,7 @@ KeepsTexts old new = (span : Span) → IsSpan old span → text_at new span ≡ 
 -- what each pool keeps: the fixed texts stand first, the limit is not passed, and all that may still be charged has
 -- room in memory and can be named by a span
 pub record IsPool (units : List ℕ) (used limit capacity : ℕ) : Type 0 where
-  pub begins : take 773 units ≡ fixed_units
+  pub begins : take fixed_size units ≡ fixed_units
   pub within : used ≤ limit
   pub room : length units + (limit - used) ≤ capacity
   pub spans : length units + (limit - used) < 2 ^ 32
@@ -54,5 +55,5 @@ pub record IsPool (units : List ℕ) (used limit capacity : ℕ) : Type 0 where
 -- 4,096 of the names of a usual program and page
 pub record IsReserved (units : List ℕ) (capacity limit : ℕ) : Type 0 where
   pub fixed : units ≡ fixed_units
-  pub room : capacity ≡ 773 + 4096 + limit
-  pub spans : 773 + limit < 2 ^ 32
+  pub room : capacity ≡ fixed_size + 4096 + limit
+  pub spans : fixed_size + limit < 2 ^ 32

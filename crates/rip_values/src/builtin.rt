@@ -1,13 +1,8 @@
-ghost use Rattle.std.specs.Prelude.{◌≡◌, ◌<◌, Some, IfSome, slice_get};
-ghost use Rattle.rip_values.specs.declared.builtin.Builtin.{Builtin};
+// Made from tables/names.txt by tools/names.py.
+ghost use Rattle.std.specs.Prelude.{◌≡◌, ◌<◌};
 ghost use Rattle.rip_values.specs.Builtins.{number_of, name_of, home_of, is_function};
 
-/// The first number of an object of the heap: those below are the numbers of built-ins.
-pub const FIRST_HEAP_OBJECT: u32 = 128;
-
-/// The number of the document as an object: node `n` is the object of this number and `n`, and every object of the
-/// heap has a lesser number.
-pub const FIRST_NODE: u32 = 1 << 31;
+use crate::builtin_lookup::FIRST_HEAP_OBJECT;
 
 /// What a built-in is a member of.
 #[derive(Clone, Copy, Debug, PartialEq, Eq)]
@@ -30,10 +25,9 @@ pub enum BuiltinHome {
 /// The built-in objects and functions of the profile. Each has a number below [`FIRST_HEAP_OBJECT`], its place here.
 #[derive(Clone, Copy, Debug, PartialEq, Eq)]
 pub enum Builtin {
-    // Objects.
+    // Home: `Global`.
     Math,
     Ripley,
-    // Functions with a global name.
     ParseInt,
     IsNaN,
     String,
@@ -41,34 +35,35 @@ pub enum Builtin {
     Error,
     TypeError,
     RangeError,
-    // Functions of `Math`.
+    // Home: `Math`.
     MathAbs,
     MathFloor,
     MathMin,
     MathMax,
-    // The function of every plain object, and that of every script function.
+    // Home: `Object`.
     HasOwnProperty,
+    // Home: `Function`.
     FunctionCall,
-    // Functions of arrays.
+    // Home: `Array`.
     ArrayPush,
     ArrayPop,
     ArraySlice,
     ArrayIndexOf,
     ArrayJoin,
-    // Functions of texts.
+    // Home: `Text`.
     TextCharAt,
     TextCharCodeAt,
     TextSubstring,
     TextIndexOf,
-    // Functions of `ripley`.
+    // Home: `Ripley`.
     RipleyCall,
     RipleyNow,
     RipleyRandom,
-    // Functions of the document.
+    // Home: `Document`.
     GetElementById,
     CreateElement,
     CreateTextNode,
-    // Functions of nodes.
+    // Home: `Node`.
     HasChildNodes,
     AppendChild,
     InsertBefore,
@@ -80,7 +75,7 @@ pub enum Builtin {
     RemoveAttribute,
     AddEventListener,
     RemoveEventListener,
-    // Functions of events.
+    // Home: `Event`.
     StopPropagation,
     PreventDefault,
 }
@@ -133,14 +128,6 @@ pub static BUILTINS: [Builtin; 43] = [
 ];
 
 impl Builtin {
-    /// The built-in of this number, if there is one.
-    pub fn of(number: u32) -> Option<Builtin>
-        ensures number { IfSome result (λ builtin. number_of builtin ≡ number) }
-        ensures only { (builtin : Builtin) → number_of builtin ≡ number → result ≡ Some builtin }
-    {
-        at_place(&BUILTINS, number as usize)
-    }
-
     /// The number of the built-in as an object.
     pub fn number(self) -> u32
         ensures number { result ≡ number_of self }
@@ -249,56 +236,60 @@ impl Builtin {
         ensures { result ≡ home_of self }
     {
         match self {
-            Builtin::Math
-            | Builtin::Ripley
-            | Builtin::ParseInt
-            | Builtin::IsNaN
-            | Builtin::String
-            | Builtin::Number
-            | Builtin::Error
-            | Builtin::TypeError
-            | Builtin::RangeError => BuiltinHome::Global,
-            Builtin::MathAbs | Builtin::MathFloor | Builtin::MathMin | Builtin::MathMax =>
-                BuiltinHome::Math,
+            Builtin::Math => BuiltinHome::Global,
+            Builtin::Ripley => BuiltinHome::Global,
+            Builtin::ParseInt => BuiltinHome::Global,
+            Builtin::IsNaN => BuiltinHome::Global,
+            Builtin::String => BuiltinHome::Global,
+            Builtin::Number => BuiltinHome::Global,
+            Builtin::Error => BuiltinHome::Global,
+            Builtin::TypeError => BuiltinHome::Global,
+            Builtin::RangeError => BuiltinHome::Global,
+            Builtin::MathAbs => BuiltinHome::Math,
+            Builtin::MathFloor => BuiltinHome::Math,
+            Builtin::MathMin => BuiltinHome::Math,
+            Builtin::MathMax => BuiltinHome::Math,
             Builtin::HasOwnProperty => BuiltinHome::Object,
             Builtin::FunctionCall => BuiltinHome::Function,
-            Builtin::ArrayPush
-            | Builtin::ArrayPop
-            | Builtin::ArraySlice
-            | Builtin::ArrayIndexOf
-            | Builtin::ArrayJoin => BuiltinHome::Array,
-            Builtin::TextCharAt
-            | Builtin::TextCharCodeAt
-            | Builtin::TextSubstring
-            | Builtin::TextIndexOf => BuiltinHome::Text,
-            Builtin::RipleyCall | Builtin::RipleyNow | Builtin::RipleyRandom => BuiltinHome::Ripley,
-            Builtin::GetElementById | Builtin::CreateElement | Builtin::CreateTextNode =>
-                BuiltinHome::Document,
-            Builtin::HasChildNodes
-            | Builtin::AppendChild
-            | Builtin::InsertBefore
-            | Builtin::ReplaceChild
-            | Builtin::RemoveChild
-            | Builtin::GetAttribute
-            | Builtin::HasAttribute
-            | Builtin::SetAttribute
-            | Builtin::RemoveAttribute
-            | Builtin::AddEventListener
-            | Builtin::RemoveEventListener => BuiltinHome::Node,
-            Builtin::StopPropagation | Builtin::PreventDefault => BuiltinHome::Event,
+            Builtin::ArrayPush => BuiltinHome::Array,
+            Builtin::ArrayPop => BuiltinHome::Array,
+            Builtin::ArraySlice => BuiltinHome::Array,
+            Builtin::ArrayIndexOf => BuiltinHome::Array,
+            Builtin::ArrayJoin => BuiltinHome::Array,
+            Builtin::TextCharAt => BuiltinHome::Text,
+            Builtin::TextCharCodeAt => BuiltinHome::Text,
+            Builtin::TextSubstring => BuiltinHome::Text,
+            Builtin::TextIndexOf => BuiltinHome::Text,
+            Builtin::RipleyCall => BuiltinHome::Ripley,
+            Builtin::RipleyNow => BuiltinHome::Ripley,
+            Builtin::RipleyRandom => BuiltinHome::Ripley,
+            Builtin::GetElementById => BuiltinHome::Document,
+            Builtin::CreateElement => BuiltinHome::Document,
+            Builtin::CreateTextNode => BuiltinHome::Document,
+            Builtin::HasChildNodes => BuiltinHome::Node,
+            Builtin::AppendChild => BuiltinHome::Node,
+            Builtin::InsertBefore => BuiltinHome::Node,
+            Builtin::ReplaceChild => BuiltinHome::Node,
+            Builtin::RemoveChild => BuiltinHome::Node,
+            Builtin::GetAttribute => BuiltinHome::Node,
+            Builtin::HasAttribute => BuiltinHome::Node,
+            Builtin::SetAttribute => BuiltinHome::Node,
+            Builtin::RemoveAttribute => BuiltinHome::Node,
+            Builtin::AddEventListener => BuiltinHome::Node,
+            Builtin::RemoveEventListener => BuiltinHome::Node,
+            Builtin::StopPropagation => BuiltinHome::Event,
+            Builtin::PreventDefault => BuiltinHome::Event,
         }
     }
 
-    /// Whether the built-in is a function: all are but the objects `Math` and `ripley`.
+    /// Whether the built-in is a function, and no object.
     pub fn is_function(self) -> bool
         ensures { result ≡ is_function self }
     {
-        !matches!(self, Builtin::Math | Builtin::Ripley)
+        match self {
+            Builtin::Math => false,
+            Builtin::Ripley => false,
+            _ => true,
+        }
     }
-}
-
-fn at_place(table: &[Builtin], place: usize) -> Option<Builtin>
-    ensures { result ≡ slice_get table.now place }
-{
-    table.get(place).copied()
 }

@@ -1,10 +1,6 @@
-ghost use Rattle.std.specs.Prelude.{◌≡◌, Some, IfSome};
-ghost use Rattle.rip_values.specs.declared.fixed.FixedText.{FixedText};
-ghost use Rattle.rip_values.specs.FixedTexts.{text_of, fixed_texts, fixed_span};
-ghost use Rattle.rip_values.specs.FixedSearch.{start_of};
-
-use crate::fixed_lookup::spelled_so;
-use crate::value::Span;
+// Made from tables/names.txt by tools/names.py.
+ghost use Rattle.std.specs.Prelude.{◌≡◌};
+ghost use Rattle.rip_values.specs.FixedTable.{text_of, start_of};
 
 /// The texts that stand in every pool at no charge: the empty text, and each member name, event type and text
 /// answer of the profile, each once.
@@ -211,15 +207,135 @@ pub static FIXED_TEXTS: [FixedText; 93] = [
     FixedText::On,
 ];
 
-impl FixedText {
-    /// The fixed text that is spelled so, if there is one. Only texts of the same length are looked at.
-    pub fn of(text: &[u16]) -> Option<FixedText>
-        ensures text { IfSome result (λ fixed. text_of fixed ≡ text.now) }
-        ensures only { (fixed : FixedText) → text_of fixed ≡ text.now → result ≡ Some fixed }
-    {
-        spelled_so(text)
-    }
+/// How many units the fixed texts have together.
+pub(crate) const FIXED_UNITS: u32 = 773;
 
+/// The fixed texts of each length.
+pub(crate) static BY_LENGTH: [&[FixedText]; 21] = [
+    &[FixedText::Empty],
+    &[],
+    &[FixedText::Id, FixedText::On],
+    &[
+        FixedText::NaN,
+        FixedText::Pop,
+        FixedText::Abs,
+        FixedText::Min,
+        FixedText::Max,
+        FixedText::Now,
+    ],
+    &[
+        FixedText::Null,
+        FixedText::True,
+        FixedText::Call,
+        FixedText::Name,
+        FixedText::Push,
+        FixedText::Join,
+        FixedText::Body,
+        FixedText::Code,
+        FixedText::EventType,
+        FixedText::Blur,
+        FixedText::Load,
+    ],
+    &[
+        FixedText::False,
+        FixedText::Error,
+        FixedText::Slice,
+        FixedText::Floor,
+        FixedText::Value,
+        FixedText::Click,
+        FixedText::Input,
+        FixedText::Focus,
+        FixedText::TextName,
+    ],
+    &[
+        FixedText::Object,
+        FixedText::Number,
+        FixedText::String,
+        FixedText::Length,
+        FixedText::CharAt,
+        FixedText::Random,
+        FixedText::Target,
+        FixedText::Submit,
+        FixedText::Change,
+    ],
+    &[
+        FixedText::Boolean,
+        FixedText::ValueOf,
+        FixedText::Message,
+        FixedText::IndexOf,
+        FixedText::TagName,
+        FixedText::Checked,
+        FixedText::Bubbles,
+    ],
+    &[
+        FixedText::Function,
+        FixedText::ToString,
+        FixedText::NodeType,
+        FixedText::NodeName,
+        FixedText::Disabled,
+        FixedText::CommentName,
+    ],
+    &[
+        FixedText::Undefined,
+        FixedText::TypeError,
+        FixedText::Prototype,
+        FixedText::Substring,
+        FixedText::NodeValue,
+        FixedText::LastChild,
+        FixedText::ClassName,
+        FixedText::DocumentName,
+    ],
+    &[
+        FixedText::RangeError,
+        FixedText::CharCodeAt,
+        FixedText::ParentNode,
+        FixedText::FirstChild,
+        FixedText::EventPhase,
+        FixedText::Cancelable,
+    ],
+    &[
+        FixedText::Constructor,
+        FixedText::NextSibling,
+        FixedText::AppendChild,
+        FixedText::RemoveChild,
+        FixedText::TextContent,
+    ],
+    &[
+        FixedText::InsertBefore,
+        FixedText::ReplaceChild,
+        FixedText::GetAttribute,
+        FixedText::HasAttribute,
+        FixedText::SetAttribute,
+    ],
+    &[
+        FixedText::IsPrototypeOf,
+        FixedText::CreateElement,
+        FixedText::HasChildNodes,
+        FixedText::SelectedIndex,
+        FixedText::CurrentTarget,
+    ],
+    &[
+        FixedText::ReferenceError,
+        FixedText::HasOwnProperty,
+        FixedText::ToLocaleString,
+        FixedText::GetElementById,
+        FixedText::CreateTextNode,
+        FixedText::PreventDefault,
+    ],
+    &[
+        FixedText::DocumentElement,
+        FixedText::PreviousSibling,
+        FixedText::RemoveAttribute,
+        FixedText::StopPropagation,
+    ],
+    &[FixedText::AddEventListener],
+    &[],
+    &[],
+    &[FixedText::RemoveEventListener],
+    &[FixedText::PropertyIsEnumerable],
+];
+
+impl FixedText {
     /// The text, which is ASCII.
     pub fn text(self) -> &'static str
         ensures { result.now ≡ text_of self }
@@ -321,17 +437,8 @@ impl FixedText {
         }
     }
 
-    /// The place of the text in every pool.
-    pub fn span(self) -> Span
-        ensures { fixed_span (text_of self) ≡ Some result }
-    {
-        Span {
-            start: self.start(),
-            count: self.text().len() as u32,
-        }
-    }
-
-    fn start(self) -> u32
+    // Where the text begins in every pool.
+    pub(crate) fn start(self) -> u32
         ensures { result ≡ start_of self }
     {
         match self {

@@ -1,16 +1,37 @@
-ghost use Rattle.std.specs.Prelude.{◌≡◌, ◌==◌, ℕ, nat_eq};
+ghost use Rattle.std.specs.Prelude.{◌≡◌, ◌==◌, ℕ, [], Some, IfSome, get_or, map, nat_eq};
 ghost use Rattle.std.specs.List.{list_all, zip};
 ghost use Rattle.std.specs.Cmp.Lexicographic.{pointwise};
+ghost use Rattle.rip_values.specs.declared.fixed.FixedText.{FixedText};
+ghost use Rattle.rip_values.specs.FixedTable.{text_of};
+ghost use Rattle.rip_values.specs.FixedTexts.{fixed_span};
 ghost use Rattle.rip_values.specs.FixedSearch.{fixed_text, texts_of_length};
 
-use crate::fixed::FixedText;
+use crate::fixed::{BY_LENGTH, FixedText};
+use crate::value::Span;
 
-/// The length of the longest fixed text.
-const LONGEST: usize = 20;
+impl FixedText {
+    /// The fixed text that is spelled so, if there is one. Only texts of the same length are looked at.
+    pub fn of(text: &[u16]) -> Option<FixedText>
+        ensures text { IfSome result (λ fixed. text_of fixed ≡ text.now) }
+        ensures only { (fixed : FixedText) → text_of fixed ≡ text.now → result ≡ Some fixed }
+    {
+        spelled_so(text)
+    }
+
+    /// The place of the text in every pool.
+    pub fn span(self) -> Span
+        ensures { fixed_span (text_of self) ≡ Some result }
+    {
+        Span {
+            start: self.start(),
+            count: self.text().len() as u32,
+        }
+    }
+}
 
 /// The fixed text that is spelled so, if there is one, sought among those of its length.
 #[tactic(auto, unfolding(crate::specs::FixedSearch::fixed_text))]
-pub(crate) fn spelled_so(text: &[u16]) -> Option<FixedText>
+fn spelled_so(text: &[u16]) -> Option<FixedText>
     ensures { result ≡ fixed_text text.now }
 {
     of_length(text.len())
@@ -20,136 +41,19 @@ pub(crate) fn spelled_so(text: &[u16]) -> Option<FixedText>
 }
 
 // The fixed texts of this length.
-#[tactic(auto, unfolding(crate::specs::FixedSearch::texts_of_length, crate::specs::FixedTexts::fixed_texts))]
 fn of_length(length: usize) -> &'static [FixedText]
     ensures { result.now ≡ texts_of_length length }
 {
-    if length > LONGEST {
-        return &[];
-    }
-    match length {
-        0 => &[FixedText::Empty],
-        1 => &[],
-        2 => &[FixedText::Id, FixedText::On],
-        3 => &[
-            FixedText::NaN,
-            FixedText::Pop,
-            FixedText::Abs,
-            FixedText::Min,
-            FixedText::Max,
-            FixedText::Now,
-        ],
-        4 => &[
-            FixedText::Null,
-            FixedText::True,
-            FixedText::Call,
-            FixedText::Name,
-            FixedText::Push,
-            FixedText::Join,
-            FixedText::Body,
-            FixedText::Code,
-            FixedText::EventType,
-            FixedText::Blur,
-            FixedText::Load,
-        ],
-        5 => &[
-            FixedText::False,
-            FixedText::Error,
-            FixedText::Slice,
-            FixedText::Floor,
-            FixedText::Value,
-            FixedText::Click,
-            FixedText::Input,
-            FixedText::Focus,
-            FixedText::TextName,
-        ],
-        6 => &[
-            FixedText::Object,
-            FixedText::Number,
-            FixedText::String,
-            FixedText::Length,
-            FixedText::CharAt,
-            FixedText::Random,
-            FixedText::Target,
-            FixedText::Submit,
-            FixedText::Change,
-        ],
-        7 => &[
-            FixedText::Boolean,
-            FixedText::ValueOf,
-            FixedText::Message,
-            FixedText::IndexOf,
-            FixedText::TagName,
-            FixedText::Checked,
-            FixedText::Bubbles,
-        ],
-        8 => &[
-            FixedText::Function,
-            FixedText::ToString,
-            FixedText::NodeType,
-            FixedText::NodeName,
-            FixedText::Disabled,
-            FixedText::CommentName,
-        ],
-        9 => &[
-            FixedText::Undefined,
-            FixedText::TypeError,
-            FixedText::Prototype,
-            FixedText::Substring,
-            FixedText::NodeValue,
-            FixedText::LastChild,
-            FixedText::ClassName,
-            FixedText::DocumentName,
-        ],
-        10 => &[
-            FixedText::RangeError,
-            FixedText::CharCodeAt,
-            FixedText::ParentNode,
-            FixedText::FirstChild,
-            FixedText::EventPhase,
-            FixedText::Cancelable,
-        ],
-        11 => &[
-            FixedText::Constructor,
-            FixedText::NextSibling,
-            FixedText::AppendChild,
-            FixedText::RemoveChild,
-            FixedText::TextContent,
-        ],
-        12 => &[
-            FixedText::InsertBefore,
-            FixedText::ReplaceChild,
-            FixedText::GetAttribute,
-            FixedText::HasAttribute,
-            FixedText::SetAttribute,
-        ],
-        13 => &[
-            FixedText::IsPrototypeOf,
-            FixedText::CreateElement,
-            FixedText::HasChildNodes,
-            FixedText::SelectedIndex,
-            FixedText::CurrentTarget,
-        ],
-        14 => &[
-            FixedText::ReferenceError,
-            FixedText::HasOwnProperty,
-            FixedText::ToLocaleString,
-            FixedText::GetElementById,
-            FixedText::CreateTextNode,
-            FixedText::PreventDefault,
-        ],
-        15 => &[
-            FixedText::DocumentElement,
-            FixedText::PreviousSibling,
-            FixedText::RemoveAttribute,
-            FixedText::StopPropagation,
-        ],
-        16 => &[FixedText::AddEventListener],
-        17 => &[],
-        18 => &[],
-        19 => &[FixedText::RemoveEventListener],
-        20 => &[FixedText::PropertyIsEnumerable],
-        _ => unreachable!(),
+    texts_at(&BY_LENGTH, length)
+}
+
+// The texts at this place of a table, or none.
+fn texts_at(table: &[&'static [FixedText]], place: usize) -> &'static [FixedText]
+    ensures { result.now ≡ get_or (map (λ texts. texts.now) table.now) place [] }
+{
+    match table.get(place) {
+        Some(texts) => texts,
+        None => &[],
     }
 }
 

@@ -1,9 +1,9 @@
-ghost use Rattle.std.specs.Prelude.{◌≡◌, find, nat_eq};
-ghost use Rattle.std.specs.Cmp.Lexicographic.{pointwise};
-ghost use Rattle.rip_values.specs.Globals.{global_name, global_named, global_value};
+// Made from tables/names.txt by tools/names.py.
+ghost use Rattle.std.specs.Prelude.{◌≡◌};
+ghost use Rattle.rip_values.specs.GlobalTable.{global_name, global_value};
 
-use crate::builtin::{Builtin, FIRST_NODE};
-use crate::fixed_lookup::is_spelled;
+use crate::builtin::Builtin;
+use crate::builtin_lookup::FIRST_NODE;
 use crate::value::Value;
 
 /// A global name of the profile (ECMA-262 15.1).
@@ -40,14 +40,6 @@ pub const GLOBALS: [Global; 12] = [
 ];
 
 impl Global {
-    /// The global of this name.
-    #[tactic(auto, unfolding(crate::specs::Globals::globals))]
-    pub fn named(name: &[u16]) -> Option<Global>
-        ensures { result ≡ global_named name.now }
-    {
-        named_among(&GLOBALS, name)
-    }
-
     /// Its name.
     pub fn name(self) -> &'static str
         ensures { result.now ≡ global_name self }
@@ -87,14 +79,4 @@ impl Global {
             Global::NaN => Value::NaN,
         }
     }
-}
-
-/// The first of these globals that has the name.
-fn named_among(globals: &[Global], name: &[u16]) -> Option<Global>
-    ensures { result ≡ find (λ global. pointwise nat_eq (global_name global) name.now) globals.now }
-{
-    globals
-        .iter()
-        .copied()
-        .find(|global| is_spelled(global.name(), name))
 }

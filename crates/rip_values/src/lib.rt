@@ -15,9 +15,9 @@
 //! | [`is_hex_digit`], [`hex_value`], [`small_unit`], [`is_ascii`], [`is_ascii_in_small`] | `Units`, one definition each |
 //! | [`text_of_whole`] | std's `signed_decimal` |
 //! | [`Value`] of a number | `Values.value_of_number` |
-//! | [`FixedText`] | `FixedTexts.text_of`, its table, and `FixedTexts.fixed_span`, its places |
+//! | [`FixedText`] | `FixedTable.text_of`, its table, and `FixedTexts.fixed_span`, its places |
 //! | [`Builtin`] | `Builtins.number_of`, `Builtins.name_of`, `Builtins.home_of` |
-//! | [`Global`] | `Globals.global_name`, `Globals.global_named`, `Globals.global_value` |
+//! | [`Global`] | `GlobalTable.global_name`, `Globals.global_named`, `GlobalTable.global_value` |
 //! | [`Pool`] | contracts see `Pool.Texts`; a span stands for `Pool.text_at` |
 //! | [`Limits`] | `Limits.AreInRange` |
 //! | [`Report`], [`EventKind`], [`BadReport`] | contracts see their variants and fields |
@@ -31,9 +31,11 @@
 
 mod blank;
 mod builtin;
+mod builtin_lookup;
 mod fixed;
 mod fixed_lookup;
 mod global;
+mod global_lookup;
 mod limits;
 mod list;
 mod memory;
@@ -49,7 +51,8 @@ mod whole;
 mod writer;
 
 pub use blank::{is_line_end, is_white_space, trim_start};
-pub use builtin::{BUILTINS, Builtin, BuiltinHome, FIRST_HEAP_OBJECT, FIRST_NODE};
+pub use builtin::{BUILTINS, Builtin, BuiltinHome};
+pub use builtin_lookup::{FIRST_HEAP_OBJECT, FIRST_NODE};
 pub use fixed::{FIXED_TEXTS, FixedText};
 pub use global::{GLOBALS, Global};
 pub use limits::{LONGEST_INPUT, LONGEST_TEXT, Limits, MOST_REPLIES};

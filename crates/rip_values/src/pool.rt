@@ -1,17 +1,15 @@
 ghost use Rattle.std.specs.Prelude.{◌≡◌, ◌↔◌, ℕ, ◌+◌, ◌-◌, ◌^◌, ◌<◌, ◌≤◌, ◌++◌, [], length, OnOk, OnErr, IfOk, IfErr, IsErr, IfSome, IsNone, vec_len, vec_capacity, min};
 ghost use Rattle.std.specs.List.{flat_map};
 ghost use Rattle.rip_values.specs.Pool.{Texts, cut_pool, text_at, IsReserved, IsSpan, held, span_behind, with_text, joined, KeepsTexts};
-ghost use Rattle.rip_values.specs.FixedTexts.{text_of, fixed_span, fixed_units};
+ghost use Rattle.rip_values.specs.FixedTable.{text_of, fixed_size};
+ghost use Rattle.rip_values.specs.FixedTexts.{fixed_span, fixed_units};
 ghost use Rattle.rip_values.specs.declared.fixed.FixedText.{FixedText};
 
-use crate::fixed::{FIXED_TEXTS, FixedText};
+use crate::fixed::{FIXED_TEXTS, FIXED_UNITS, FixedText};
 use crate::memory::NoMemory;
 use crate::value::{Limit, Refused, Span};
 use std::alloc::Global;
 use std::marker::Model;
-
-/// How many units the fixed texts have together.
-const FIXED_UNITS: u32 = 773;
 
 /// Units that a pool has room for from the start beside its limit: the names of a usual program and page.
 const ROOM_FOR_NAMES: u32 = 4_096;
@@ -275,10 +273,10 @@ fn reserve_more(units: &mut Vec<u16>, more: usize) -> Result<(), NoMemory>
 }
 
 // Puts the units of all fixed texts, one after another, where none are.
-#[tactic(auto, unfolding(crate::specs::FixedTexts::fixed_units, crate::specs::FixedTexts::fixed_texts))]
+#[tactic(auto, unfolding(crate::specs::FixedTexts::fixed_units, crate::specs::FixedTable::fixed_texts))]
 fn push_fixed(units: &mut Vec<u16>)
     requires none { units.old.items ≡ [] }
-    requires room { 773 ≤ vec_capacity units.old }
+    requires room { fixed_size ≤ vec_capacity units.old }
     ensures units { units.new.items ≡ fixed_units }
     ensures room { vec_capacity units.new ≡ vec_capacity units.old }
 {

@@ -310,7 +310,7 @@ fn built_ins_by_number(rt: HostRuntime) {
             "{builtin:?}"
         );
     }
-    assert_eq!(rt; Builtin::of(43), None);
+    assert_eq!(rt; Builtin::of(BUILTINS.len() as u32), None);
     assert_eq!(rt; Builtin::of(FIRST_HEAP_OBJECT), None);
     assert_eq!(rt; Builtin::ArrayIndexOf.name(), "indexOf");
     assert_eq!(rt; Builtin::ArrayIndexOf.home(), BuiltinHome::Array);

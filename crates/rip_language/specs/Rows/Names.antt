@@ -1,7 +1,7 @@
 -- Names: what a name is bound to, and how it is written (ECMA-262 8.7, 10.2, 10.3).
 use Rattle.std.specs.Prelude.{ℕ, zero, suc, if◌then◌else◌, Option, None, Some, Result, Ok, Err, unwrap_or}
 use Rattle.rip_values.specs.declared.value.Value.{Value}
-use Rattle.rip_values.specs.Globals.{global_value}
+use Rattle.rip_values.specs.GlobalTable.{global_value}
 use Rattle.rip_values.specs.declared.value.Value.TheVariants.{Undefined, Object}
 use Rattle.rip_values.specs.declared.value.Limit.TheVariants.{Cells}
 use Rattle.rip_heap.specs.declared.class.Class.{Class}

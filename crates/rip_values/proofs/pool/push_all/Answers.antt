@@ -2,7 +2,7 @@ use Rattle.std.proofs.Common.{ap, length, length-append, take, arith}
 use Rattle.std.proofs.lemmas.List.Folds.{length-flat_map-take}
 use Rattle.std.specs.List.{flat_map}
 use Rattle.rip_values.specs.declared.fixed.FixedText.TheVariants.{Empty}
-use Rattle.rip_values.specs.FixedTexts.{text_of}
+use Rattle.rip_values.specs.FixedTable.{text_of}
 use Rattle.rip_values.proofs.pool.push_all.Goals as goal
 
 pub push_ascii-requires : goal.push_ascii-requires

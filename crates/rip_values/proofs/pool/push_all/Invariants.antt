@@ -1,6 +1,6 @@
 use Rattle.std.proofs.Common.{◌≡◌, ◌++◌, take, vec_capacity}
 use Rattle.std.specs.List.{flat_map}
-use Rattle.rip_values.specs.FixedTexts.{text_of}
+use Rattle.rip_values.specs.FixedTable.{text_of}
 use Rattle.rip_values.proofs.pool.push_all.Given as goal
 
 abbrev pub invariant-loop-fixed : goal.invariant-loop-fixed

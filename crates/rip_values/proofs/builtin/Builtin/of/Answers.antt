@@ -1,7 +1,8 @@
 use Rattle.std.proofs.Common.{◌∙◌, ap, sym}
 use Rattle.std.specs.Prelude.{slice_get}
 use Rattle.rip_values.specs.Builtins.{builtins}
-use Rattle.rip_values.proofs.BuiltinLemmas.{slice_get-number_of, IfSome-slice_get}
+use Rattle.rip_values.proofs.BuiltinLemmas.{IfSome-slice_get}
+use Rattle.rip_values.proofs.BuiltinTableLemmas.{slice_get-number_of}
 use Rattle.rip_values.proofs.builtin.Builtin.of.Goals as goal
 
 pub returns-clause-number : goal.returns-clause-number

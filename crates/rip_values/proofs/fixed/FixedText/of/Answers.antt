@@ -1,6 +1,7 @@
 use Rattle.std.proofs.Common.{◌∙◌, ap, sym}
 use Rattle.rip_values.specs.FixedSearch.{fixed_text}
-use Rattle.rip_values.proofs.FixedLemmas.{fixed_text-text_of, IfSome-fixed_text}
+use Rattle.rip_values.proofs.FixedLemmas.{IfSome-fixed_text}
+use Rattle.rip_values.proofs.FixedTableLemmas.{fixed_text-text_of}
 use Rattle.rip_values.proofs.fixed.FixedText.of.Goals as goal
 
 pub returns-clause-text : goal.returns-clause-text

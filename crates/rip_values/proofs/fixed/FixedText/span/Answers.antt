@@ -1,6 +1,6 @@
 use Rattle.std.proofs.Common.{◌≡◌, ap, length}
-use Rattle.rip_values.specs.FixedTexts.{text_of}
-use Rattle.rip_values.proofs.FixedLemmas.{fixed_span-text_of}
+use Rattle.rip_values.specs.FixedTable.{text_of}
+use Rattle.rip_values.proofs.FixedTableLemmas.{fixed_span-text_of}
 use Rattle.rip_values.proofs.fixed.FixedText.span.Goals as goal
 
 pub returns : goal.returns

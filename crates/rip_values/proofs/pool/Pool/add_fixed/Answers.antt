@@ -1,4 +1,5 @@
 use Rattle.std.proofs.Common.{◌≡◌, ◌++◌, ◌∙◌, ap, length, take, arith, rules}
+use Rattle.rip_values.specs.FixedTable.{fixed_size}
 use Rattle.rip_values.proofs.PoolLemmas.{IsPool-more}
 use Rattle.rip_values.proofs.pool.Pool.add_fixed.Goals as goal
 
@@ -13,7 +14,7 @@ invariant_of-self-2 c =
 pub invariant_of-self : goal.invariant_of-self
 invariant_of-self c =
     let same = ap length c.reserve_more.ensures.same in record {
-      begins = ap (take 773) c.reserve_more.ensures.same ∙ c.self.invariant.begins;
+      begins = ap (take fixed_size) c.reserve_more.ensures.same ∙ c.self.invariant.begins;
       within = c.self.invariant.within;
       room = omega (arith, same, c.self.invariant.room, c.reserve_more.ensures.kept);
       spans = omega (arith, same, c.self.invariant.spans);

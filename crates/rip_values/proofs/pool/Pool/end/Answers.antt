@@ -1,5 +1,5 @@
 use Rattle.std.proofs.Common.{arith}
-use Rattle.rip_values.proofs.FixedLemmas.{length-fixed_units}
+use Rattle.rip_values.proofs.FixedTableLemmas.{length-fixed_units}
 use Rattle.rip_values.proofs.PoolLemmas.{fixed_length}
 use Rattle.rip_values.proofs.pool.Pool.end.Goals as goal
 

@@ -1,4 +1,5 @@
 use Rattle.std.proofs.Common.{◌≡◌, ◌∙◌, sym, take}
+use Rattle.rip_values.specs.FixedTable.{fixed_size}
 use Rattle.rip_values.specs.FixedTexts.{fixed_units}
 use Rattle.rip_values.proofs.FixedLemmas.{fixed_span-none}
 use Rattle.rip_values.proofs.PoolLemmas.{fixed_at}
@@ -6,12 +7,12 @@ use Rattle.rip_values.proofs.pool.Pool.fixed.Goals as goal
 
 pub returns-in-Some-clause-stands : goal.returns-in-Some-clause-stands
 returns-in-Some-clause-stands c =
-    let begins : take 773 c.args.self.now.units ≡ fixed_units = rw (← c.self.view_is) c.self.invariant.begins in
+    let begins : take fixed_size c.args.self.now.units ≡ fixed_units = rw (← c.self.view_is) c.self.invariant.begins in
     (fixed_at c.args.self.now c.in-Some.fixed c.span.result begins c.span.ensures).0 ∙ c.in-Some.ensures.text
 
 pub returns-in-Some-clause-lies : goal.returns-in-Some-clause-lies
 returns-in-Some-clause-lies c =
-    let begins : take 773 c.args.self.now.units ≡ fixed_units = rw (← c.self.view_is) c.self.invariant.begins in
+    let begins : take fixed_size c.args.self.now.units ≡ fixed_units = rw (← c.self.view_is) c.self.invariant.begins in
     (fixed_at c.args.self.now c.in-Some.fixed c.span.result begins c.span.ensures).1
 
 pub returns-in-None-clause-span : goal.returns-in-None-clause-span

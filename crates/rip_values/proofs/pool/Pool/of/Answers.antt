@@ -1,5 +1,5 @@
 use Rattle.std.proofs.Common.{ap, length, arith}
-use Rattle.rip_values.proofs.FixedLemmas.{length-fixed_units}
+use Rattle.rip_values.proofs.FixedTableLemmas.{length-fixed_units}
 use Rattle.rip_values.proofs.PoolLemmas.{IsPool-fixed}
 use Rattle.rip_values.proofs.pool.Pool.of.Goals as goal
 
