@@ -1,7 +1,7 @@
 ghost use Rattle.std.specs.Prelude.{◌≡◌};
 ghost use Rattle.rip_heap.specs.Growth.{Grows};
 ghost use Rattle.rip_heap.specs.Outcome.{Answers};
-ghost use Rattle.rip_builtins.specs.Builtins.{builtin, array_function, text_function};
+ghost use Rattle.rip_builtins.specs.Builtins.{builtin, array_function, text_function, plain_function};
 ghost use Rattle.rip_builtins.specs.Receivers.{array_of, text_of, on};
 
 use crate::arrays::{index_of, pop, push, slice};
@@ -15,27 +15,8 @@ use crate::receivers::{array_of, refused, text_of};
 use crate::text_search::place_of;
 use crate::texts::{char_at, char_code_at, substring};
 use rip_heap::{Abrupt, Class, Heap};
-use rip_values::{Builtin, Fault, Value};
+use rip_values::{Builtin, BuiltinHome, Fault, Value};
 use std::alloc::Global;
-
-/// The functions of arrays.
-#[derive(Clone, Copy, Debug, PartialEq, Eq)]
-pub enum ArrayFunction {
-    Push,
-    Pop,
-    Slice,
-    IndexOf,
-    Join,
-}
-
-/// The functions of texts. `PlaceOf` is `indexOf`.
-#[derive(Clone, Copy, Debug, PartialEq, Eq)]
-pub enum TextFunction {
-    CharAt,
-    CharCodeAt,
-    Substring,
-    PlaceOf,
-}
 
 /// What a built-in function answers where it is called on `this` with these arguments (ECMA-262 15). An answer other
 /// than a value leaves the heap as it was. What is no function of
@@ -52,6 +33,31 @@ pub fn builtin(
         heap.new }
     ensures grows { Grows heap.old heap.new }
 {
+    match which.home() {
+        BuiltinHome::Array => on_array(alloc, heap, which, this, args),
+        BuiltinHome::Text => on_text(alloc, heap, which, this, args),
+        BuiltinHome::Global
+        | BuiltinHome::Math
+        | BuiltinHome::Object
+        | BuiltinHome::Function
+        | BuiltinHome::Ripley
+        | BuiltinHome::Document
+        | BuiltinHome::Node
+        | BuiltinHome::Event => on_any(alloc, heap, which, this, args),
+    }
+}
+
+// A function that takes any receiver.
+fn on_any(
+    alloc: Global,
+    heap: &mut Heap,
+    which: Builtin,
+    this: Value,
+    args: &[Value],
+) -> Result<Value, Abrupt>
+    ensures answers { Answers (plain_function which heap.old this args.now) heap.old result heap.new }
+    ensures grows { Grows heap.old heap.new }
+{
     match which {
         Builtin::ParseInt => parse_int(alloc, heap, args),
         Builtin::IsNaN => is_nan(heap, args),
@@ -65,15 +71,6 @@ pub fn builtin(
         Builtin::MathMin => math_extreme(Extreme::Least, heap, args),
         Builtin::MathMax => math_extreme(Extreme::Greatest, heap, args),
         Builtin::HasOwnProperty => has_own_property(alloc, heap, this, args),
-        Builtin::ArrayPush => on_array(alloc, heap, ArrayFunction::Push, this, args),
-        Builtin::ArrayPop => on_array(alloc, heap, ArrayFunction::Pop, this, args),
-        Builtin::ArraySlice => on_array(alloc, heap, ArrayFunction::Slice, this, args),
-        Builtin::ArrayIndexOf => on_array(alloc, heap, ArrayFunction::IndexOf, this, args),
-        Builtin::ArrayJoin => on_array(alloc, heap, ArrayFunction::Join, this, args),
-        Builtin::TextCharAt => on_text(alloc, heap, TextFunction::CharAt, this, args),
-        Builtin::TextCharCodeAt => on_text(alloc, heap, TextFunction::CharCodeAt, this, args),
-        Builtin::TextSubstring => on_text(alloc, heap, TextFunction::Substring, this, args),
-        Builtin::TextIndexOf => on_text(alloc, heap, TextFunction::PlaceOf, this, args),
         _ => Err(Abrupt::Fault(Fault::NotInProfile)),
     }
 }
@@ -82,22 +79,23 @@ pub fn builtin(
 fn on_array(
     alloc: Global,
     heap: &mut Heap,
-    function: ArrayFunction,
+    which: Builtin,
     this: Value,
     args: &[Value],
 ) -> Result<Value, Abrupt>
     ensures answers { Answers
-        (on (array_of heap.old this) (λ array. array_function function heap.old array args.now))
+        (on (array_of heap.old this) (λ array. array_function which heap.old array args.now))
         heap.old result heap.new }
     ensures grows { Grows heap.old heap.new }
 {
     match array_of(heap, this) {
-        Ok(array) => match function {
-            ArrayFunction::Push => push(alloc, heap, array, args),
-            ArrayFunction::Pop => pop(heap, array),
-            ArrayFunction::Slice => slice(alloc, heap, array, args),
-            ArrayFunction::IndexOf => index_of(heap, array, args),
-            ArrayFunction::Join => join(alloc, heap, array, args),
+        Ok(array) => match which {
+            Builtin::ArrayPush => push(alloc, heap, array, args),
+            Builtin::ArrayPop => pop(heap, array),
+            Builtin::ArraySlice => slice(alloc, heap, array, args),
+            Builtin::ArrayIndexOf => index_of(heap, array, args),
+            Builtin::ArrayJoin => join(alloc, heap, array, args),
+            _ => Err(Abrupt::Fault(Fault::NotInProfile)),
         },
         Err(reason) => refused(heap, reason),
     }
@@ -107,21 +105,22 @@ fn on_array(
 fn on_text(
     alloc: Global,
     heap: &mut Heap,
-    function: TextFunction,
+    which: Builtin,
     this: Value,
     args: &[Value],
 ) -> Result<Value, Abrupt>
     ensures answers { Answers
-        (on (text_of this) (λ text. text_function function heap.old text args.now)) heap.old result
+        (on (text_of this) (λ text. text_function which heap.old text args.now)) heap.old result
         heap.new }
     ensures grows { Grows heap.old heap.new }
 {
     match text_of(this) {
-        Ok(text) => match function {
-            TextFunction::CharAt => char_at(heap, text, args),
-            TextFunction::CharCodeAt => char_code_at(heap, text, args),
-            TextFunction::Substring => substring(heap, text, args),
-            TextFunction::PlaceOf => place_of(alloc, heap, text, args),
+        Ok(text) => match which {
+            Builtin::TextCharAt => char_at(heap, text, args),
+            Builtin::TextCharCodeAt => char_code_at(heap, text, args),
+            Builtin::TextSubstring => substring(heap, text, args),
+            Builtin::TextIndexOf => place_of(alloc, heap, text, args),
+            _ => Err(Abrupt::Fault(Fault::NotInProfile)),
         },
         Err(reason) => refused(heap, reason),
     }

@@ -11,7 +11,7 @@
 //!
 //! | what | its definition in `specs/` |
 //! |---|---|
-//! | [`builtin`] | `Builtins.builtin`: the table, one equation for each built-in |
+//! | [`builtin`] | `Builtins.builtin`, by the home: `Builtins.array_function`, `Builtins.text_function`, `Builtins.plain_function`, one equation for each built-in |
 //! | the receivers of functions of arrays and texts | `Receivers.on` |
 //! | `Math.abs` `Math.floor` `Math.min` `Math.max`, `isNaN`, `Number` | `Numbers` |
 //! | `String` | `Globals` |
@@ -23,7 +23,8 @@
 //! | `indexOf` of texts | `Search.text_index_of`, by `Search.first_place` of the heap's crate; `Laws.FindsFirstPlaces`, the law of [`texts_are_found_first`] |
 //! | `hasOwnProperty` | `OwnProperties.has_own_property` |
 //!
-//! What is no function of this table is outside the profile here: the objects `Math` and `ripley`, `call` of script
+//! A built-in is declared by a line of `tables/names.txt`, from which `tools/names.py` makes its names and numbers. What has no
+//! equation is outside the profile here: the objects `Math` and `ripley`, `call` of script
 //! functions, and the functions of `ripley`, the document, nodes and events, which layers above answer.
 //!
 //! A layer above may rest on this: each call is total, a number that is no object of the heap included, and an
