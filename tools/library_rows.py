@@ -4,9 +4,9 @@
 usage: library_rows.py TABLES PROGRAM
 
 TABLES is a Markdown file. The tables under the headings that SECTIONS names are read, a row a script; others are passed
-over. A heading may go on behind a colon. In a cell `\\n`, `\\r` and `\\uHHHH` stand for one unit of the text, `\\\\`
-for a backslash and `\\|` for a bar, and a text stands between backticks. PROGRAM is the program `script`; two rows run
-at a time. Prints a line for each row that does not agree, with what is wanted and what came, and last how many rows
+over. A heading may go on behind a colon. In a cell `\\n`, `\\r` and `\\uHHHH` stand for one unit of the text, `\\xHH`
+for a byte, `\\\\` for a backslash, `\\|` for a bar, and `\\{N TEXT}` for the text N times, in which `\\#` is the number of
+each, from 0; a text stands between backticks. PROGRAM is the program `script`; two rows run at a time. Prints a line for each row that does not agree, with what is wanted and what came, and last how many rows
 agree; the status is 0 where all do.
 
 | heading | columns |
@@ -44,14 +44,30 @@ def text_of(cell):
     cell = cell.replace("\\|", "|")
     quoted = re.fullmatch(r"(`+) ?(.*?) ?\1", cell, re.S)
     text = quoted.group(2) if quoted else cell
-    return re.sub(r"\\(u[0-9a-f]{4}|.)", decoded, text)
+    return unescaped(text)
+
+
+def unescaped(text):
+    """A text with what its escapes stand for. Two that are a pair of surrogates stand for one character."""
+    decoded_all = re.sub(r"\\(u[0-9a-f]{4}|x[0-9a-f]{2}|\{\d+ [^}]*\}|.)", decoded, text)
+    return re.sub("[\ud800-\udbff][\udc00-\udfff]", joined, decoded_all)
+
+
+def joined(pair):
+    """The character that a pair of surrogates stands for."""
+    return pair.group().encode("utf-16", "surrogatepass").decode("utf-16")
 
 
 def decoded(escape):
-    """The unit that an escape in a cell stands for."""
+    """What an escape in a cell stands for: a byte past ASCII is a surrogate, as in the file names of Python."""
     name = escape.group(1)
-    if len(name) == 5:
+    if name[0] == "u" and len(name) == 5:
         return chr(int(name[1:], 16))
+    if name[0] == "x" and len(name) == 3:
+        return bytes.fromhex(name[1:]).decode("utf-8", "surrogateescape")
+    if name[0] == "{" and name[-1] == "}":
+        times, _, repeated = name[1:-1].partition(" ")
+        return "".join(unescaped(repeated.replace("\\#", str(number))) for number in range(int(times)))
     return {"n": "\n", "r": "\r"}.get(name, name)
 
 
@@ -181,7 +197,7 @@ def differences(row, printed):
 
 def run(program, folder, row):
     """What the program prints for a row's script."""
-    with tempfile.NamedTemporaryFile("w", dir=folder, encoding="utf-8", newline="") as file:
+    with tempfile.NamedTemporaryFile("w", dir=folder, encoding="utf-8", errors="surrogateescape", newline="") as file:
         file.write(row.script)
         file.flush()
         ran = subprocess.run([program, "run", file.name, *row.limits], capture_output=True, timeout=SECONDS)
