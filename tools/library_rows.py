@@ -6,8 +6,9 @@ usage: library_rows.py TABLES PROGRAM
 TABLES is a Markdown file. The tables under the headings that SECTIONS names are read, a row a script; others are passed
 over. A heading may go on behind a colon. In a cell `\\n`, `\\r` and `\\uHHHH` stand for one unit of the text, `\\xHH`
 for a byte, `\\\\` for a backslash, `\\|` for a bar, and `\\{N TEXT}` for the text N times, in which `\\#` is the number of
-each, from 0; a text stands between backticks. PROGRAM is the program `script`; two rows run at a time. Prints a line for each row that does not agree, with what is wanted and what came, and last how many rows
-agree; the status is 0 where all do.
+each, from 0; a text stands between backticks. PROGRAM is the program `script`; two rows run at a time. Prints a line for
+each row that does not agree, with what is wanted and what came, and last how many rows agree; the status is 0 where all
+do.
 
 | heading | columns |
 |---|---|
@@ -67,6 +68,8 @@ def decoded(escape):
         return bytes.fromhex(name[1:]).decode("utf-8", "surrogateescape")
     if name[0] == "{" and name[-1] == "}":
         times, _, repeated = name[1:-1].partition(" ")
+        if "\\#" not in repeated:
+            return int(times) * unescaped(repeated)
         return "".join(unescaped(repeated.replace("\\#", str(number))) for number in range(int(times)))
     return {"n": "\n", "r": "\r"}.get(name, name)
 
