@@ -21,9 +21,11 @@ import concurrent.futures
 import json
 import pathlib
 import re
+import socket
 import subprocess
 import sys
 import tempfile
+import time
 from collections.abc import Callable, Iterator
 
 import library_rows
@@ -341,6 +343,106 @@ def store(programs: Programs, section: Section) -> Iterator[Outcome]:
         yield f"{name} {args}", want, line.split(" ", 5)[-1]
 
 
+# Sections that are run over the sockets of a server.
+
+NOWHERE = b"GET /x HTTP/1.1\r\nHost: a\r\n\r\n"
+
+
+class Server:
+    """`ripley serve` on a free port of this machine, and what one connection at a time is answered."""
+
+    def __init__(self, programs: Programs, page: str, app: str) -> None:
+        self.folder = tempfile.TemporaryDirectory()
+        for name, text in (("p", page), ("a", app)):
+            (pathlib.Path(self.folder.name) / name).write_bytes(data(text))
+        with socket.create_server(("127.0.0.1", 0)) as free:
+            self.where = free.getsockname()
+        words = [programs.paths["ripley"], "serve", "p", "a", f"127.0.0.1:{self.where[1]}"]
+        self.process = subprocess.Popen(words, cwd=self.folder.name, stdout=subprocess.DEVNULL, stderr=subprocess.DEVNULL)
+
+    def connect(self) -> socket.socket:
+        for _ in range(200):
+            try:
+                connection = socket.create_connection(self.where, timeout=10)
+                connection.setsockopt(socket.IPPROTO_TCP, socket.TCP_NODELAY, 1)
+                return connection
+            except ConnectionRefusedError:
+                time.sleep(0.02)
+        raise TimeoutError("the server can't be reached")
+
+    def end(self) -> None:
+        self.process.kill()
+        self.process.wait()
+        self.folder.cleanup()
+
+
+def received(connection: socket.socket, is_bare: bool) -> bytes:
+    """One answer, its head and its body."""
+    found = b""
+    while b"\r\n\r\n" not in found:
+        piece = connection.recv(1)
+        if not piece:
+            return found
+        found += piece
+    length = re.search(rb"Content-Length: (\d+)", found)
+    rest = 0 if is_bare or length is None else int(length[1])
+    while rest > 0:
+        piece = connection.recv(rest)
+        if not piece:
+            return found
+        found, rest = found + piece, rest - len(piece)
+    return found
+
+
+def asked(server: Server, requests: list[bytes], piece: int) -> tuple[bytes, str]:
+    """What requests are answered, the last of them, where they are sent in such pieces; and whether the connection is shut."""
+    session = answer = b""
+    with server.connect() as connection:
+        try:
+            for request in requests:
+                whole = request.replace(b"SESSION", session)
+                for at in range(0, len(whole), piece):
+                    connection.sendall(whole[at:at + piece])
+                answer = received(connection, request.startswith(b"HEAD"))
+                opened = re.search(rb"Ripley-Session: (\S+)", answer)
+                session = opened[1] if opened else session
+            connection.sendall(NOWHERE)
+            return answer, "kept" if connection.recv(4096).startswith(b"HTTP/1.1 404") else "shut"
+        except ConnectionError:
+            return answer, "shut"
+
+
+def answer_text(status: str, body: str, end: str, page: str) -> str:
+    """An answer as it is sent; what is drawn stands as `*`."""
+    code, _, allow = status.partition(", ")
+    form = "text/html; charset=utf-8" if body == "page" else "application/json"
+    drawn = ["Ripley-Session: *", "Ripley-Seed: *", "Ripley-Time: *"]
+    lines = [f"HTTP/1.1 {code}", f"Content-Type: {form}", *(drawn if body == "page" or code[:3] == "500" else [])]
+    text = page if body == "page" else body
+    lines += [allow] * (allow != "") + [f"Content-Length: {len(data(text))}"] * (text != "")
+    return "\r\n".join(lines + ["Connection: close"] * (end == "shut")) + "\r\n\r\n" + text
+
+
+def answers(programs: Programs, section: Section) -> Iterator[Outcome]:
+    """What is sent, ` » ` where an answer is waited for, and SESSION for the identifier that one told; how the last is
+    answered: status, with a field `Allow` behind it; body, or `page`; and whether the connection is kept or shut. Each is
+    sent in one piece, and where it is short byte by byte. `Page: ..` and `Manifest: ..` say what is served."""
+    page = section.told("Page", "<html><head></head><body></body></html>")
+    server = Server(programs, page, section.told("Manifest", MANIFEST))
+    try:
+        for sent, status, body, end in section.rows:
+            requests = [data(text) for text in text_of(sent).split(" » ")]
+            for piece in (65536, 1) if sum(map(len, requests)) < 500 else (65536,):
+                answer, ended = asked(server, requests, piece)
+                came = re.sub(r"(Ripley-\w+: )\S+", r"\1*", answer.decode("utf-8", "surrogateescape"))
+                came = re.sub(r"(\[\d+),\d{13},", r"\1,0,", came)
+                length = len(data(came.partition("\r\n\r\n")[2]))
+                came = re.sub(r"Content-Length: \d+", f"Content-Length: {length}", came)
+                yield sent, answer_text(text_of(status), text_of(body), end, page) + end, came + ended
+    finally:
+        server.end()
+
+
 EACH: dict[str, Callable[[Programs, Cells], tuple[str, str]]] = {
     "Tokens": tokens,
     "Trees": tree,
@@ -363,6 +465,7 @@ ALL: dict[str, Callable[[Programs, Section], Iterator[Outcome]]] = {
     "Arguments": arguments,
     "Reports": reports,
     "Store": store,
+    "Answers": answers,
 }
 
 
