@@ -1,5 +1,5 @@
 // Tells the nodes of the page that it is the last script of: each as the rows of `pages.md` have it, in a call of its own.
-var NAMES = ["class", "id", "lang", "charset", "rel", "href", "x_y:z.w-", "a:b", "a", "b", "title", "for", "name", "type", "value", "selected", "disabled"];
+var NAMES = ["class", "id", "lang", "charset", "rel", "href", "x_y:z.w-", "a:b", "a", "b", "title", "for", "name", "type", "value", "selected", "disabled", "data-x", "x_y", "z.w", "checked"];
 function attributes(node) {
   var text = "";
   for (var i = 0; i < NAMES.length; i++) {

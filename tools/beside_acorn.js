@@ -2,11 +2,11 @@
 // of the first token with which no script goes on. That place is where acorn refuses the script, and where a search by
 // trial finds no list of tokens that goes on; where the two differ the script is left out.
 //
-//   git clone . /tmp/beside
-//   node --expose-internals tools/beside_acorn.js 1 400 /tmp/beside/crates/tests_syntax/src/parser.rt
-//   cd /tmp/beside/crates/tests_syntax && rt try --test
+//   mkdir /tmp/beside
+//   node --expose-internals tools/beside_acorn.js 1 400 /tmp/beside/trees.md
+//   python3 tools/rows.py /tmp/beside crates/script/out/script crates/ripley/out/ripley
 //
-// It puts what it finds in the place of the tables TREES and REFUSED of the tests, and prints how many there are of each.
+// It writes what it finds as rows of trees, like those of rows/trees.md, and prints how many there are of each kind.
 //
 // Meant differences, which the parser refuses and acorn does not: labels, `for (.. in ..)`, missing elements in arrays,
 // function declarations in blocks and behind `if`, `else` and loops. A script in which acorn finds one of these is left
@@ -134,57 +134,54 @@ const OPTIONS = { ecmaVersion: 5, sourceType: 'script', allowReturnOutsideFuncti
 let place = 0;
 const parsed = text => { try { return acorn.parse(text, OPTIONS); } catch (e) { if (/Unsyntactic/.test(e.message)) throw new Meant(); place = e.pos; return null; } };
 
-const NAMES = { '*': 'Multiply', '/': 'Divide', '%': 'Remainder', '+': 'Add', '-': 'Subtract', '<<': 'ShiftLeft', '>>': 'ShiftRight', '>>>': 'ShiftRightUnsigned', '<': 'Less', '>': 'Greater', '<=': 'LessOrEqual', '>=': 'GreaterOrEqual', 'instanceof': 'InstanceOf', 'in': 'In', '==': 'Equal', '!=': 'NotEqual', '===': 'StrictEqual', '!==': 'StrictNotEqual', '&': 'BitAnd', '^': 'BitXor', '|': 'BitOr', '&&': 'And', '||': 'Or' };
-const UNARY = { 'delete': 'Delete', 'void': 'Void', 'typeof': 'TypeOf', '+': 'Plus', '-': 'Minus', '~': 'BitNot', '!': 'Not' };
-class TooWide extends Error {}
-const node = (head, parts) => { if (parts.length > 8) throw new TooWide(); return parts.length ? `(${head} ${parts.join(' ')})` : head; };
-const text = t => { const raw = t.raw.slice(1, -1); return raw === t.value ? `'${t.value}'` : `"${t.value}"`; };
-const key = k => k.type === 'Identifier' ? k.name : typeof k.value === 'string' ? text(k) : String(k.value);
+const node = (form, children) => children.length ? `(${form} ${children.join(' ')})` : form;
+const all = nodes => nodes.filter(n => n).map(n => shown(n));
 const inner = statements => statements.map(s => shown(s, true));
-const head = f => `function${f.id ? ' ' + f.id.name : ''}/${f.params.length}`;
-const whole = f => node(head(f), [...f.params.map(p => p.name), ...inner(f.body.body)]);
+const whole = (form, f) => node(form, [...f.params.map(() => 'Parameter'), ...inner(f.body.body)]);
+const entry = p => { if (p.kind !== 'init') throw new Meant(); return node('Entry', all([p.value])); };
 
-// a node of acorn as our tests write it; a declaration may stand in a body alone
+// a node of acorn by its form and those of its children; a declaration may stand in a body alone
 function shown(n, declares) {
   switch (n.type) {
     case 'EmptyStatement': return 'Empty';
-    case 'BlockStatement': return node('Block', n.body.map(s => shown(s)));
+    case 'BlockStatement': return node('Block', all(n.body));
     case 'VariableDeclaration': return node('Var', n.declarations.map(bound));
-    case 'ExpressionStatement': return node('Expression', [shown(n.expression)]);
-    case 'IfStatement': return node('If', [shown(n.test), shown(n.consequent), ...(n.alternate ? [shown(n.alternate)] : [])]);
-    case 'DoWhileStatement': return node('DoWhile', [shown(n.body), shown(n.test)]);
-    case 'WhileStatement': return node('While', [shown(n.test), shown(n.body)]);
-    case 'ForStatement': return node('For', [n.init && n.init.type === 'VariableDeclaration' ? node('Bindings', n.init.declarations.map(bound)) : maybe(n.init), maybe(n.test), maybe(n.update), shown(n.body)]);
+    case 'ExpressionStatement': return node('Expression', all([n.expression]));
+    case 'IfStatement': return node('If', all([n.test, n.consequent, n.alternate]));
+    case 'DoWhileStatement': return node('DoWhile', all([n.body, n.test]));
+    case 'WhileStatement': return node('While', all([n.test, n.body]));
+    case 'ForStatement':
+      if (n.init && n.init.type === 'VariableDeclaration') return node('For', [node('Bindings', n.init.declarations.map(bound)), ...all([n.test, n.update, n.body])]);
+      return node('For', all([n.init, n.test, n.update, n.body]));
     case 'ContinueStatement': if (n.label) throw new Meant(); return 'Continue';
     case 'BreakStatement': if (n.label) throw new Meant(); return 'Break';
-    case 'ReturnStatement': return node('Return', [maybe(n.argument)]);
-    case 'SwitchStatement': return node('Switch', [shown(n.discriminant), ...n.cases.map(c => c.test ? node('Case', [shown(c.test), ...c.consequent.map(s => shown(s))]) : node('Default', c.consequent.map(s => shown(s))))]);
-    case 'ThrowStatement': return node('Throw', [shown(n.argument)]);
-    case 'TryStatement': return node('Try', [shown(n.block), n.handler ? node('catch ' + n.handler.param.name, [shown(n.handler.body)]) : '_', maybe(n.finalizer)]);
-    case 'FunctionDeclaration': if (!declares) throw new Meant(); return whole(n);
-    case 'FunctionExpression': return whole(n);
+    case 'ReturnStatement': return node('Return', all([n.argument]));
+    case 'SwitchStatement': return node('Switch', [shown(n.discriminant), ...n.cases.map(c => node(c.test ? 'Case' : 'Default', all([c.test, ...c.consequent])))]);
+    case 'ThrowStatement': return node('Throw', all([n.argument]));
+    case 'TryStatement': return node('Try', [shown(n.block), ...(n.handler ? [node('Catch', all([n.handler.body]))] : []), ...all([n.finalizer])]);
+    case 'FunctionDeclaration': if (!declares) throw new Meant(); return whole('FunctionDeclaration', n);
+    case 'FunctionExpression': return whole('Function', n);
     case 'ThisExpression': return 'This';
-    case 'Identifier': return n.name;
+    case 'Identifier': return 'Name';
     case 'Literal':
       if (n.regex) throw new Meant();
-      return n.value === null ? 'Null' : typeof n.value === 'boolean' ? `Boolean(${n.value})` : typeof n.value === 'string' ? text(n) : String(n.value);
-    case 'ArrayExpression': if (n.elements.includes(null)) throw new Meant(); return node('Array', n.elements.map(e => shown(e)));
-    case 'ObjectExpression': return node('Object', n.properties.map(p => { if (p.kind !== 'init') throw new Meant(); return node(key(p.key) + ':', [shown(p.value)]); }));
-    case 'MemberExpression': return n.computed ? node('Index', [shown(n.object), shown(n.property)]) : node('.' + n.property.name, [shown(n.object)]);
-    case 'NewExpression': return node('New', [shown(n.callee), ...n.arguments.map(a => shown(a))]);
-    case 'CallExpression': return node('Call', [shown(n.callee), ...n.arguments.map(a => shown(a))]);
-    case 'UpdateExpression': return node(`${n.prefix ? 'Prefix' : 'Postfix'}(${n.operator === '++' ? 'Increment' : 'Decrement'})`, [shown(n.argument)]);
-    case 'UnaryExpression': return node(`Unary(${UNARY[n.operator]})`, [shown(n.argument)]);
-    case 'BinaryExpression': return node(`Binary(${NAMES[n.operator]})`, [shown(n.left), shown(n.right)]);
-    case 'LogicalExpression': return node(`Logical(${NAMES[n.operator]})`, [shown(n.left), shown(n.right)]);
-    case 'ConditionalExpression': return node('Conditional', [shown(n.test), shown(n.consequent), shown(n.alternate)]);
-    case 'AssignmentExpression': return node(n.operator === '=' ? 'Assign' : `Compound(${NAMES[n.operator.slice(0, -1)]})`, [shown(n.left), shown(n.right)]);
+      return n.value === null ? 'Null' : { boolean: 'Boolean', string: 'Text', number: 'Number' }[typeof n.value];
+    case 'ArrayExpression': if (n.elements.includes(null)) throw new Meant(); return node('Array', all(n.elements));
+    case 'ObjectExpression': return node('Object', n.properties.map(entry));
+    case 'MemberExpression': return n.computed ? node('Index', all([n.object, n.property])) : node('Member', all([n.object]));
+    case 'NewExpression': return node('New', all([n.callee, ...n.arguments]));
+    case 'CallExpression': return node('Call', all([n.callee, ...n.arguments]));
+    case 'UpdateExpression': return node(n.prefix ? 'Prefix' : 'Postfix', all([n.argument]));
+    case 'UnaryExpression': return node('Unary', all([n.argument]));
+    case 'BinaryExpression': return node('Binary', all([n.left, n.right]));
+    case 'LogicalExpression': return node('Logical', all([n.left, n.right]));
+    case 'ConditionalExpression': return node('Conditional', all([n.test, n.consequent, n.alternate]));
+    case 'AssignmentExpression': return node(n.operator === '=' ? 'Assign' : 'Compound', all([n.left, n.right]));
     case 'SequenceExpression': return n.expressions.slice(1).reduce((left, e) => node('Comma', [left, shown(e)]), shown(n.expressions[0]));
     default: throw new Meant();
   }
 }
-const bound = d => node(d.id.name, d.init ? [shown(d.init)] : []);
-const maybe = n => n ? shown(n) : '_';
+const bound = d => node('Declarator', all([d.init]));
 
 // the tree of a text, or nothing where it has none; labels and the like are Meant
 const tree = text => { const program = parsed(text); return program && inner(program.body).join(' '); };
@@ -231,7 +228,6 @@ function refusal(text, places, tokens) {
 }
 
 const accepted = [], refused = [];
-const string = s => JSON.stringify(s);
 let meant = 0;
 for (let made = 0; made < count; made++) {
   let tokens = chance(4) ? some(9, () => one(WORDS)) : some(3, () => chance(5) ? declaration(3) : statement(3)).flat();
@@ -247,14 +243,11 @@ for (let made = 0; made < count; made++) {
       else meant++;
     }
   } catch (e) {
-    if (e instanceof TooWide) { made--; continue; }
     if (!(e instanceof Meant)) throw e;
     meant++;
   }
 }
-const table = (name, type, rows, row) => `static ${name}: [(${type}); ${rows.length}] = [\n${rows.map(row).join('')}];`;
-let tests = fs.readFileSync(file, 'utf8');
-tests = tests.replace(/static TREES:[^]*?\n\];/, () => table('TREES', '&str, &str', accepted, ([s, t]) => `    (${string(s)}, ${string(t)}),\n`));
-tests = tests.replace(/static REFUSED:[^]*?\n\];/, () => table('REFUSED', '&str, u32', refused, ([s, p]) => `    (${string(s)}, ${p}),\n`));
-fs.writeFileSync(file, tests);
+const cell = text => text === '' ? '(empty)' : '`' + text.replace(/[\\|]/g, '\\$&').replace(/\n/g, '\\n') + '`';
+const table = (heading, column, rows) => `## Trees: ${heading}\n\n| script | ${column} |\n|---|---|\n${rows.map(([s, t]) => `| ${cell(s)} | ${t || '(empty)'} |\n`).join('')}\n`;
+fs.writeFileSync(file, table('as acorn finds them', 'statements', accepted) + table('refused where acorn refuses', 'refusal', refused.map(([s, p]) => [s, `Unexpected ${p}`])));
 console.log(`${accepted.length} with a tree, ${refused.length} refused, ${meant} left out`);

@@ -1,67 +1,53 @@
-// Compares how controls begin in the tests of rip_forms, and what a written value chooses, with what jsdom says of the
-// same page.
+// Runs the rows of `rows/document.md` in jsdom, and says of each that tells something else there.
 //
 //   NODE_PATH=/usr/share/nodejs node tools/beside_controls.js
 //
-// Nodes that are no controls are left out: they have no `value` in jsdom.
+// Left out are rows that end a session, rows with limits, and the sections that OURS names: of calls, which jsdom does not
+// know, and of two rules that it has otherwise, since it finds the element that got an identifier first, and takes more
+// names of elements.
 const fs = require("fs");
 const path = require("path");
 const { JSDOM } = require("jsdom");
 
-const text = fs.readFileSync(path.join(__dirname, "../crates/tests_document/src/forms.rt"), "utf8");
+const OURS = ["arguments of calls", "identifiers that stand twice, and names of elements"];
+const text = fs.readFileSync(path.join(__dirname, "../rows/document.md"), "utf8");
 
-function part(from, to) {
-  const start = text.indexOf(from);
-  return text.slice(start, text.indexOf(to, start));
-}
-
-function words(spelled) {
-  return [...spelled.matchAll(/"([^"]*)"/g)].map((it) => it[1]);
-}
-
-// The elements of the page, and the texts of its textarea and its second option.
-function pageOf() {
-  const { document } = new JSDOM("").window;
-  const nodes = [];
-  const rows = [...part("const PAGE", "];\n").matchAll(/\(\s*(\d+),\s*&\[([^\]]*)\],?\s*\)/g)];
-  rows.forEach((row, n) => {
-    const [name, ...attributes] = words(row[2]);
-    nodes.push(n === 0 ? document.createElement("div") : document.createElement(name));
-    for (let k = 0; k < attributes.length; k += 2) nodes[n].setAttribute(attributes[k], attributes[k + 1]);
-    if (n > 0 && nodes[+row[1]]) nodes[+row[1]].appendChild(nodes[n]);
+// What a cell stands for.
+function textOf(cell) {
+  if (cell === "(empty)") return "";
+  return cell.slice(1, -1).replace(/\\(u[0-9a-f]{4}|.)/g, (_, it) => {
+    if (it.length === 5) return String.fromCharCode(parseInt(it.slice(1), 16));
+    return { n: "\n", r: "\r" }[it] || it;
   });
-  for (const parent of [7, 11]) nodes[parent].appendChild(document.createTextNode("ab"));
-  return nodes;
+}
+
+function rowsOf() {
+  const rows = [];
+  let heading = "";
+  for (const line of text.split("\n")) {
+    if (line.startsWith("## Document: ")) heading = line.slice("## Document: ".length);
+    const cells = line.split(/(?<!\\)\|/).slice(1, -1).map((cell) => cell.trim());
+    if (cells.length === 4 && /^[`(]/.test(cells[1])) rows.push({ heading, cells: cells.map(textOf) });
+  }
+  return rows.filter((row) => !OURS.includes(row.heading) && !row.cells[2] && !row.cells[3].startsWith("ended "));
+}
+
+// What a script tells in jsdom, as the rows have it.
+function toldOf([body, script]) {
+  const { document } = new JSDOM(`<html><head></head><body>${body}<script></script></body></html>`).window;
+  const told = [];
+  new Function("document", "f", `"use strict";${script}`)(document, (value) => told.push(JSON.stringify(value)));
+  return told.join(" ");
 }
 
 let differences = 0;
-let count = 0;
-function compare(what, ours, theirs) {
-  count += 1;
-  if (ours !== theirs) {
+const rows = rowsOf();
+for (const { heading, cells } of rows) {
+  const theirs = toldOf(cells);
+  if (theirs !== cells[3]) {
     differences += 1;
-    console.log(`${what}: the table has ${JSON.stringify(ours)}, jsdom ${JSON.stringify(theirs)}`);
+    console.log(`${heading}: ${cells[1]}\n  the row has ${cells[3]}\n  jsdom tells ${theirs}`);
   }
 }
-
-const nodes = pageOf();
-for (const row of part("const FIRST_VALUES", "];\n").matchAll(/\((\d+), "([^"]*)"\)/g)) {
-  const node = nodes[+row[1]];
-  if ("value" in node) compare(`value of ${row[1]}`, row[2], node.value);
-}
-compare("checked of 5", true, nodes[5].checked);
-compare("selectedIndex of 8", 1, nodes[8].selectedIndex);
-for (const row of part("const CHOSEN", "];\n").matchAll(/\("([^"]*)", (-?\d+)\)/g)) {
-  nodes[8].value = row[1];
-  compare(`selectedIndex after "${row[1]}"`, +row[2], nodes[8].selectedIndex);
-}
-
-// A click that is undone, and one that is not.
-nodes[5].addEventListener("click", (event) => event.preventDefault(), { once: true });
-nodes[5].click();
-compare("checked after a click that is undone", true, nodes[5].checked);
-nodes[5].click();
-compare("checked after a click", false, nodes[5].checked);
-
-console.log(`${count - differences} of ${count} answers as jsdom gives them`);
-process.exitCode = differences === 0 && count > 0 ? 0 : 1;
+console.log(`${rows.length - differences} of ${rows.length} rows as jsdom tells them`);
+process.exitCode = differences === 0 && rows.length > 0 ? 0 : 1;

@@ -1,15 +1,17 @@
 # Compares the reader of pages with html.parser, which stands in python3: random pages of the subset, each with the nodes
 # that html.parser's events give when void elements have no content.
 #
-#   git clone . /tmp/beside
-#   python3 tools/beside_html_parser.py 1 300 /tmp/beside/crates/tests_syntax/src/html.rt
-#   cd /tmp/beside/crates/tests_syntax && rt try --test
+#   mkdir /tmp/beside
+#   python3 tools/beside_html_parser.py 1 300 /tmp/beside/pages.md
+#   python3 tools/rows.py /tmp/beside crates/script/out/script crates/ripley/out/ripley
 #
-# It puts what it finds in the place of the table PAGES of the tests, and prints how many there are.
+# It writes what it finds as rows of nodes, like those of rows/pages.md, and prints how many there are.
 #
 # Meant differences, which the random pages leave out: html.parser keeps a line feed directly after <textarea> and <pre>,
 # and CR; it reads references without a semicolon and the code points 0 and 128 to 159; it refuses nothing, so it is no
 # judge of refusals; and it knows no parts of a page: what stands between them is dropped here before the comparison.
+import json
+import pathlib
 import random
 import re
 import sys
@@ -18,22 +20,23 @@ from html.parser import HTMLParser
 VOID = ['area', 'br', 'col', 'hr', 'img', 'input', 'source', 'track', 'wbr', 'meta', 'link', 'base']
 NESTED = ['div', 'p', 'b', 'span', 'ul', 'li', 'table', 'td', 'x-y', 'h1', 'form', 'select', 'option', 'button', 'pre']
 TEXTS = ['a', 'b c', ' ', '\n', '&amp;', '&lt;i&gt;', '&#x41;', '&#65;', '&nbsp;', '&quot;', '&apos;', '\u00e9', '\u20ac', '\U0001F600', '1 &amp; 2', '& ', '"', "'", '=', '>', '/', ']]>']
+LISTED = json.loads(re.search(r'var NAMES = (\[.*?\]);', (pathlib.Path(__file__).parent.parent / 'rows/nodes.js').read_text())[1])
 NAMES = ['id', 'class', 'title', 'value', 'data-x', 'a:b', 'x_y', 'z.w', 'checked']
 
 
 class Nodes(HTMLParser):
     def __init__(self):
         super().__init__(convert_charrefs=True)
-        self.shown, self.open, self.scripts, self.count = [], [0], [], 1
+        self.shown, self.open, self.count = [], [0], 1
 
     def add(self, text):
         self.shown.append(f'{self.open[-1]}{text}')
         self.count += 1
 
     def handle_starttag(self, tag, attrs):
+        # The rows have attributes in the order of the list in rows/nodes.js.
+        attrs = sorted(attrs, key=lambda it: LISTED.index(it[0]))
         self.add('<' + tag + ''.join(f' {name}({value or ""})' for name, value in attrs) + '>')
-        if tag == 'script':
-            self.scripts.append('')
         if tag not in VOID:
             self.open.append(self.count - 1)
 
@@ -46,8 +49,6 @@ class Nodes(HTMLParser):
     def handle_data(self, data):
         if self.open[-1] > 2 and data:
             self.add('"' + data + '"')
-            if self.cdata_elem == 'script':
-                self.scripts[-1] = data
 
     def handle_comment(self, data):
         if self.open[-1] > 2:
@@ -104,13 +105,17 @@ def between():
 
 def page():
     head = ''.join(between() + random.choice([tag('meta'), tag('link', '/>'), tag('title') + 'T' + '</title>', '<style>a>b{}</style>']) for _ in range(random.randrange(3)))
-    scripts = ''.join('<script>' + random.choice(['', 'a', 'if(a<b)"</b>"', '&amp;']) + '</script>' + random.choice(['', ' ', '\n']) for _ in range(random.randrange(3)))
     return (between() + random.choice(['', '<!doctype html>', '<!DOCTYPE HTML>\n']) + between() + tag('html') + between() + tag('head') + head + between() + '</head>' + between()
-            + tag('body') + forest(0) + scripts + '</body>' + between() + '</html>' + between())
+            + tag('body') + forest(0) + '</body>' + between() + '</html>' + between())
 
 
-def quoted(text):
-    return '"' + ''.join({'\\': '\\\\', '"': '\\"', '\n': '\\n', '\t': '\\t'}.get(c, c if ord(c) < 127 else f'\\u{{{ord(c):x}}}') for c in text) + '"'
+def cell(text):
+    """A text as a cell of a table."""
+    if text == '':
+        return '(empty)'
+    text = ''.join({'\\': '\\\\', '|': '\\|', '\n': '\\n'}.get(c, c if 32 <= ord(c) < 127 or ord(c) > 0xA0 else f'\\u{ord(c):04x}') for c in text)
+    text = re.sub('^ | $', r'\\u0020', text)
+    return '`' + text + '`'
 
 
 def main():
@@ -124,14 +129,11 @@ def main():
         nodes = Nodes()
         nodes.feed(text)
         nodes.close()
-        rows.append((text, ' '.join(nodes.shown) + ''.join(' | ' + script for script in nodes.scripts)))
-    with open(file) as f:
-        tests = f.read()
-    table = f'static PAGES: [(&str, &str); {count}] = [\n' + ''.join(f'    ({quoted(a)}, {quoted(b)}),\n' for a, b in rows) + '];\n'
-    tests = re.sub(r'static PAGES: \[.*?\n\];\n', lambda m: table, tests, count=1, flags=re.S)
+        rows.append((text, ' '.join(nodes.shown)))
     with open(file, 'w') as f:
-        f.write(tests)
-    print(f'{count} pages, {sum(len(b) for a, b in rows)} characters of nodes')
+        f.write('## Nodes: as html.parser finds them\n\n| page | nodes |\n|---|---|\n')
+        f.write(''.join(f'| {cell(text)} | {cell(found)} |\n' for text, found in rows))
+    print(f'{count} pages, {sum(len(found) for _, found in rows)} characters of nodes')
 
 
 main()

@@ -1,4 +1,4 @@
-// Compares the flows of events that the tests of rip_events have with the calls that jsdom makes for them.
+// Compares the flows of events in `rows/events.md` with the calls that jsdom makes for them.
 //
 //   NODE_PATH=/usr/share/nodejs node tools/beside_jsdom.js
 //
@@ -9,33 +9,28 @@ const path = require("path");
 const { JSDOM } = require("jsdom");
 
 const NODES = 5;
-const text = fs.readFileSync(path.join(__dirname, "../crates/tests_document/src/events.rt"), "utf8");
+// The number of the first element in its page.
+const FIRST = 4;
+const text = fs.readFileSync(path.join(__dirname, "../rows/events.md"), "utf8");
 
-function listenersOf(part) {
-  const found = [...part.matchAll(/On\((\d+), (\d+), (true|false)\)/g)];
-  return found.map((it) => ({ node: +it[1], function: +it[2], capture: it[3] === "true" }));
+function onOf([node, number, capture]) {
+  return { node, function: number, capture };
 }
 
-function deedsOf(part) {
-  const form = /\((\d+),\s*Deed::(?:(Stop)|(Move)\((\d+), (\d+)\)|(Add|Remove)\(On\((\d+), (\d+), (true|false)\)\))/g;
-  return [...part.matchAll(form)].map((it) => ({
-    by: +it[1],
-    kind: it[2] || it[3] || it[6],
-    child: +it[4],
-    parent: +it[5],
-    on: { node: +it[7], function: +it[8], capture: it[9] === "true" },
-  }));
+function deedOf([by, kind, ...rest]) {
+  if (kind === "move") return { by, kind, child: rest[0], parent: rest[1] };
+  return kind === "stop" ? { by, kind } : { by, kind, on: onOf(rest) };
 }
 
 function rowsOf() {
-  const form = /Row \{\s*listeners:([^]*?)deeds:([^]*?)target: (\d+),\s*bubbles: (true|false),\s*clicks: (\d+),\s*calls:([^]*?)\],/g;
-  return [...text.matchAll(form)].map((it) => ({
-    listeners: listenersOf(it[1]),
-    deeds: deedsOf(it[2]),
-    target: +it[3],
-    bubbles: it[4] === "true",
-    clicks: +it[5],
-    calls: [...it[6].matchAll(/\((\d+), (\d+), (\d+)\)/g)].map((call) => call.slice(1).map(Number)),
+  const form = /^\| `(.*)` \| `(.*)` \| `(.*)` \| `(.*)` \|$/gm;
+  return [...text.matchAll(form)].map(([, listeners, deeds, events, calls]) => ({
+    listeners: JSON.parse(listeners).map(onOf),
+    deeds: JSON.parse(deeds).map(deedOf),
+    target: events.match(/\d+/) - FIRST,
+    bubbles: events.startsWith("click"),
+    clicks: events.split("; ").length,
+    calls: JSON.parse(calls),
   }));
 }
 
@@ -58,10 +53,10 @@ function callsOf(row) {
     return functions.get(number);
   };
   const act = (deed, event) => {
-    if (deed.kind === "Stop") event.stopPropagation();
-    if (deed.kind === "Move") nodes[deed.parent].appendChild(nodes[deed.child]);
-    if (deed.kind === "Add") add(deed.on);
-    if (deed.kind === "Remove") nodes[deed.on.node].removeEventListener("click", functionOf(deed.on.function), deed.on.capture);
+    if (deed.kind === "stop") event.stopPropagation();
+    if (deed.kind === "move") nodes[deed.parent].appendChild(nodes[deed.child]);
+    if (deed.kind === "add") add(deed.on);
+    if (deed.kind === "remove") nodes[deed.on.node].removeEventListener("click", functionOf(deed.on.function), deed.on.capture);
   };
   const add = (on) => {
     if (on.node === row.target && on.capture) return;

@@ -7,9 +7,9 @@ FOLDER is `rows/`; with NAMEs only the files of these names are run. Prints of e
 and what came, and last how many agree; the status is 0 where all do. What is wanted comes from outside the programs: the
 standards, other implementations, and the tables that say what a program is to print.
 
-A file `.md` has Markdown tables. The heading of a section, up to a colon, says how its rows are run; the headings that
-`library_rows.py` knows are run as there, and the others are in SECTIONS below, each with its columns. Cells are written
-as there; `\\xHH` is one byte, and `\\{N TEXT}` is the text N times, in which `\\#` is the number of each, from 0.
+A file `.md` has Markdown tables. The heading of a section, up to a colon, says how its rows are run: EACH, OF_SECTION and
+ALL below name the function for each, whose first lines tell the columns; the headings that `library_rows.py` knows are run
+as there. Cells are written as there. A line `WORD: ..` in front of a table, with a cell behind it, holds for all its rows.
 
 A file `.txt` has cases. Each begins with a line `== NAME`, and a line with the command: `script` or `ripley`, its
 arguments, ` -> STATUS` where the status is not 0, and ` > FILE` where the standard output is a file. Then come the files that
@@ -31,6 +31,7 @@ from collections.abc import Callable, Iterator
 import library_rows
 from library_rows import cells_of, text_of
 
+ROWS = pathlib.Path(__file__).resolve().parent.parent / "rows"
 SECONDS = 60
 WORKERS = 3
 
@@ -257,7 +258,7 @@ def nodes(programs: Programs, cells: Cells) -> tuple[str, str]:
     """A page; its nodes behind the document, each with the number of its parent. A script at its end tells them."""
     page = text_of(cells[0])
     at = page.rindex("</body")
-    dump = page_of("", (pathlib.Path(__file__).parent.parent / "rows/nodes.js").read_text())
+    dump = page_of("", (ROWS / "nodes.js").read_text())
     script = dump[len("<html><head></head><body>"):-len("</body></html>")]
     found = driven(programs, page[:at] + script + page[at:], with_limits(ROOMY), "flush\n")
     return text_of(cells[1]), " ".join(it[1][0] if it[0] == "n" else str(it) for it in found)
@@ -265,7 +266,7 @@ def nodes(programs: Programs, cells: Cells) -> tuple[str, str]:
 
 def events(programs: Programs, cells: Cells) -> tuple[str, str]:
     """Listeners; what functions do; what is done; the calls. `rows/events.html` says how each is written."""
-    page = (pathlib.Path(__file__).parent.parent / "rows/events.html").read_text()
+    page = (ROWS / "events.html").read_text()
     page = page.replace("LISTENERS", text_of(cells[0])).replace("DEEDS", text_of(cells[1]))
     found = driven(programs, page, with_limits(ROOMY), text_of(cells[2]).replace("; ", "\n") + "\n")
     return text_of(cells[3]), json.dumps([it[1] for it in found], separators=(",", ":"))
@@ -307,7 +308,7 @@ def arguments(programs: Programs, section: Section) -> Iterator[Outcome]:
 
 def reports(programs: Programs, section: Section) -> Iterator[Outcome]:
     """An item that is told to a session of its own, over `rows/reports.html`; how the batch is done."""
-    page = (pathlib.Path(__file__).parent.parent / "rows/reports.html").read_text()
+    page = (ROWS / "reports.html").read_text()
     asked = [text_of(cells[0]) for cells in section.rows]
     told = sessions(programs, page, [f'{{"batch":1,"items":[{item}]}}' for item in asked])
     for item, cells, lines in zip(asked, section.rows, told):
@@ -512,6 +513,9 @@ def compared(programs: Programs, row: library_rows.Row) -> tuple[str, str]:
     return "", "".join(f"{key}: {want!r} is wanted, and {came!r} came; " for key, want, came in found)
 
 
+OF_SECTION = {"Operands": operators, "Expressions": expression}
+
+
 def outcomes(programs: Programs, section: Section) -> list[Outcome]:
     """What is wanted of the rows of a section, and what came."""
     if section.kind in ALL:
@@ -520,8 +524,7 @@ def outcomes(programs: Programs, section: Section) -> list[Outcome]:
     def one(cells: Cells) -> Outcome:
         if section.kind in EACH:
             return (" | ".join(cells), *EACH[section.kind](programs, cells))
-        of_section = {"Operands": operators, "Expressions": expression}.get(section.kind, library)
-        return (" | ".join(cells), *of_section(programs, section, cells))
+        return (" | ".join(cells), *OF_SECTION.get(section.kind, library)(programs, section, cells))
 
     with concurrent.futures.ThreadPoolExecutor(WORKERS) as pool:
         return list(pool.map(one, section.rows))
