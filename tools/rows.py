@@ -344,6 +344,43 @@ def store(programs: Programs, section: Section) -> Iterator[Outcome]:
         yield f"{name} {args}", want, line.split(" ", 5)[-1]
 
 
+# The words of the tables of operators, and those of the log.
+FAULTS = {"whole": "not-whole", "infinite": "infinite", "range": "out-of-range", "profile": "not-in-profile",
+          "primitive": "object-to-primitive", "long": "text-too-long"}
+
+
+def faults(programs: Programs, script: str, expressions: Cells) -> Cells:
+    """What each expression ends with, in a session of its own that is told to find it."""
+    cases = "".join(f'case "{at}":r=({text});break;' for at, text in enumerate(expressions))
+    listener = f'function(){{var r;switch(document.body.firstChild.value){{{cases}}}}}'
+    page = page_of("<input>", f'{script}document.body.firstChild.addEventListener("input",{listener},false);')
+    told = sessions(programs, page, [f'{{"batch":1,"items":[["event","input",4,"{at}"]]}}' for at in range(len(expressions))])
+    words = {f"{name} 1": word for word, name in FAULTS.items()}
+    return [words.get(lines[-1].split(" ", 4)[-1], lines[-1]) for lines in told]
+
+
+def values(programs: Programs, script: str, expressions: Cells) -> Cells:
+    """What each expression comes to in one run: a value, or `throws`."""
+    steps = "".join(f"try{{r.push({text});}}catch(e){{r.push(e.name);}}" for text in expressions)
+    command = ["script", "run", "s", "1000000000", "4000000", "4000000"]
+    _, printed = programs.run(command, {"s": f"{library_rows.DIRECTIVE}{script}var r=[];{steps}"})
+    found = next((line[len("r = ["):-1].split(",") for line in lines_of(printed) if line.startswith("r = [")), [printed])
+    return [item.replace('"TypeError"', "throws").replace('"', "'") for item in found]
+
+
+def operators(programs: Programs, section: Section) -> Iterator[Outcome]:
+    """An expression in which `_` is each of the operands in turn; what each comes to."""
+    script, operands = section.told("Script", ""), section.told("Operands", "").split(" ; ")
+    made = [text_of(cells[0]).replace("_", operand) for cells in section.rows for operand in operands]
+    wanted = [word for cells in section.rows for word in text_of(cells[1]).split(" ")]
+    ending = [text for text, word in zip(made, wanted) if word in FAULTS]
+    valued = [text for text, word in zip(made, wanted) if word not in FAULTS]
+    came = dict(zip(ending, faults(programs, script, ending)))
+    came.update(zip(valued, values(programs, script, valued)))
+    for text, word in zip(made, wanted):
+        yield text, word, came.get(text, "none")
+
+
 # Sections that are run over the sockets of a server.
 
 NOWHERE = b"GET /x HTTP/1.1\r\nHost: a\r\n\r\n"
@@ -364,7 +401,7 @@ class Server:
     def connect(self) -> socket.socket:
         for _ in range(200):
             try:
-                connection = socket.create_connection(self.where, timeout=10)
+                connection = socket.create_connection(self.where, timeout=SECONDS)
                 connection.setsockopt(socket.IPPROTO_TCP, socket.TCP_NODELAY, 1)
                 return connection
             except ConnectionRefusedError:
@@ -377,21 +414,29 @@ class Server:
         self.folder.cleanup()
 
 
+def sent(connection: socket.socket, request: bytes, piece: int) -> None:
+    """Sends a request in such pieces, or what the server takes of it: one that is refused early may be shut meanwhile."""
+    try:
+        for at in range(0, len(request), piece):
+            connection.sendall(request[at:at + piece])
+    except ConnectionError:
+        pass
+
+
 def received(connection: socket.socket, is_bare: bool) -> bytes:
-    """One answer, its head and its body."""
-    found = b""
-    while b"\r\n\r\n" not in found:
-        piece = connection.recv(1)
-        if not piece:
-            return found
-        found += piece
-    length = re.search(rb"Content-Length: (\d+)", found)
-    rest = 0 if is_bare or length is None else int(length[1])
-    while rest > 0:
-        piece = connection.recv(rest)
-        if not piece:
-            return found
-        found, rest = found + piece, rest - len(piece)
+    """One answer, its head and its body; less where no more comes."""
+    found, size = b"", None
+    try:
+        while size is None or len(found) < size:
+            more = connection.recv(1 if size is None else size - len(found))
+            if not more:
+                break
+            found += more
+            if size is None and found.endswith(b"\r\n\r\n"):
+                length = re.search(rb"Content-Length: (\d+)", found)
+                size = len(found) + (0 if is_bare or length is None else int(length[1]))
+    except OSError:
+        pass
     return found
 
 
@@ -399,18 +444,13 @@ def asked(server: Server, requests: list[bytes], piece: int) -> tuple[bytes, str
     """What requests are answered, the last of them, where they are sent in such pieces; and whether the connection is shut."""
     session = answer = b""
     with server.connect() as connection:
-        try:
-            for request in requests:
-                whole = request.replace(b"SESSION", session)
-                for at in range(0, len(whole), piece):
-                    connection.sendall(whole[at:at + piece])
-                answer = received(connection, request.startswith(b"HEAD"))
-                opened = re.search(rb"Ripley-Session: (\S+)", answer)
-                session = opened[1] if opened else session
-            connection.sendall(NOWHERE)
-            return answer, "kept" if connection.recv(4096).startswith(b"HTTP/1.1 404") else "shut"
-        except ConnectionError:
-            return answer, "shut"
+        for request in requests:
+            sent(connection, request.replace(b"SESSION", session), piece)
+            answer = received(connection, request.startswith(b"HEAD"))
+            opened = re.search(rb"Ripley-Session: (\S+)", answer)
+            session = opened[1] if opened else session
+        sent(connection, NOWHERE, len(NOWHERE))
+        return answer, "kept" if received(connection, False).startswith(b"HTTP/1.1 404") else "shut"
 
 
 def answer_text(status: str, body: str, end: str, page: str) -> str:
@@ -431,15 +471,15 @@ def answers(programs: Programs, section: Section) -> Iterator[Outcome]:
     page = section.told("Page", "<html><head></head><body></body></html>")
     server = Server(programs, page, section.told("Manifest", MANIFEST))
     try:
-        for sent, status, body, end in section.rows:
-            requests = [data(text) for text in text_of(sent).split(" » ")]
+        for request, status, body, end in section.rows:
+            requests = [data(text) for text in text_of(request).split(" » ")]
             for piece in (65536, 1) if sum(map(len, requests)) < 500 else (65536,):
                 answer, ended = asked(server, requests, piece)
                 came = re.sub(r"(Ripley-\w+: )\S+", r"\1*", answer.decode("utf-8", "surrogateescape"))
                 came = re.sub(r"(\[\d+),\d{13},", r"\1,0,", came)
                 length = len(data(came.partition("\r\n\r\n")[2]))
                 came = re.sub(r"Content-Length: \d+", f"Content-Length: {length}", came)
-                yield sent, answer_text(text_of(status), text_of(body), end, page) + end, came + ended
+                yield request, answer_text(text_of(status), text_of(body), end, page) + end, came + ended
     finally:
         server.end()
 
@@ -466,33 +506,9 @@ ALL: dict[str, Callable[[Programs, Section], Iterator[Outcome]]] = {
     "Arguments": arguments,
     "Reports": reports,
     "Store": store,
+    "Operands": operators,
     "Answers": answers,
 }
-
-
-# The words of the tables of operators.
-FAULTS = {"whole": "NotWhole", "infinite": "Infinite", "range": "OutOfRange", "profile": "NotInProfile",
-          "primitive": "ObjectToPrimitive", "long": "TextTooLong"}
-
-
-def operators(programs: Programs, section: Section, cells: Cells) -> tuple[str, str]:
-    """An expression in which `_` is each of the operands in turn; what each comes to. A fault ends a run of its own."""
-    operands = section.told("Operands", "").split(" ; ")
-    wanted = text_of(cells[1]).split(" ")
-    made = [text_of(cells[0]).replace("_", operand) for operand in operands]
-    begin = library_rows.DIRECTIVE + section.told("Script", "")
-    came = {}
-    for at, (expression, want) in enumerate(zip(made, wanted)):
-        if want in FAULTS:
-            _, printed = programs.run(["script", "run", "s"], {"s": f"{begin}var r=({expression});"})
-            fault = printed.partition("\n")[0].removeprefix("outcome fault ")
-            came[at] = next((word for word, name in FAULTS.items() if name == fault), printed)
-    valued = [at for at in range(len(made)) if at not in came]
-    steps = "".join(f'try{{r.push({made[at]});}}catch(e){{r.push(e.name);}}' for at in valued)
-    _, printed = programs.run(["script", "run", "s"], {"s": f"{begin}var r=[];{steps}"})
-    found = next((line[len("r = ["):-1].split(",") for line in lines_of(printed) if line.startswith("r = [")), [printed])
-    came.update(zip(valued, (item.replace('"TypeError"', "throws").replace('"', "'") for item in found)))
-    return " ".join(wanted), " ".join(came.get(at, "none") for at in range(len(made)))
 
 
 def expression(programs: Programs, section: Section, cells: Cells) -> tuple[str, str]:
@@ -513,7 +529,7 @@ def compared(programs: Programs, row: library_rows.Row) -> tuple[str, str]:
     return "", "".join(f"{key}: {want!r} is wanted, and {came!r} came; " for key, want, came in found)
 
 
-OF_SECTION = {"Operands": operators, "Expressions": expression}
+OF_SECTION = {"Expressions": expression}
 
 
 def outcomes(programs: Programs, section: Section) -> list[Outcome]:

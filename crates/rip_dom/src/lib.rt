@@ -45,8 +45,6 @@ mod names;
 mod opening;
 mod order;
 mod reading;
-#[cfg(test)]
-mod tests;
 mod units;
 mod walks;
 mod writing;

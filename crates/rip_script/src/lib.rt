@@ -26,8 +26,6 @@ mod read;
 mod refusal;
 mod report;
 mod status;
-#[cfg(test)]
-mod tests;
 mod top;
 mod words;
 

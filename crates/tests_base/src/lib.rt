@@ -1,25 +1,19 @@
-//! Tests of values, the outside in memory and the real one, data, manifests and what else stands on values alone: what no clause says, and each public call once with ample memory.
+//! Tests of values, data, trees, the outside in memory, tables, logs and requests that no row of `rows/` reaches.
 //!
 //! They stand above the crates that they try, since a crate with tests is proved twice.
 #![tactic(auto)]
 
 #[cfg(test)]
-mod calls;
-#[cfg(test)]
-mod cutting;
-#[cfg(test)]
 mod data;
 #[cfg(test)]
-mod manifest;
+mod early;
 #[cfg(test)]
-mod numerals;
+mod http;
+#[cfg(test)]
+mod log;
 #[cfg(test)]
 mod outer;
-#[cfg(test)]
-mod real;
 #[cfg(test)]
 mod table;
 #[cfg(test)]
 mod values;
-#[cfg(test)]
-mod words;

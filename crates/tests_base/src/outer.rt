@@ -1,5 +1,4 @@
-ghost use Rattle.std.specs.Prelude.{◌≡◌, ◌≤◌, ◌<◌, ◌^◌, ◌↔◌, ◌⊎◌, ◌∷◌, [], length, IsTrue, All, IfSome, IsSomeAnd};
-ghost use Rattle.rip_outer.specs.Pieces.{pieces};
+ghost use Rattle.std.specs.Prelude.{◌≡◌, ◌⊎◌, ◌∷◌, [], IfSome, IsSomeAnd};
 ghost use Rattle.rip_outer.specs.Outside.{Rose, also, IsOver};
 ghost use Rattle.rip_outer.specs.Reading.{contents_of};
 
@@ -7,25 +6,6 @@ use rip_outer::*;
 use rip_values::{Bytes, NumberList};
 use std::alloc::Global;
 use std::test::Fail;
-
-// Callers that know the pieces: by a chain, and by a loop.
-
-fn count_of_lines(text: &[u8]) -> usize
-    ensures { result ≡ length (pieces text.now) }
-{
-    lines(text).count()
-}
-
-fn are_short(text: &[u8]) -> bool
-    ensures { IsTrue result ↔ All (λ line. length line ≤ 4) (pieces text.now) }
-{
-    for line in lines(text) {
-        if line.len() > 4 {
-            return false;
-        }
-    }
-    true
-}
 
 // Callers of the traits, at any object of the outside.
 
@@ -72,61 +52,6 @@ fn greet<D: Door>(door: &mut D, room: &mut [u8; 4096]) -> Knock
         }
     }
     knock
-}
-
-/// A moment and then a word.
-fn draw<C: Clock, W: Words>(clock: &mut C, random: &mut W) -> (u64, u64)
-    ensures moment { C.told clock.new ≡ also (result.0 ∷ []) (C.told clock.old) }
-    ensures word { W.told random.new ≡ also (result.1 ∷ []) (W.told random.old) }
-    ensures bound { result.0 < 2 ^ 53 }
-{
-    (clock.now(), random.word())
-}
-
-/// Texts, and the pieces of each.
-static PIECES: [(&[u8], &[&[u8]]); 9] = [
-    (b"", &[]),
-    (b"a", &[b"a"]),
-    (b"a\n", &[b"a"]),
-    (b"\n", &[b""]),
-    (b"a\n\n", &[b"a", b""]),
-    (b"\n\na", &[b"", b"", b"a"]),
-    (b"one\ntwo\nthree", &[b"one", b"two", b"three"]),
-    (b"one\n\ntwo\n", &[b"one", b"", b"two"]),
-    (b"one\r\ntwo\r\n", &[b"one\r", b"two\r"]),
-];
-
-#[test]
-fn pieces_lie_between_line_feeds(rt: HostRuntime) -> Result<(), Fail> {
-    for &(text, wanted) in &PIECES {
-        for (line, other) in lines(text).zip(wanted) {
-            assert!(rt; line == *other);
-        }
-        assert_eq!(rt; count_of_lines(text), wanted.len());
-        assert!(rt; are_short(text) == wanted.iter().all(|line| line.len() <= 4));
-    }
-    Ok(())
-}
-
-/// What is put, and what is answered where the second and the fourth call fail.
-static PUTS: [(&[u8], Result<(), SinkError>); 5] = [
-    (b"ab", Ok(())),
-    (b"cd", Err(SinkError::Failed)),
-    (b"ef", Ok(())),
-    (b"gh", Err(SinkError::Failed)),
-    (b"ij", Ok(())),
-];
-
-#[test]
-fn a_sink_fails_at_the_listed_calls(rt: HostRuntime) -> Result<(), Fail> {
-    let alloc = rt.alloc();
-    let mut sink = MemorySink::make(alloc, &NumberList::from_slice(alloc, &[2, 4])?)?;
-    for &(piece, answer) in &PUTS {
-        assert_eq!(rt; sink.put(piece), answer);
-    }
-    assert!(rt; sink.bytes() == b"abefij".as_slice());
-    assert_eq!(rt; sink.faults(), 2);
-    Ok(())
 }
 
 /// Files that are copied in turn: the name, what is answered, the bytes of the sink and the faults of the files then.
@@ -176,9 +101,6 @@ fn named(alloc: Global, name: &[u8], contents: Vec<u8>) -> Result<NamedFile, Fai
 enum Listed {
     Opened(u64),
     Bytes(u64, &'static [u8]),
-    /// So many letters.
-    Letters(u64, usize),
-    Quiet,
     Gone(u64),
 }
 
@@ -186,50 +108,8 @@ fn knock_of(alloc: Global, listed: Listed) -> Result<TraceKnock, Fail> {
     Ok(match listed {
         Listed::Opened(c) => TraceKnock::Opened(c),
         Listed::Bytes(c, bytes) => TraceKnock::Bytes(c, Bytes::from_slice(alloc, bytes)?),
-        Listed::Letters(c, count) => {
-            TraceKnock::Bytes(c, Bytes::from_vec(vec![in alloc; b'x'; count]?))
-        }
-        Listed::Quiet => TraceKnock::Quiet,
         Listed::Gone(c) => TraceKnock::Gone(c),
     })
-}
-
-/// Knocks, and whether the list takes each behind those above it.
-static PUSHED: [(Listed, bool); 15] = [
-    (Listed::Bytes(0, b"a"), false),
-    (Listed::Gone(0), false),
-    (Listed::Opened(1), false),
-    (Listed::Opened(0), true),
-    (Listed::Opened(0), false),
-    (Listed::Quiet, true),
-    (Listed::Bytes(0, b""), false),
-    (Listed::Letters(0, 4096), true),
-    (Listed::Letters(0, 4097), false),
-    (Listed::Bytes(1, b"a"), false),
-    (Listed::Opened(1), true),
-    (Listed::Gone(0), true),
-    (Listed::Gone(0), false),
-    (Listed::Bytes(0, b"a"), false),
-    (Listed::Bytes(1, b"a"), true),
-];
-
-#[test]
-fn a_list_of_knocks_keeps_the_rules(rt: HostRuntime) -> Result<(), Fail> {
-    let alloc = rt.alloc();
-    let mut knocks = KnockList::new(alloc);
-    for &(listed, allowed) in &PUSHED {
-        let pushed = knocks.push(knock_of(alloc, listed)?);
-        assert!(rt;
-            pushed
-                == if allowed {
-                    Ok(())
-                } else {
-                    Err(KnockError::NotAllowed)
-                }
-        );
-    }
-    assert_eq!(rt; knocks.as_slice().len(), 6);
-    Ok(())
 }
 
 /// What comes on two connections.
@@ -276,36 +156,4 @@ fn a_door_in_memory_tells_its_knocks(rt: HostRuntime) -> Result<(), Fail> {
     assert!(rt; door.sent(0) == b"welcome".as_slice());
     assert!(rt; door.sent(1).is_empty() && door.sent(2).is_empty());
     Ok(())
-}
-
-/// The moments and words that are drawn where two of each are listed.
-static DRAWN: [(u64, u64); 4] = [(5, 9), (7, 4), (7, 3), (7, 4)];
-
-/// The moments and words that are drawn where none are listed.
-static DRAWN_OF_NOTHING: [(u64, u64); 3] = [(0, 1), (0, 2), (0, 3)];
-
-#[test]
-fn a_clock_and_words_in_memory(rt: HostRuntime) -> Result<(), Fail> {
-    let alloc = rt.alloc();
-    let mut clock = MemoryClock::make(alloc, &NumberList::from_slice(alloc, &[5, 7])?)?;
-    let mut random = MemoryWords::make(alloc, &NumberList::from_slice(alloc, &[9, 4])?)?;
-    for &pair in &DRAWN {
-        assert_eq!(rt; draw(&mut clock, &mut random), pair);
-    }
-    let mut clock = MemoryClock::make(alloc, &NumberList::new(alloc))?;
-    let mut random = MemoryWords::make(alloc, &NumberList::new(alloc))?;
-    for &pair in &DRAWN_OF_NOTHING {
-        assert_eq!(rt; draw(&mut clock, &mut random), pair);
-    }
-    Ok(())
-}
-
-#[test]
-fn nothing_comes_from_an_outside_that_is_not_there(rt: HostRuntime) {
-    let mut room = [0; 4096];
-    let mut door = NoDoor;
-    assert_eq!(rt; greet(&mut door, &mut room), Knock::Closed);
-    assert_eq!(rt; greet(&mut door, &mut room), Knock::Closed);
-    assert_eq!(rt; draw(&mut NoClock, &mut NoWords), (0, 0));
-    assert_eq!(rt; door.faults() + NoClock.faults() + NoWords.faults(), 0);
 }

@@ -4,8 +4,6 @@ use rip_table::*;
 use std::alloc::Global;
 use std::test::Fail;
 
-const SESSIONS: u32 = 10_000;
-
 // An identifier, far from those of the sessions before and after.
 fn id_of(ordinal: u32) -> u128 {
     (ordinal as u128) << 96 | 0x4000_8000
@@ -39,24 +37,6 @@ fn ends(table: &mut Table<u32>, id: u128) -> bool
         table.end(id);
     }
     is_live
-}
-
-#[test]
-fn ten_thousand_sessions(rt: HostRuntime) -> Result<(), Fail> {
-    let alloc: Global = rt.alloc();
-    let mut table = Table::make(alloc, SESSIONS)?;
-    assert!(rt; opens_all(alloc, &mut table, SESSIONS));
-    assert_eq!(rt; (table.count(), table.live()), (SESSIONS, SESSIONS));
-    for number in 0..SESSIONS {
-        assert_eq!(rt; table.ordinal(id_of(number)), Some(number + 1));
-        assert_eq!(rt; table.id(number + 1), Some(id_of(number)));
-        assert_eq!(rt; table.at(number + 1), Some(&number));
-        assert_eq!(rt; table.any(id_of(number)), Some(&number));
-    }
-    assert_eq!(rt; table.at(0), None);
-    assert_eq!(rt; table.at(SESSIONS + 1), None);
-    assert_eq!(rt; table.any(id_of(SESSIONS)), None);
-    Ok(())
 }
 
 #[test]

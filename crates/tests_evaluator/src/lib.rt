@@ -1,17 +1,15 @@
-//! Tests of the heap, operators, members, built-in functions and runs: what no clause says, and each public call once with ample memory.
+//! Tests of the heap, of runs and of values made of data that no row of `rows/` reaches.
 //!
 //! They stand above the crates that they try, since a crate with tests is proved twice.
 #![tactic(auto)]
 
 #[cfg(test)]
-mod builtins;
+mod convert;
 #[cfg(test)]
 mod heap;
 #[cfg(test)]
-mod members;
-#[cfg(test)]
 mod memory;
 #[cfg(test)]
-mod ops;
-#[cfg(test)]
 mod runs;
+#[cfg(test)]
+mod slices;

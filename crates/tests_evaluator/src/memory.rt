@@ -1,5 +1,4 @@
 use rip_heap::{Heap, HeapLimits, HeapMemory};
-use rip_values::Value;
 use std::test::Fail;
 
 /// Limits, and how many bytes a heap with these takes: 32 for each slot, of which there are a sixteenth more than cells and
@@ -39,19 +38,5 @@ fn memory_is_counted_before_a_heap_is_made(rt: HostRuntime) -> Result<(), Fail> 
         let heap = Heap::of(rt.alloc(), memory)?;
         assert_eq!(rt; (heap.used_cells(), heap.free_cells()), (0, limits.cells));
     }
-    Ok(())
-}
-
-#[test]
-fn bindings_that_have_a_value_are_written(rt: HostRuntime) -> Result<(), Fail> {
-    let mut heap = Heap::make(rt.alloc(), COUNTED[1].0)?;
-    assert!(rt; !heap.rebind(0, 0, Value::Null));
-    let scope = heap.new_scope(rt.alloc(), None, 1)?;
-    assert!(rt; !heap.rebind(scope, 0, Value::Null));
-    assert_eq!(rt; heap.binding(scope, 0), None);
-    heap.set_binding(scope, 0, Value::Undefined);
-    assert!(rt; heap.rebind(scope, 0, Value::Null));
-    assert_eq!(rt; heap.binding(scope, 0), Some(Value::Null));
-    assert!(rt; !heap.rebind(scope, 1, Value::Null));
     Ok(())
 }

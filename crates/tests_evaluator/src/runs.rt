@@ -1,5 +1,5 @@
 use rip_runs::*;
-use rip_values::{Limit, Value};
+use rip_values::Value;
 use std::test::Fail;
 
 fn part(node: u32) -> Part {
@@ -24,20 +24,6 @@ fn inner() -> Frame {
         at: part(2),
         wait: Wait::Hosted(HostedWait::Callee),
     }
-}
-
-#[test]
-fn frames_are_taken_in_turn(rt: HostRuntime) -> Result<(), Fail> {
-    let mut stack = Stack::make(rt.alloc(), 2)?;
-    assert_eq!(rt; stack.top(), None);
-    assert_eq!(rt; stack.push(outer()), Ok(()));
-    assert_eq!(rt; stack.push(inner()), Ok(()));
-    assert_eq!(rt; stack.push(outer()), Err(Limit::Depth));
-    assert_eq!(rt; (stack.depth(), stack.top()), (2, Some(&inner())));
-    assert_eq!(rt; stack.pop(), Some(inner()));
-    assert_eq!(rt; stack.pop(), Some(outer()));
-    assert_eq!(rt; stack.pop(), None);
-    Ok(())
 }
 
 #[test]

@@ -1,12 +1,28 @@
 //! The outside fails at a call of a run.
-use crate::cli::{APP, LOG, OPENING, PAGE, TRACE};
 use crate::knocks::connection;
-use crate::running::{run, run_at, serve_failing};
+use crate::running::{APP, run, run_at, serve_failing};
 use rip_cli::Status;
 use rip_outer::{NoDoor, NoWords, PartSink, lines};
 use rip_values::{Bytes, NoMemory};
 use std::alloc::Global;
 use std::test::Fail;
+
+const PAGE: &[u8] =
+    b"<html><head></head><body><script>\"use strict\";ripley.call(\"f\",[1],null);ripley.call(\"f\",[2],null);</script></body></html>";
+
+const TRACE: &[u8] =
+    b"open 0\nsay 0 get\nsay 0 e 1 {\"batch\":1,\"items\":[[\"call\",1,\"f\",[1]],[\"call\",2,\"f\",[2]]]}\n";
+
+const OPENING: &str = "open 2 1 00000000-0000-4001-8000-000000000002 3 0\n";
+
+const LOG: &str = "open 2 1 00000000-0000-4001-8000-000000000002 3 0
+done 2 1 0 ok
+batch 3 1 1 [[\"call\",1,\"f\",[1]],[\"call\",2,\"f\",[2]]]
+serve 3 1 1 1 \"f\" [1] 0 {\"error\":\"unknown\"}
+serve 3 1 1 2 \"f\" [2] 0 {\"error\":\"unknown\"}
+done 3 1 1 ok
+end 4 0
+";
 
 /// The words of a replay of the trace.
 const REPLAY: &[&str] = &["replay", "p", "a", "t"];

@@ -1,16 +1,10 @@
-//! Tests of the program: what no clause says, and each public call once with ample memory.
+//! Tests of the program where what is outside it fails at one call, which no row of `rows/` reaches.
 //!
 //! They stand above the crates that they try, since a crate with tests is proved twice.
 #![tactic(auto)]
 
 #[cfg(test)]
-mod answered;
-#[cfg(test)]
-mod cli;
-#[cfg(test)]
 mod failing;
-#[cfg(test)]
-mod hostile;
 #[cfg(test)]
 mod knocks;
 #[cfg(test)]

@@ -1,5 +1,4 @@
 //! How the tests run the program.
-use crate::cli::APP;
 use crate::knocks::door;
 use rip_cli::{Status, ripley};
 use rip_outer::{
@@ -8,6 +7,9 @@ use rip_outer::{
 };
 use rip_values::{Bytes, List, NoMemory, NumberList};
 use std::alloc::Global;
+
+/// A manifest of no functions.
+pub(crate) const APP: &[u8] = b"{\"version\":1,\"functions\":{},\"limits\":{}}\n";
 
 /// How the program ends, of these words and over this outside. It alone calls the program, and promises nothing, so that what
 /// the program promises is read at one call, and not where the outside of a test is made and dropped.
@@ -124,28 +126,6 @@ pub(crate) struct Served {
     pub(crate) log: Bytes,
     pub(crate) sent: Bytes,
     pub(crate) is_shut: bool,
-}
-
-/// Serves a page at a door where these knocks come, and tells of this connection.
-pub(crate) fn serve(
-    alloc: Global,
-    page: &[u8],
-    knocks: &KnockList,
-    connection: u64,
-) -> Result<Served, NoMemory> {
-    serve_app(alloc, page, APP, knocks, connection)
-}
-
-/// The same of a page with this manifest.
-pub(crate) fn serve_app(
-    alloc: Global,
-    page: &[u8],
-    app: &[u8],
-    knocks: &KnockList,
-    connection: u64,
-) -> Result<Served, NoMemory> {
-    let mut door = door(alloc, knocks, &[], &[])?;
-    served_at(alloc, page, app, &mut door, connection)
 }
 
 /// Serves a page at a door where these knocks come, and which fails at these calls, and tells of this connection.

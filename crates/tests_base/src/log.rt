@@ -1,6 +1,4 @@
 use rip_log::*;
-use rip_values::Bytes;
-use rip_wire::{Ending, read_batch};
 use std::alloc::Global;
 use std::test::Fail;
 
@@ -122,53 +120,5 @@ fn other_lines_are_refused(rt: HostRuntime) -> Result<(), Fail> {
         )
     );
     assert!(rt; matches!(read_log(alloc, b"well\nend 2 0"), Err(LogRefusal::Line(1))));
-    Ok(())
-}
-
-/// The line of a session that is opened.
-const OPENED: &[u8] = b"open 2 1 00000000-0000-4001-8000-000000000002 3 0\n";
-
-/// A batch of one call.
-const ONE_CALL: &[u8] = b"{\"batch\":1,\"items\":[[\"call\",1,\"f\",[1]]]}";
-
-/// The line of that batch.
-const ADMITTED: &[u8] = b"batch 3 1 1 [[\"call\",1,\"f\",[1]]]\n";
-
-/// The line of a call that is not the one that was made.
-const MISMATCHED: &[u8] = b"done 3 1 1 mismatch 2 2 [\"f\",[3]] [\"f\",[2]]\n";
-
-#[test]
-fn entries_have_their_lines(rt: HostRuntime) -> Result<(), Fail> {
-    let alloc = rt.alloc();
-    let opened = Entry::Opened {
-        turn: 2,
-        session: 1,
-        id: 0x4001_8000_0000_0000_0002,
-        seed: 3,
-        time: 0,
-    };
-    let text = write_entry(&opened, alloc)?;
-    assert!(rt; text.as_slice() == OPENED);
-    let batch = read_batch(alloc, ONE_CALL)?;
-    let admitted = Entry::Admitted {
-        turn: 3,
-        session: 1,
-        batch,
-    };
-    let text = write_entry(&admitted, alloc)?;
-    assert!(rt; text.as_slice() == ADMITTED);
-    let done = Entry::Done {
-        turn: 3,
-        session: 1,
-        batch: 1,
-        ended: Some(Ending::Mismatch {
-            item: 2,
-            number: 2,
-            reported: Bytes::from_slice(alloc, b"[\"f\",[3]]")?,
-            made: Some(Bytes::from_slice(alloc, b"[\"f\",[2]]")?),
-        }),
-    };
-    let text = write_entry(&done, alloc)?;
-    assert!(rt; text.as_slice() == MISMATCHED);
     Ok(())
 }
