@@ -55,13 +55,11 @@ fn greet<D: Door>(door: &mut D, room: &mut [u8; 4096]) -> Knock
 }
 
 /// Files that are copied in turn: the name, what is answered, the bytes of the sink and the faults of the files then.
-static COPIES: [(&str, Copied, usize, u64); 6] = [
+static COPIES: [(&str, Copied, usize, u64); 4] = [
     ("page", Copied::Done, 2, 0),
     ("none", Copied::Outside, 2, 1),
     ("page", Copied::Outside, 2, 2),
-    ("long", Copied::TooLong, 2, 2),
-    ("whole", Copied::Done, 16_777_218, 2),
-    ("page", Copied::Done, 16_777_220, 2),
+    ("page", Copied::Done, 4, 2),
 ];
 
 #[test]
@@ -69,8 +67,6 @@ fn files_fail_at_listed_calls_and_at_other_names(rt: HostRuntime) -> Result<(), 
     let alloc = rt.alloc();
     let files = FileList::from_vec(vec![in alloc;
         named(alloc, b"page", vec![in alloc; b'p', b'1']?)?,
-        named(alloc, b"whole", vec![in alloc; 0; MAX_FILE]?)?,
-        named(alloc, b"long", vec![in alloc; 0; MAX_FILE + 1]?)?,
         named(alloc, b"page", vec![in alloc; b'p', b'2']?)?,
     ]?);
     let mut files = MemoryFiles::make(alloc, &files, &NumberList::from_slice(alloc, &[3])?)?;
