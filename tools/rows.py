@@ -110,23 +110,26 @@ def sections_of(text: str) -> list[Section]:
 
 def tokens(programs: Programs, cells: Cells) -> tuple[str, str]:
     """A script; its tokens, each as KIND(START,COUNT) or KIND(START,COUNT,line), or its refusal."""
-    _, printed = programs.run(["script", "tokens", "s"], {"s": text_of(cells[0])})
-    return text_of(cells[1]), shown_tokens(printed)
+    return text_of(cells[1]), shown_tokens(*programs.run(["script", "tokens", "s"], {"s": text_of(cells[0])}))
 
 
-def shown_tokens(printed: str) -> str:
-    if printed.startswith("refused "):
+def shown_tokens(status: int, printed: str) -> str:
+    if status == 2 and printed.startswith("refused "):
         return printed[len("refused "):].strip()
     words = [line.split() for line in lines_of(printed)]
+    if status != 0 or any(len(line) != 4 for line in words):
+        return f"status {status}: {printed}"
     return " ".join(f"{kind}({start},{count}{',line' if line == 'line' else ''})" for kind, start, count, line in words)
 
 
 def tree(programs: Programs, cells: Cells) -> tuple[str, str]:
     """A script; `a tree`, or its statements as FORM or (FORM CHILD ..), with @PLACE where one has it, or its refusal."""
-    _, printed = programs.run(["script", "tree", "s"], {"s": text_of(cells[0])})
+    status, printed = programs.run(["script", "tree", "s"], {"s": text_of(cells[0])})
     wanted = text_of(cells[1])
-    if printed.startswith("refused "):
+    if status == 2 and printed.startswith("refused "):
         return wanted, printed[len("refused "):].strip()
+    if status != 0 or not printed.startswith("Script @0\n"):
+        return wanted, f"status {status}: {printed}"
     if wanted == "a tree":
         return wanted, wanted
     found = shown_tree(lines_of(printed))
@@ -136,7 +139,7 @@ def tree(programs: Programs, cells: Cells) -> tuple[str, str]:
 def shown_tree(lines: Cells) -> str:
     """The forms below the script, as a text with parentheses."""
     depths = [(len(line) - len(line.lstrip())) // 2 for line in lines] + [0]
-    shown, is_open = "", 0
+    shown = ""
     for at, line in enumerate(lines[1:], 1):
         has_children = depths[at + 1] > depths[at]
         gap = " " if shown else ""
@@ -203,21 +206,24 @@ def words(programs: Programs, cells: Cells) -> tuple[str, str]:
     """Arguments of `ripley` where there are no files; its status."""
     status, printed = programs.run(["ripley", *text_of(cells[0]).split(" ")], {})
     usage = "usage: ripley check|replay|serve|drive|generate\n"
-    return cells[1], str(status) if (status == 1) == (printed == usage) else printed
+    is_as_told = printed.startswith("generate ") if status == 0 else printed == (usage if status == 1 else "")
+    return cells[1], str(status) if is_as_told else f"status {status}: {printed}"
 
 
 def trace(programs: Programs, cells: Cells) -> tuple[str, str]:
     """A trace; `read`, or the number of the line that is refused."""
     files = {"p": "<html><head></head><body></body></html>", "a": MANIFEST, "t": text_of(cells[0])}
     status, printed = programs.run(["ripley", "replay", "p", "a", "t"], files)
-    return f"refused trace {cells[1]}" if cells[1] != "read" else "read", "read" if status == 0 else printed.strip()
+    is_read = status == 0 and printed.endswith(" 0\n")
+    return f"refused trace {cells[1]}" if cells[1] != "read" else "read", "read" if is_read else printed.strip()
 
 
 def gestures(programs: Programs, cells: Cells) -> tuple[str, str]:
     """A file of gestures; `read`, or the line of the first that is refused, be it no gesture or one that can't be made."""
     files = {"p": "<html><head></head><body></body></html>", "a": MANIFEST, "g": text_of(cells[0])}
     status, printed = programs.run(["ripley", "drive", "p", "a", "g"], files)
-    return f"refused gestures {cells[1]}" if cells[1] != "read" else "read", "read" if status == 0 else printed.strip()
+    is_read = status == 0 and printed.startswith("open 0\n")
+    return f"refused gestures {cells[1]}" if cells[1] != "read" else "read", "read" if is_read else printed.strip()
 
 
 def page_of(body: str, script: str) -> str:
@@ -281,10 +287,18 @@ def sessions(programs: Programs, page: str, bodies: Cells) -> list[Cells]:
     _, printed = programs.run(["ripley", "replay", "p", "a", "t"], files)
     found: list[Cells] = [[] for _ in bodies]
     for line in lines_of(printed):
-        word, _, session, *_ = line.split(" ")
-        if word in ("batch", "serve", "done") and int(session) <= len(bodies):
-            found[int(session) - 1].append(line)
+        parts = line.split(" ")
+        if parts[0] in ("batch", "serve", "done") and int(parts[2]) <= len(bodies):
+            found[int(parts[2]) - 1].append(line)
     return found
+
+
+def items_of(lines: Cells) -> str:
+    """The items of the first batch of a session, `refused` where it was opened and has none."""
+    batch = next((line for line in lines if line.startswith("batch ")), None)
+    if batch is not None:
+        return batch.split(" ", 4)[4]
+    return "refused" if lines and lines[0].endswith(" 0 ok") else "no session"
 
 
 def bodies(programs: Programs, section: Section) -> Iterator[Outcome]:
@@ -292,8 +306,7 @@ def bodies(programs: Programs, section: Section) -> Iterator[Outcome]:
     asked = [text_of(cells[0]) for cells in section.rows]
     told = sessions(programs, "<html><head></head><body></body></html>", asked)
     for body, cells, lines in zip(asked, section.rows, told):
-        batch = next((line for line in lines if line.startswith("batch ")), None)
-        yield body, text_of(cells[1]), batch.split(" ", 4)[4] if batch else "refused"
+        yield body, text_of(cells[1]), items_of(lines)
 
 
 def arguments(programs: Programs, section: Section) -> Iterator[Outcome]:
@@ -302,8 +315,8 @@ def arguments(programs: Programs, section: Section) -> Iterator[Outcome]:
     whole = [f'{{"batch":1,"items":[["call",1,"f",{text}]]}}' for text in asked]
     told = sessions(programs, "<html><head></head><body></body></html>", whole)
     for text, cells, lines in zip(asked, section.rows, told):
-        batch = next((line for line in lines if line.startswith("batch ")), None)
-        yield text, text_of(cells[1]), batch.split(" ", 4)[4][len('[["call",1,"f",'):-2] if batch else "refused"
+        items = items_of(lines)
+        yield text, text_of(cells[1]), items[len('[["call",1,"f",'):-2] if items.startswith("[") else items
 
 
 def reports(programs: Programs, section: Section) -> Iterator[Outcome]:
@@ -356,7 +369,8 @@ def faults(programs: Programs, script: str, expressions: Cells) -> Cells:
     page = page_of("<input>", f'{script}document.body.firstChild.addEventListener("input",{listener},false);')
     told = sessions(programs, page, [f'{{"batch":1,"items":[["event","input",4,"{at}"]]}}' for at in range(len(expressions))])
     words = {f"{name} 1": word for word, name in FAULTS.items()}
-    return [words.get(lines[-1].split(" ", 4)[-1], lines[-1]) for lines in told]
+    ends = [lines[-1].split(" ", 4)[-1] if lines else "no session" for lines in told]
+    return [words.get(end, end) for end in ends]
 
 
 def values(programs: Programs, script: str, expressions: Cells) -> Cells:
@@ -526,6 +540,8 @@ def library(programs: Programs, section: Section, cells: Cells) -> tuple[str, st
 def compared(programs: Programs, row: library_rows.Row) -> tuple[str, str]:
     _, printed = programs.run(["script", "run", "s", *row.limits], {"s": row.script})
     found = library_rows.differences(row, printed)
+    if not printed.startswith(("outcome ", "refused ")):
+        found = [("a run", "one", printed)]
     return "", "".join(f"{key}: {want!r} is wanted, and {came!r} came; " for key, want, came in found)
 
 
