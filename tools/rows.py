@@ -562,6 +562,9 @@ def outcomes(programs: Programs, section: Section) -> list[Outcome]:
         return list(pool.map(one, section.rows))
 
 
+KINDS = {*EACH, *OF_SECTION, *ALL, *library_rows.SECTIONS}
+
+
 # Cases.
 
 class Case:
@@ -610,7 +613,9 @@ def file_outcomes(programs: Programs, path: pathlib.Path) -> Iterator[Outcome]:
             yield from pool.map(lambda case: case_outcome(programs, case), cases_of(text))
         return
     for section in sections_of(text):
-        if section.rows:
+        if section.rows and section.kind not in KINDS:
+            yield section.heading, "a heading that says how its rows are run", "none"
+        elif section.rows:
             yield from outcomes(programs, section)
 
 
@@ -620,6 +625,10 @@ def main(arguments_given: Cells) -> int:
         return 2
     folder, script, ripley, *names = arguments_given
     programs = Programs(script, ripley)
+    for path in programs.paths.values():
+        if not path.is_file():
+            print(f"rows.py: there is no program {path}; `rt run` in its crate, or the gate, makes it", file=sys.stderr)
+            return 2
     agreed = wrong = 0
     for path in sorted(pathlib.Path(folder).iterdir()):
         if path.suffix not in (".md", ".txt") or (names and path.name not in names):
