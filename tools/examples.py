@@ -93,9 +93,10 @@ def visit(program, folder, page, seed):
 
 # The controls of each page: the number of a node, and what a user may do there.
 CONTROLS = {
-    "shop": [(18, "number"), (23, "number"), (28, "number"), (33, "choice"), (42, "text"), (44, "button")],
-    "booking": [(node, "button") for node in (17, 19, 21, 23, 27, 29, 31, 33)],
-    "game": [(node, "button") for node in (14, 16, 18, 22, 24, 26, 30, 32, 34)],
+    "shop": [(19, "number"), (24, "number"), (29, "number"), (34, "choice"), (43, "text"), (45, "button")],
+    "booking": [(node, "button") for node in (18, 20, 22, 24, 28, 30, 32, 34)],
+    "game": [(node, "button") for node in (15, 17, 19, 23, 25, 27, 31, 33, 35, 44)],
+    "votes": [(14, "button")],
 }
 
 
