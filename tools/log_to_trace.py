@@ -6,13 +6,19 @@
 
 A trace has one knock a turn, so this goes where no two requests were handled in one turn, and where turns without a
 request are left to open connections in; else it says at which turn it doesn't go, with status 1. Requests that were
-refused are not in a log, and leave no mark in it. The last line of the log, if it is `end`, is to be that of the
-trace's own end and is left out of the comparison where the server was stopped from outside.
+refused are not in a log, and leave no mark in it. A line `end T 0` is written again; a server that is stopped from outside
+writes none, and one whose turns are spent another, so that line is then left out of the comparison.
+
+Of a log whose last line a crash cut, that line is left out, which is told on standard error; `replay` then writes the whole
+lines, and behind them what the server would have written next. Where several runs were appended to one log, the trace is
+that of the last one.
 """
 
 import json
 import sys
 import uuid
+
+from log_lines import last_run
 
 # The longest piece that comes in one turn.
 LONGEST_PIECE = 4096
@@ -21,12 +27,14 @@ LONGEST_PIECE = 4096
 def read(path):
     """The requests by turn, the moments by turn, the words, and the last turn of an entry."""
     asked, moments, words, done, last = {}, {}, [], {}, 0
-    for line in open(path, encoding="utf-8"):
-        kind, turn, *rest = line.rstrip("\n").split(" ", 3)
+    for line in last_run(path):
+        kind, turn, *rest = line.split(" ", 3)
         turn = int(turn)
-        last = max(last, turn)
         if kind == "end":
+            # (a trace's own end takes a turn)
+            last = max(last, turn - 1)
             continue
+        last = max(last, turn)
         session = int(rest[0])
         if kind == "open":
             name, seed, moment = line.split()[3:6]
@@ -35,14 +43,14 @@ def read(path):
             moments[turn] = int(moment)
             asked.setdefault(turn, []).append((session, 0, "get"))
         elif kind == "batch":
-            number, items = line.rstrip("\n").split(" ", 4)[3:]
+            number, items = line.split(" ", 4)[3:]
             body = '{"batch":%s,"items":%s}' % (number, items)
             asked.setdefault(turn, []).append((session, int(number), f"e {session} {body}"))
         elif kind == "close":
             asked.setdefault(turn, []).append((session, None, f"q {session}"))
             done[session, None] = turn
         elif kind == "serve":
-            behind = line.rstrip("\n").split(" ", 6)[6]
+            behind = line.split(" ", 6)[6]
             _, end = json.JSONDecoder().raw_decode(behind)
             moments[turn] = int(behind[end:].split()[0])
         elif kind == "done":
@@ -79,7 +87,8 @@ def trace(asked, moments, words, done, last):
             c, opens = opens, opens + 1
         else:
             sys.exit(f"turn {turn}: no connection can be opened before it")
-        free_at[c] = done.get((session, number), turn)
+        # (a request that has no end in the log keeps its connection)
+        free_at[c] = done.get((session, number), last)
         knocks[turn] = f"say {c} {say}"
     moment = 0
     for turn in range(1, last + 1):
