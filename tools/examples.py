@@ -8,8 +8,11 @@ Of each example: `true.txt` is the trace that `drive` puts of `gestures.txt`, `t
 --write puts the three files that a program makes, to be read before they are kept.
 
 Then of each example visits of a hundred gestures are made up from the seeds below: what is not legal at its place is left
-out, which `drive` tells, and the trace of the rest, replayed, ends no session. The status is 0 where all is so.
+out, which `drive` tells, and the trace of the rest, replayed, ends no session. What `gestures_of` makes of each true log,
+driven, has the log's calls. A visit of a day, 2,500 gestures at the controls of an example, ends by no limit, and its
+manifest allows for 250 sessions. The status is 0 where all is so.
 """
+import json
 import pathlib
 import random
 import re
@@ -17,9 +20,14 @@ import subprocess
 import sys
 import tempfile
 
+from gestures_of import gestures
+from log_lines import last_run
+
 EXAMPLES = pathlib.Path(__file__).resolve().parent.parent / "examples"
 SEEDS = range(1, 4)
 LINES = 100
+LINES_OF_A_DAY = 2500
+SESSIONS = 250
 SECONDS = 60
 
 
@@ -91,6 +99,46 @@ def visit(program, folder, page, seed):
     return []
 
 
+def calls_of(lines):
+    """The calls that batches tell, of lines that end in their items."""
+    items = [item for line in lines for item in json.loads(line)]
+    return [item for item in items if item[0] == "call"]
+
+
+def again(program, folder):
+    """Drives what the visitor of the true log did; answers what is wrong where the calls are others."""
+    lines = last_run(folder / "true.log")
+    with tempfile.TemporaryDirectory() as room:
+        file = pathlib.Path(room) / "gestures.txt"
+        file.write_text("".join(f"{line}\n" for line in gestures(lines, "1")))
+        status, trace = ran(program, "drive", folder, file)
+    bodies = [json.loads(line.split(" ", 4)[4]) for line in trace.splitlines() if line.startswith("say 0 e 1 ")]
+    driven = calls_of(json.dumps(body["items"]) for body in bodies)
+    in_log = calls_of(line.split(" ", 4)[4] for line in lines if line.startswith("batch "))
+    return [] if status == 0 and driven == in_log else [f"{folder.name}: driven again, the visit of true.log has other calls"]
+
+
+def day(program, folder, page, seed):
+    """Drives a visit of a day, in which the replies behind a button are awaited; answers what is wrong."""
+    draw, lines, off = random.Random(seed), [], set()
+    while len(lines) < LINES_OF_A_DAY:
+        line = made_up(draw, page)
+        if line in off:
+            continue
+        if line.startswith("click"):
+            lines += [line, "flush", "flush"]
+            off |= {line} if len(off) < STAY_OFF.get(folder.name, 0) else set()
+        else:
+            lines.append(line)
+    with tempfile.TemporaryDirectory() as room:
+        file = pathlib.Path(room) / "gestures.txt"
+        file.write_text("".join(f"{line}\n" for line in lines))
+        status, text = ran(program, "drive", folder, file)
+    sessions = json.loads((folder / "app.json").read_text())["limits"].get("sessions")
+    wrong = [] if status == 0 and "# ended" not in text else [f"{folder.name}: the day of seed {seed} ends: {status} {text[-60:]}"]
+    return wrong if sessions == SESSIONS else [*wrong, f"{folder.name}: the manifest is for {sessions} sessions"]
+
+
 # The controls of each page: the number of a node, and what a user may do there.
 CONTROLS = {
     "shop": [(19, "number"), (24, "number"), (29, "number"), (34, "choice"), (43, "text"), (45, "button")],
@@ -99,14 +147,19 @@ CONTROLS = {
     "votes": [(14, "button")],
 }
 
+# How many buttons stay off, the first that are pressed: the one vote, the three seats.
+STAY_OFF = {"votes": 1, "booking": 3}
+
 
 def main():
     program, writes = pathlib.Path(sys.argv[1]).resolve(), "--write" in sys.argv
     wrong = []
     for folder in sorted(EXAMPLES.iterdir()):
         wrong += files(program, folder, writes)
+        wrong += again(program, folder)
         for seed in SEEDS if folder.name in CONTROLS else []:
             wrong += visit(program, folder, CONTROLS[folder.name], seed)
+            wrong += day(program, folder, CONTROLS[folder.name], seed)
     print("\n".join(wrong) or "the examples are as they stand")
     return 1 if wrong else 0
 
