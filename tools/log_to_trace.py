@@ -100,4 +100,10 @@ def trace(asked, moments, words, done, last):
 
 
 if __name__ == "__main__":
-    print("\n".join(trace(*read(sys.argv[1]))))
+    if len(sys.argv) != 2:
+        sys.exit("usage: log_to_trace.py LOG > TRACE")
+    try:
+        for each in trace(*read(sys.argv[1])):
+            print(each)
+    except OSError as error:
+        sys.exit(f"log_to_trace: {error}")
