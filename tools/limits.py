@@ -13,8 +13,9 @@ it, with a store that begins empty. Three tables are printed:
   or in 200,000 gestures;
 - what N gestures take in all, 2,500 where no number is named, and how many sessions fit with limits of that size.
 
-A gesture that can't be made at its place, as a click at a button that is off, is waited there and from there on, and is
-named. The status is 1 where a visit ends by something else than a limit that is too small, as by a fault.
+A gesture that `drive` refuses at its place, as a click at a button that is off or a line that is no gesture, is waited
+there and from there on, and is named. The status is 1 where a visit ends by something else than a limit that is too small,
+as by a fault.
 """
 import argparse
 import dataclasses
@@ -216,14 +217,22 @@ def wanted(player: Player, once: list[str], count: int, limits: dict[str, int]) 
     return f"{count:,} gestures take {named}; with limits of that size {fit:,} sessions fit."
 
 
+def gestures_of(path: str) -> list[str]:
+    """The lines of a file of gestures but its comments."""
+    lines = pathlib.Path(path).read_text(encoding="utf-8").removesuffix("\n").split("\n")
+    return [line for line in lines if not line.startswith("#")] or sys.exit(f"limits: {path} has no gesture")
+
+
 def main() -> int:
     words = argparse.ArgumentParser(description=__doc__, formatter_class=argparse.RawDescriptionHelpFormatter)
     for word in ("program", "page", "app", "file"):
         words.add_argument(word)
     words.add_argument("--gestures", type=int, default=2_500)
     given = words.parse_args()
-    lines = pathlib.Path(given.file).read_text(encoding="utf-8").splitlines()
-    once = [line for line in lines if not line.startswith("#")] or sys.exit("limits: the file has no gesture")
+    once = gestures_of(given.file)
+    checked = subprocess.run([given.program, "check", given.page, given.app], capture_output=True, text=True)
+    if checked.returncode:
+        sys.exit(f"limits: check ends with status {checked.returncode}: {checked.stdout.strip() or checked.stderr.strip()}")
     with tempfile.TemporaryDirectory() as room:
         player = Player(given.program, given.page, given.app, room)
         limits = {**DEFAULTS, **player.manifest["limits"]}
@@ -233,7 +242,7 @@ def main() -> int:
             print(f"with all limits at their greatest the visit ends by {played.reason} at gesture {played.ended_at}")
             return 1
         for line, at in waited.items():
-            print(f"'{line}' can't be made at gesture {at}, and is waited from there on")
+            print(f"'{line}' is refused at gesture {at}, and is waited from there on")
         print(costs(player, twice), *limits_met(player, once, twice, limits), sep="\n\n")
         print(wanted(player, once, given.gestures, limits))
         print(f"With the limits of the manifest {sessions(limits):,} sessions fit.")
@@ -241,4 +250,7 @@ def main() -> int:
 
 
 if __name__ == "__main__":
-    sys.exit(main())
+    try:
+        sys.exit(main())
+    except OSError as error:
+        sys.exit(f"limits: {error}")
