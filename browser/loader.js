@@ -4,29 +4,41 @@
 // that was navigated to can read. So the opening is fetched here. It is not repeated where its answer is lost: each
 // opening that arrives is a session of its own.
 import { start } from "./recorder.js";
-import { show } from "./notice.js";
+import { hide, show } from "./notice.js";
+import { TEXTS, textOfOpening } from "./texts.js";
+import { SILENT, shut } from "./wire.js";
 
 async function open() {
+  const late = setTimeout(() => show(TEXTS.opens), SILENT);
   const answer = await fetch(`${location.origin}/`, { cache: "no-store", headers: { "Ripley-Open": "1" } });
-  const text = await answer.text();
-  if (answer.status !== 200) {
-    show(`This page could not be opened: ${reason(text) ?? answer.status}.`);
-    return;
+  const session = answer.headers.get("Ripley-Session");
+  try {
+    const text = await answer.text();
+    clearTimeout(late);
+    hide();
+    if (answer.status !== 200) {
+      refuse(answer.status, text);
+      return;
+    }
+    const [seed, time] = ["Ripley-Seed", "Ripley-Time"].map((name) => Number(answer.headers.get(name)));
+    start(text, { session, seed, time });
+  } catch (error) {
+    if (session !== null) { shut(session); }
+    throw error;
   }
-  start(text, {
-    session: answer.headers.get("Ripley-Session"),
-    seed: Number(answer.headers.get("Ripley-Seed")),
-    time: Number(answer.headers.get("Ripley-Time")),
-  });
 }
 
-function reason(text) {
+// The reason of a refusal: what the server told, or the code of the answer of what stands before it.
+function refuse(status, text) {
+  let reason = `${status}`;
   try {
     const told = JSON.parse(text);
-    return told.ended ?? told.error;
-  } catch {
-    return null;
-  }
+    reason = told.error ?? told.ended ?? reason;
+  } catch { /* It is not the server's. */ }
+  show(textOfOpening(status === 500 ? 500 : reason), { reason, offer: () => location.reload() });
 }
 
-open().catch(() => show("This page could not be opened: the server does not answer."));
+open().catch((error) => {
+  show(TEXTS.away, { offer: () => location.reload() });
+  reportError(error);
+});

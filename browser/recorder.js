@@ -3,15 +3,27 @@
 //
 // The server finds the same calls on a document of its own, so what a script can see here is to be what it sees there:
 // the events of the flow below, on listeners that are kept here and not by the browser.
+import { Refusal, written } from "./data.js";
+import { freeze, hide, putBack, show, takeAway } from "./notice.js";
+import { Silence } from "./silence.js";
+import { TEXTS, isOffered, textOfEnd } from "./texts.js";
+import { putIn, take, textsOf, typedIn } from "./typed.js";
 import { Wire } from "./wire.js";
-import { hide, putBack, show, takeAway } from "./notice.js";
 
 // The page's script may have names of its own for these.
-const { Array, BigInt, Boolean, DOMException, Element, Node, reportError, setTimeout } = window;
+const {
+  Array, BigInt, Boolean, DOMException, Element, Node, WeakMap, WeakSet, clearTimeout, location, performance, reportError,
+  setInterval, setTimeout,
+} = window;
 
 const CONTROLS = ["button", "input", "select", "textarea"];
 const TEXT_TYPES = ["text", "password", "search", "tel", "url", "email", "number"];
 const LONGEST_REPORT = 8192;
+
+// Inputs of one control that come closer are one, as where a key is held.
+const CLOSEST = 100;
+// How often it is looked whether the page is seen.
+const LOOK = 30000;
 
 // The end of the body, behind which there is only space, comments, and the end of the page.
 const BODY_END = /<\/body[\t\n\f\r ]*>(?:[\t\n\f\r ]|<!--(?:(?!-->)[^])*-->)*<\/html[\t\n\f\r ]*>(?:[\t\n\f\r ]|<!--(?:(?!-->)[^])*-->)*$/i;
@@ -35,6 +47,12 @@ const native = {
 
 const numbers = new WeakMap();
 const listeners = new WeakMap();
+// Objects that look plain and are none to the server.
+const strange = new WeakSet();
+const silence = new Silence();
+// The controls that the visitor changed, with the moment of the last input that was told, and the one whose input waits.
+const touched = new Map();
+let late = null;
 let nodes = 0;
 let wire = null;
 let moment = 0;
@@ -55,6 +73,8 @@ export function start(text, opening) {
   }
   native.addEventListener.call(window, "reset", (event) => event.preventDefault(), true);
   native.addEventListener.call(window, "pagehide", () => wire.close());
+  native.addEventListener.call(document, "visibilitychange", look);
+  setInterval(look, LOOK);
   native.addEventListener.call(window, "pageshow", (event) => { if (event.persisted) { location.reload(); } });
   document.doctype.remove();
   document.documentElement.replaceWith(root);
@@ -62,6 +82,11 @@ export function start(text, opening) {
   for (const script of scripts) { within(() => run(script)); }
   dispatch("load", document.body);
   isLoaded = true;
+  setTimeout(putTyped);
+}
+
+function look() {
+  if (document.visibilityState === "visible") { wire.beat(); }
 }
 
 // ---- The page ----
@@ -124,7 +149,9 @@ function giveAll(node) {
 // ---- What the script is given ----
 
 function replaceCalls() {
-  Object.defineProperty(window, "ripley", { value: Object.freeze({ call, now: () => moment, random }) });
+  const ripley = Object.freeze({ call, now: () => moment, random });
+  strange.add(ripley);
+  Object.defineProperty(window, "ripley", { value: ripley });
   Object.assign(Document.prototype, { createElement, createTextNode });
   Object.assign(Element.prototype, { getAttribute, setAttribute, removeAttribute });
   Object.assign(EventTarget.prototype, { addEventListener, removeEventListener });
@@ -151,16 +178,29 @@ function withCodes(change) {
 }
 
 // What is outside the profile ends the session at the server, where the script does the same.
-function outside(what) { return new TypeError(`${what} is outside the profile`); }
+function outside(reason) {
+  wire.refuse(reason);
+  freeze();
+  return new TypeError(reason);
+}
 
 function call(name, list, callback) {
   const isCallback = callback === null || callback === undefined || typeof callback === "function";
-  if (!/^[A-Za-z0-9_.]{1,64}$/.test(name) || !Array.isArray(list) || !isCallback) { throw outside("this call"); }
-  wire.call(name, list, callback ?? null);
+  const isName = typeof name === "string" && /^[A-Za-z0-9_.]{1,64}$/.test(name);
+  if (!isName || !Array.isArray(list) || !isCallback) { throw outside("bad-argument"); }
+  wire.call(name, jsonOf(list), callback ?? null);
+}
+
+function jsonOf(list) {
+  try {
+    return written(list, strange);
+  } catch (error) {
+    throw error instanceof Refusal ? outside(error.reason) : error;
+  }
 }
 
 function random(count) {
-  if (!Number.isInteger(count) || count < 1 || count > 2 ** 31) { throw outside("this number"); }
+  if (!Number.isInteger(count) || count < 1 || count > 2 ** 31) { throw outside("bad-argument"); }
   seed = (Math.imul(1664525, seed) + 1013904223) >>> 0;
   return Number((BigInt(seed) * BigInt(count)) >> 32n);
 }
@@ -248,6 +288,7 @@ function dispatch(type, target) {
     stopPropagation() { isStopped = true; },
     preventDefault() { isPrevented = cancelable; },
   };
+  strange.add(event);
   const visit = (node, phase) => {
     if (isStopped) { return; }
     event.currentTarget = node;
@@ -257,8 +298,7 @@ function dispatch(type, target) {
       if (isDue) { within(() => one.call.call(node, event)); }
     }
   };
-  const path = [];
-  for (let node = target.parentNode; node !== null; node = node.parentNode) { path.push(node); }
+  const path = above(target);
   [...path].reverse().forEach((node) => visit(node, 1));
   visit(target, 2);
   if (bubbles) { path.forEach((node) => visit(node, 3)); }
@@ -267,23 +307,91 @@ function dispatch(type, target) {
   return isPrevented;
 }
 
+function above(target) {
+  const path = [];
+  for (let node = target.parentNode; node !== null; node = node.parentNode) { path.push(node); }
+  return path;
+}
+
+// Whether a listener would be called.
+function isHeard(type, target) {
+  const [bubbles] = EVENTS[type];
+  const has = (isCapturing) => (node) =>
+    (listeners.get(node) ?? []).some((one) => one.type === type && one.isCapturing === isCapturing);
+  const path = above(target);
+  return path.some(has(true)) || has(false)(target) || (bubbles && path.some(has(false)));
+}
+
 // ---- Reports ----
 
 // An event of the browser: where it is one that the server can be told, it is reported and flows.
 function heard(event) {
-  if (event.type === "submit" || isLink(event)) { event.preventDefault(); }
-  if (wire.isOver) { event.preventDefault(); }
   const { type, target } = event;
-  if (!isLoaded || inside > 0 || wire.isOver || !isReport(type, target)) { return; }
-  if (type === "input") {
-    cut(target);
-    wire.event("event", type, numbers.get(target), target.value);
-  } else if (type === "change" && target.localName === "select") {
-    wire.event("event", type, numbers.get(target), target.selectedIndex);
-  } else {
-    wire.event("event", type, numbers.get(target));
+  if (type === "submit" || isLink(event) || wire.isOver) { event.preventDefault(); }
+  if (!isLoaded || inside > 0 || wire.isOver) { return; }
+  if (late !== null && !(type === "input" && target === late.control)) { tellLate(); }
+  if (!isReport(type, target)) {
+    // What the input before took from the visitor's reach does not turn over.
+    if (type === "click" && typeOf(target) === "checkbox") { event.preventDefault(); }
+    return;
   }
-  if (dispatch(type, target)) { event.preventDefault(); }
+  if (type === "input") { cut(target); }
+  if (!isHeard(type, target)) {
+    silence.keep(itemOf(type, target), target, changeOf(type, target));
+    note(type, target);
+  } else if (isClose(type, target)) {
+    wait(target);
+  } else if (tell(type, target)) {
+    event.preventDefault();
+  }
+}
+
+// Reports an event and lets it flow: whether a listener prevented the default.
+function tell(type, target) {
+  note(type, target);
+  tellKept();
+  wire.event(itemOf(type, target));
+  return dispatch(type, target);
+}
+
+function tellKept() {
+  for (const item of silence.take()) { wire.event(item); }
+}
+
+function note(type, target) {
+  if (type === "input") { touched.set(target, performance.now()); }
+}
+
+// Whether this is an input of a control that was told of one just now.
+function isClose(type, target) {
+  return type === "input" && performance.now() - (touched.get(target) ?? -CLOSEST) < CLOSEST;
+}
+
+// The input waits until it is no longer close, or another event or a reply comes: then it is told with what stands there.
+function wait(control) {
+  if (late !== null) { return; }
+  const rest = touched.get(control) + CLOSEST - performance.now();
+  late = { control, timer: setTimeout(tellLate, rest) };
+}
+
+function tellLate() {
+  if (late === null) { return; }
+  const { control, timer } = late;
+  late = null;
+  clearTimeout(timer);
+  if (!wire.isOver && isReport("input", control)) { tell("input", control); }
+}
+
+function itemOf(type, target) {
+  const item = ["event", type, numbers.get(target)];
+  if (type === "input") { return [...item, target.value]; }
+  return type === "change" && target.localName === "select" ? [...item, target.selectedIndex] : item;
+}
+
+// What an event leaves in its control.
+function changeOf(type, target) {
+  if (type === "input" || (type === "change" && target.localName === "select")) { return "sets"; }
+  return type === "click" && typeOf(target) === "checkbox" ? "turns" : "nothing";
 }
 
 // Whether what a click does is to follow a link, as it does too from what does nothing of its own within one.
@@ -343,18 +451,38 @@ function cut(control) {
 // A reply is given to its callback in a task of its own.
 function served(number, time, reply) {
   setTimeout(() => {
+    tellLate();
     if (wire.isOver) { return; }
+    tellKept();
     const callback = wire.reply(number);
     moment = time;
     within(() => callback.call(undefined, reply));
   });
 }
 
+// The page takes no more input, and says why. What was typed can be copied, or taken along into a new session.
 function ended(reason) {
-  const words = { session: "the server no longer knows it", closed: "it was closed" };
-  show(`This page has ended: ${words[reason] ?? reason}. Load it again to go on.`);
+  freeze();
+  const controls = [...touched.keys()].filter((control) => control.isConnected);
+  const typed = typedIn(controls, numbers);
+  const isOffer = typed.length > 0 && isOffered(reason);
+  show(textOfEnd(reason), {
+    reason,
+    kept: textsOf(typed),
+    offered: isOffer ? TEXTS.againWith : TEXTS.again,
+    offer: () => {
+      if (isOffer) { take(typed); }
+      location.replace(location.pathname);
+    },
+  });
+}
+
+// Types anew what the visitor took along from the session before.
+function putTyped() {
+  const left = putIn(document, numbers, (control) => !wire.isOver && isReport("input", control));
+  if (left.length > 0 && !wire.isOver) { show(TEXTS.left, { kept: textsOf(left) }); }
 }
 
 function silent(isSilent) {
-  if (isSilent) { show("The server does not answer. This page tries again."); } else { hide(); }
+  if (isSilent) { show(TEXTS.waits); } else { hide(); }
 }

@@ -1,10 +1,13 @@
 // One session's reports: the items that wait to be sent, one batch under way at a time, and its answer.
 //
 // A batch has at most 64 items and its body at most 65,536 bytes. It is sent again under its number until an answer
-// comes; the server gives a batch that it has done the answer that it gave before.
+// comes; the server gives a batch that it has done the answer that it gave before. No item is one that the server refuses
+// unread, so what becomes of a session does not depend on where batches are cut.
 
 // The page's script may have names of its own for these.
-const { AbortSignal, JSON, Promise, TextEncoder, fetch, queueMicrotask, setTimeout } = globalThis;
+const {
+  AbortSignal, JSON, Map, Promise, TextEncoder, clearTimeout, fetch, performance, queueMicrotask, setTimeout,
+} = globalThis;
 
 const MOST_ITEMS = 64;
 const MOST_BYTES = 65536;
@@ -13,15 +16,29 @@ const LONGEST_WAIT = 8000;
 const PATIENCE = 30000;
 const CLOSINGS = 4;
 
+// Behind so many milliseconds without an answer the visitor is told; behind so many without a batch an empty one is sent.
+export const SILENT = 5000;
+export const BEAT = 240000;
+
 // Answers behind which the same batch is sent again: the batch before is not done, and what stands between page and
 // server could not hand the request on, or the server had no memory for it.
 const AGAIN = [408, 429, 500, 502, 503, 504];
 
-// What stands under a key is told as it is: a `toJSON` of the page's script is a property like others.
-function own(key) { return this[key]; }
-
 const size = (text) => new TextEncoder().encode(text).length;
-const pause = (milliseconds) => new Promise((resolve) => setTimeout(resolve, milliseconds));
+const pause = (tries) => new Promise((resolve) => setTimeout(resolve, Math.min(250 * 2 ** tries, LONGEST_WAIT)));
+
+const closing = (session) => `${location.origin}/q/${session}`;
+
+// Closes a session of which its page wants no more, as often as it takes until the server knows.
+export async function shut(session) {
+  for (let tries = 0; ; tries++) {
+    try {
+      const { status } = await fetch(closing(session), { method: "POST", keepalive: true });
+      if ([200, 404, 410].includes(status)) { return; }
+    } catch { /* The line is broken. */ }
+    await pause(tries);
+  }
+}
 
 export class Wire {
   #session;
@@ -32,8 +49,14 @@ export class Wire {
   #made = 0;
   #waiting = new Map();
   #number = 0;
+  #last = performance.now();
+  #isBeat = false;
   #isSending = false;
+  // Nothing more is reported; nothing more is sent; the server knows that the session is over.
   #isOver = false;
+  #isEnded = false;
+  #isShut = false;
+  #refused = null;
 
   // `told` has three functions: `served(number, time, reply)` for a reply that has a callback, in the order of call
   // numbers; `ended(reason)`, once; and `silent(isSilent)` where the server stops and begins to answer.
@@ -44,13 +67,14 @@ export class Wire {
 
   get isOver() { return this.#isOver; }
 
-  event(...item) { this.#report(item); }
+  event(item) { this.#report(item); }
 
-  // A call that the script made. What it is called with is kept as it is now. A call with a callback waits here while
-  // 64 replies are undelivered, since the server would end the session; so do the calls behind it.
+  // A call that the script made, with the JSON of what it is called with. A call with a callback waits here while 64
+  // replies are undelivered, since the server would end the session; so do the calls behind it.
   call(name, list, callback) {
+    if (this.#isOver) { return; }
     this.#made += 1;
-    this.#held.push({ text: JSON.stringify(["call", this.#made, name, list], own), isAwaited: callback !== null });
+    this.#held.push({ text: `["call",${this.#made},${JSON.stringify(name)},${list}]`, isAwaited: callback !== null });
     if (callback !== null) { this.#waiting.set(this.#made, callback); }
     this.#release();
   }
@@ -65,8 +89,25 @@ export class Wire {
     return callback;
   }
 
+  // The server would not go on behind what was reported so far. That is still sent, since the reason is the server's, if it
+  // has one; else the session is closed.
+  refuse(reason) {
+    if (this.#isOver) { return; }
+    this.#isOver = true;
+    this.#refused = reason;
+    this.#held = [];
+    queueMicrotask(() => this.#send());
+  }
+
+  // The page is still seen: where nothing was sent for minutes, an empty batch says so.
+  beat() {
+    this.#isBeat = performance.now() - this.#last >= BEAT;
+    queueMicrotask(() => this.#send());
+  }
+
   #report(item) {
-    this.#items.push(JSON.stringify(item));
+    if (this.#isOver) { return; }
+    this.#items.push(`[${item.map((part) => JSON.stringify(part)).join(",")}]`);
     queueMicrotask(() => this.#send());
   }
 
@@ -84,11 +125,14 @@ export class Wire {
   async #send() {
     if (this.#isSending) { return; }
     this.#isSending = true;
-    while (this.#items.length > 0 && !this.#isOver) {
+    while ((this.#items.length > 0 || this.#isBeat) && !this.#isEnded) {
+      this.#isBeat = false;
       this.#number += 1;
       this.#take(await this.#post(this.#batch()));
+      this.#last = performance.now();
     }
     this.#isSending = false;
+    if (this.#refused !== null) { this.#end(this.#refused, false); }
   }
 
   // The body of the next batch, which takes the longest front of the items that it has room for.
@@ -104,17 +148,18 @@ export class Wire {
     return `${head}${this.#items.splice(0, count).join(",")}]}`;
   }
 
+  // The answer to a batch; where it is late, the visitor is told.
   async #post(body) {
-    for (let tries = 0; !this.#isOver; tries++) {
-      const answer = await this.#ask(body);
-      if (answer !== null) {
-        if (tries > 2) { this.#told.silent(false); }
-        return answer;
-      }
-      if (tries === 2) { this.#told.silent(true); }
-      await pause(Math.min(250 * 2 ** tries, LONGEST_WAIT));
+    let isLate = false;
+    const late = setTimeout(() => { isLate = true; this.#told.silent(true); }, SILENT);
+    let answer = null;
+    for (let tries = 0; answer === null && !this.#isEnded; tries++) {
+      if (tries > 0) { await pause(tries - 1); }
+      answer = await this.#ask(body);
     }
-    return null;
+    clearTimeout(late);
+    if (isLate) { this.#told.silent(false); }
+    return answer;
   }
 
   // The answer to a batch, or null where the batch is to be sent again.
@@ -124,19 +169,18 @@ export class Wire {
         method: "POST", body, cache: "no-store", signal: AbortSignal.timeout(PATIENCE),
       });
       if (AGAIN.includes(answer.status)) { return null; }
-      if (answer.status === 200 || answer.status === 410) { return await answer.json(); }
+      if (answer.status === 200 || answer.status === 410) { return { ...await answer.json(), isKnown: true }; }
       const { error } = await answer.json().catch(() => ({}));
-      return error === "busy" ? null : { ended: error ?? `${answer.status}` };
+      return error === "busy" ? null : { ended: error ?? `${answer.status}`, isKnown: error === "session" };
     } catch {
       return null;
     }
   }
 
   #take(answer) {
-    if (answer === null || this.#isOver) { return; }
+    if (answer === null || this.#isEnded) { return; }
     if (answer.ended !== null) {
-      this.#isOver = true;
-      this.#told.ended(answer.ended);
+      this.#end(answer.ended, answer.isKnown);
       return;
     }
     for (const [number, time, reply] of answer.served) {
@@ -144,13 +188,20 @@ export class Wire {
     }
   }
 
+  // The session has ended; where the server does not know, it is closed there.
+  #end(reason, isKnown) {
+    if (this.#isEnded) { return; }
+    this.#isOver = this.#isEnded = true;
+    this.#isShut = isKnown;
+    if (!isKnown) { shut(this.#session).then(() => { this.#isShut = true; }); }
+    this.#told.ended(reason);
+  }
+
   // The page is left, and can't see whether its session was closed. The server closes none that is busy, so while a
   // batch is under way the closing is sent several times; nginx hands them on a second apart.
   close() {
-    if (this.#isOver) { return; }
-    this.#isOver = true;
-    for (let count = this.#isSending ? CLOSINGS : 1; count > 0; count--) {
-      navigator.sendBeacon(`${location.origin}/q/${this.#session}`);
-    }
+    if (this.#isShut) { return; }
+    this.#isOver = this.#isEnded = this.#isShut = true;
+    for (let count = this.#isSending ? CLOSINGS : 1; count > 0; count--) { navigator.sendBeacon(closing(this.#session)); }
   }
 }
