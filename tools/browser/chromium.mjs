@@ -7,7 +7,7 @@ import { join } from "node:path";
 const WORDS = [
   "--headless=new", "--no-sandbox", "--disable-gpu", "--no-first-run", "--disable-extensions", "--mute-audio",
   "--disable-background-networking", "--disable-component-update", "--ignore-certificate-errors",
-  "--remote-debugging-pipe", "--window-size=900,900",
+  "--remote-debugging-pipe", "--window-size=900,900", "--host-resolver-rules=MAP * ~NOTFOUND, EXCLUDE 127.0.0.1",
 ];
 
 export const pause = (milliseconds) => new Promise((resolve) => setTimeout(resolve, milliseconds));
@@ -22,6 +22,18 @@ export async function until(look, what, seconds = 30) {
     await pause(20);
   }
 }
+
+// The place of an element's middle in the window, and what the notice says, as expressions in a page.
+export const centerOf = (id) => `(() => {
+  const element = document.getElementById(${JSON.stringify(id)});
+  element.scrollIntoView({ block: "center", behavior: "instant" });
+  const box = element.getBoundingClientRect();
+  return { x: box.x + box.width / 2, y: box.y + box.height / 2 };
+})()`;
+export const noticeOf = `(() => {
+  const panel = document.querySelector("html > [role=alert]")?.shadowRoot.firstChild ?? null;
+  return panel === null ? null : panel.firstChild.data + panel.querySelector("small").textContent;
+})()`;
 
 export class Browser {
   #process;
@@ -86,6 +98,7 @@ const TEXTS = { Enter: "\r", " ": " " };
 
 export class Page {
   errors = [];
+  isPhone = false;
   #browser;
   #session;
   #target;
@@ -108,6 +121,14 @@ export class Page {
     for (const name of ["Page", "Runtime", "Log", "Network"]) { await this.ask(`${name}.enable`); }
   }
 
+  // From now on the page is in a window of the size of a phone's, and is touched.
+  async bePhone() {
+    this.isPhone = true;
+    const size = { width: 390, height: 844, deviceScaleFactor: 2, mobile: true };
+    await this.ask("Emulation.setDeviceMetricsOverride", size);
+    await this.ask("Emulation.setTouchEmulationEnabled", { enabled: true, maxTouchPoints: 1 });
+  }
+
   go(url) { return this.ask("Page.navigate", { url }); }
 
   // Whether the page stands with its script run: the title is the page's own.
@@ -127,16 +148,16 @@ export class Page {
 
   text(id) { return this.run(`document.getElementById(${JSON.stringify(id)}).textContent`); }
 
-  notice() { return this.run(`document.querySelector("html > [role=alert]")?.textContent ?? null`); }
+  notice() { return this.run(noticeOf); }
 
   // A click of the mouse in the middle of an element.
   async click(id) {
-    const { x, y } = await this.run(`(() => {
-      const element = document.getElementById(${JSON.stringify(id)});
-      element.scrollIntoView({ block: "center", behavior: "instant" });
-      const box = element.getBoundingClientRect();
-      return { x: box.x + box.width / 2, y: box.y + box.height / 2 };
-    })()`);
+    const { x, y } = await this.run(centerOf(id));
+    if (this.isPhone) {
+      await this.ask("Input.dispatchTouchEvent", { type: "touchStart", touchPoints: [{ x, y }] });
+      await this.ask("Input.dispatchTouchEvent", { type: "touchEnd", touchPoints: [] });
+      return;
+    }
     await this.ask("Input.dispatchMouseEvent", { type: "mouseMoved", x, y });
     for (const type of ["mousePressed", "mouseReleased"]) {
       await this.ask("Input.dispatchMouseEvent", { type, x, y, button: "left", clickCount: 1 });
@@ -151,6 +172,17 @@ export class Page {
     await this.ask("Input.dispatchKeyEvent", { ...key, type: "keyUp" });
   }
 
+  // Holds a key for so many repeats, thirty a second.
+  async hold(name, count) {
+    const key = { key: name, code: name, windowsVirtualKeyCode: KEYS[name] };
+    const begin = Date.now();
+    for (let at = 0; at < count; at++) {
+      await this.ask("Input.dispatchKeyEvent", { ...key, type: "rawKeyDown", autoRepeat: at > 0 });
+      await pause(begin + (at + 1) * 33 - Date.now());
+    }
+    await this.ask("Input.dispatchKeyEvent", { ...key, type: "keyUp" });
+  }
+
   // Keys into an element, in the place of what stands there.
   async type(id, text) {
     await this.click(id);
@@ -158,7 +190,7 @@ export class Page {
     await this.ask("Input.dispatchKeyEvent", { ...all, type: "rawKeyDown", commands: ["selectAll"] });
     await this.ask("Input.dispatchKeyEvent", { ...all, type: "keyUp" });
     await this.key("Backspace");
-    for (const unit of text) { await this.key(unit); }
+    for (const unit of text) { await this.key(unit === "\n" ? "Enter" : unit); }
   }
 
   async picture(path) {

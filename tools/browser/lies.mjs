@@ -39,12 +39,12 @@ function next(visit, items) {
 }
 
 // A row that reports these items in a batch of its own.
-const report = (what, items, due) => ({
+const report = (what, itemsFor, due) => ({
   what,
   due,
   async lie(visit) {
     await visit.rest();
-    return next(visit, items);
+    return next(visit, itemsFor(visit.numbers));
   },
 });
 
@@ -78,12 +78,12 @@ export const lies = [
     due: /^done \d+ \d+ \d+ mismatch 1 1 \["order",.*\] none$/,
     lie: (visit) => next(visit, [["call", 1, "order", ["orders", { ...POT, total: 5390 }]]]),
   },
-  report("a call out of order", [["call", 2, "order", ["orders", POT]]], /^done \d+ \d+ \d+ report 1 number$/),
-  report("a reply that is not due", [["reply", 1]], /^done \d+ \d+ \d+ report 1 due$/),
-  report("an event at no element", [["event", "click", 4000]], /^done \d+ \d+ \d+ report 1 node$/),
-  report("an input into a button", [["event", "input", 44, "x"]], /^done \d+ \d+ \d+ report 1 control$/),
-  report("a name too long", [["event", "input", 42, "x".repeat(41)]], /^done \d+ \d+ \d+ report 1 long$/),
-  report("an option that is not there", [["event", "change", 33, 2]], /^done \d+ \d+ \d+ report 1 option$/),
+  report("a call out of order", () => [["call", 2, "order", ["orders", POT]]], /^done \d+ \d+ \d+ report 1 number$/),
+  report("a reply that is not due", () => [["reply", 1]], /^done \d+ \d+ \d+ report 1 due$/),
+  report("an event at no element", () => [["event", "click", 4000]], /^done \d+ \d+ \d+ report 1 node$/),
+  report("an input into a button", ({ buy }) => [["event", "input", buy, "x"]], /^done \d+ \d+ \d+ report 1 control$/),
+  report("a name too long", ({ name }) => [["event", "input", name, "x".repeat(41)]], /^done \d+ \d+ \d+ report 1 long$/),
+  report("an option that is not there", ({ way }) => [["event", "change", way, 2]], /^done \d+ \d+ \d+ report 1 option$/),
 ];
 
 // A batch that is sent once more is not done once more. The visit goes on.
@@ -91,8 +91,9 @@ async function replayed(visit) {
   await visit.rest();
   const count = visit.lines().length;
   const number = batches(visit);
-  const again = await post(visit.page, `/e/${visit.session}`, visit.bodies.at(-1));
-  const old = await post(visit.page, `/e/${visit.session}`, visit.bodies[0]);
+  const { bodies } = await visit.seen();
+  const again = await post(visit.page, `/e/${visit.session}`, bodies.at(-1));
+  const old = await post(visit.page, `/e/${visit.session}`, bodies[0]);
   const gap = await post(visit.page, `/e/${visit.session}`, JSON.stringify({ batch: number + 2, items: [] }));
   const told = [
     again.code === 200 && JSON.parse(again.body).batch === number && JSON.parse(again.body).ended === null,

@@ -1,20 +1,24 @@
 #!/usr/bin/env node
-// The three examples in a browser: nginx before `ripley serve` on loopback, and a headless Chromium with real mouse and
-// key events.
+// The examples in browsers: nginx before `ripley serve` on loopback, and a headless Chromium and a headless Firefox with
+// real mouse, key and touch events.
 //
-//   apt-get install nginx haproxy chromium nodejs openssl
-//   tools/browser/run.mjs RIPLEY [--visits=50] [--seed=1] [--parts=visits,hazards,lies,..] [--into=FOLDER]
+//   apt-get install nginx haproxy chromium firefox-esr nodejs openssl
+//   tools/browser/run.mjs RIPLEY [--visits=50] [--seed=1] [--engines=chromium,firefox] [--parts=visits,hazards,lies,..]
+//                         [--into=FOLDER]
 //
 // RIPLEY is the program. The servers' ports are counted from RIPLEY_PORT, or from 18000. Visit N of a page draws its
 // gestures from the seed `SEED + N`. Pictures of the pages and the logs of the servers are left in FOLDER. The status
-// is 0 only where page and log agreed in each visit, each lie was refused with the due line, and no other session ended
-// but by its own closing. It is no part of the gate.
+// is 0 only where each case went as due: page and server agreed in each visit, each lie was refused with the due line, and
+// no other session ended but by its own closing. It is no part of the gate.
 import { mkdtempSync } from "node:fs";
 import { tmpdir } from "node:os";
 import { join } from "node:path";
+import * as cases from "./cases.mjs";
 import { Browser, pause, until } from "./chromium.mjs";
+import { Firefox } from "./firefox.mjs";
 import { lies, refusals, tell } from "./lies.mjs";
 import { Stack, itemsOf, ports, servedOf, site } from "./stack.mjs";
+import { replays } from "./traces.mjs";
 import { Draw, Visit, examples, hazards, shop } from "./visits.mjs";
 
 const words = Object.fromEntries(process.argv.slice(3).map((word) => word.slice(2).split("=", 2)));
@@ -38,11 +42,13 @@ async function begin(browser, log, kind) {
   return visit;
 }
 
-async function withStack({ folder }, use) {
+// The servers over a page, with changes of the recorder's files where there are some.
+async function withStack(kind, use, changes = []) {
   const stack = new Stack(ripley, into);
   try {
-    const log = await stack.serve(folder);
-    await use(stack, log, await stack.nginx(folder));
+    const home = stack.prepare(kind);
+    const log = await stack.serve(home);
+    await use(stack, log, await stack.nginx(home, ports.first, changes), home);
   } finally {
     await stack.close();
   }
@@ -57,27 +63,26 @@ async function randomVisit(browser, log, kind, number) {
     await pause(draw.below(3) * 20);
   }
   tellWrong(`${kind.name}, visit ${number}, seed ${seed + number}`, await visit.compare());
-  const lines = visit.lines();
   await visit.leave();
-  return { gestures, items: itemsOf(lines).length, served: servedOf(lines).length };
+  return visit;
 }
 
-// Each page: its own visit with a picture, and then random ones.
+// Each page: its own visit with a picture, and then random ones. Then the log is replayed, as it is and as it would be
+// without silence.
 async function playAll(browser, kinds) {
   for (const kind of kinds) {
-    await withStack(kind, async (stack, log) => {
+    await withStack(kind, async (stack, log, nginx, home) => {
       const visit = await begin(browser, log, kind);
       await kind.play(visit);
       tellWrong(kind.name, await visit.compare());
       await visit.page.picture(join(into, `${kind.name}.png`));
       await visit.leave();
-      const sums = { gestures: 0, items: 0, served: 0 };
-      for (let number = 1; number <= visits; number++) {
-        const counts = await randomVisit(browser, log, kind, number);
-        for (const what of Object.keys(sums)) { sums[what] += counts[what]; }
-      }
-      const { gestures, items, served } = sums;
-      console.log(`${kind.name}: ${visits} visits, ${gestures} gestures, ${items} items, ${served} calls served`);
+      const all = [visit];
+      for (let number = 1; number <= visits; number++) { all.push(await randomVisit(browser, log, kind, number)); }
+      const loud = new Map(all.filter((each) => each.loud !== null).map((each) => [each.session, each.loud]));
+      const found = replays(ripley, home, log, loud);
+      tellWrong(`${kind.name}, replayed`, found.wrong);
+      console.log(`${kind.name}: ${all.length} visits, ${found.calls} calls, ${found.items} items, ${found.loud} without silence`);
     });
   }
 }
@@ -121,9 +126,10 @@ async function playPair() {
 async function playSpread(browser) {
   const stack = new Stack(ripley, into);
   try {
-    const logs = [await stack.serve(shop.folder), await stack.serve(shop.folder, ports.second)];
+    const home = stack.prepare(shop);
+    const logs = [await stack.serve(home), await stack.serve(home, ports.second)];
     const proxy = await stack.haproxy();
-    await stack.nginx(shop.folder, ports.proxy);
+    await stack.nginx(home, ports.proxy);
     const both = { of: (session) => logs.map((log) => log.of(session)).find((lines) => lines !== null) ?? null };
     for (let number = 1; number <= 6; number++) { await randomVisit(browser, both, shop, 2000 + number); }
     const open = await Promise.all([1, 2, 3, 4].map(() => begin(browser, both, shop)));
@@ -191,14 +197,14 @@ async function playLost(browser) {
 
 // The server is stopped and started: the page is told, and a new one opens.
 async function playRestart(browser) {
-  await withStack(shop, async (stack, log) => {
+  await withStack(shop, async (stack, log, nginx, home) => {
     const visit = await begin(browser, log, shop);
     await visit.page.type("tea", "1");
     await visit.rest();
     await stack.stop(log.process);
     await visit.page.type("cup", "1");
     const silent = await until(() => visit.page.notice(), "the notice of silence");
-    const after = await stack.serve(shop.folder);
+    const after = await stack.serve(home);
     const ended = await until(async () => {
       const notice = await visit.page.notice();
       return notice !== silent ? notice : null;
@@ -212,20 +218,40 @@ async function playRestart(browser) {
   });
 }
 
+// What is done in each engine, and what needs Chromium's own means.
 const parts = {
   visits: (browser) => playAll(browser, examples),
   hazards: (browser) => playAll(browser, [hazards]),
+  ...Object.fromEntries(Object.entries(cases.inEach).map(([name, play]) => [name, playCase(play)])),
+};
+const chromiumParts = {
   lies: playLies,
   pair: playPair,
   spread: playSpread,
   lost: playLost,
   broken: playBroken,
   restart: playRestart,
+  ...Object.fromEntries(Object.entries(cases.inChromium).map(([name, play]) => [name, playCase(play)])),
 };
 
-const browser = new Browser();
-console.log(`${await browser.version()}, seed ${seed}, into ${into}`);
-for (const part of (words.parts ?? Object.keys(parts).join(",")).split(",")) { await parts[part](browser); }
-await browser.close();
+// A case of cases.mjs.
+function playCase(play) {
+  return (browser) => play({ browser, begin, withStack, tellWrong, into });
+}
+
+async function playIn(name, browser, known) {
+  console.log(`${await browser.version()}, seed ${seed}, into ${into}`);
+  for (const part of (words.parts ?? Object.keys(known).join(",")).split(",")) {
+    if (!(part in known)) { continue; }
+    const begun = Date.now();
+    await known[part](browser);
+    console.log(`${name} ${part}: ${Math.round((Date.now() - begun) / 1000)} s`);
+  }
+  await browser.close();
+}
+
+const engines = (words.engines ?? "chromium,firefox").split(",");
+if (engines.includes("chromium")) { await playIn("chromium", new Browser(), { ...parts, ...chromiumParts }); }
+if (engines.includes("firefox")) { await playIn("firefox", await new Firefox().start(), parts); }
 console.log(wrong.length === 0 ? "all as due" : `${wrong.length} wrong`);
 process.exit(wrong.length === 0 ? 0 : 1);

@@ -1,7 +1,7 @@
 // The servers of a try, on loopback: `ripley serve`, one or two with HAProxy before them, and nginx before all, each by
 // its file of deploy/ with ports and paths of the try.
 import { execFileSync, spawn } from "node:child_process";
-import { closeSync, mkdirSync, openSync, readFileSync, writeFileSync } from "node:fs";
+import { closeSync, cpSync, mkdirSync, openSync, readFileSync, renameSync, writeFileSync } from "node:fs";
 import { connect } from "node:net";
 import { basename, join } from "node:path";
 import { fileURLToPath } from "node:url";
@@ -16,6 +16,10 @@ const PROXY = PORT + 90;
 
 export const site = `https://127.0.0.1:${SITE}/`;
 
+// Limits for 250 sessions, where a manifest names none.
+const LIMITS = { sessions: 250, cells: 200000, units: 2000000, nodes: 50000 };
+const MIRROR = readFileSync(join(ROOT, "tools/browser/mirror.js"), "utf8");
+
 // The ports of the two servers and of HAProxy.
 export const ports = { first: FIRST, second: SECOND, proxy: PROXY };
 
@@ -26,6 +30,8 @@ function isThere(port) {
     socket.once("error", () => resolve(false));
   });
 }
+
+const WATCH = `<script type="module" src="/ripley/watch.js"></script>\n<script`;
 
 export class Stack {
   #ripley;
@@ -49,12 +55,28 @@ export class Stack {
     return started;
   }
 
-  // A server over the page and the manifest of a folder: its log.
-  async serve(folder, port = FIRST) {
+  // The page and the manifest of a folder, for a try: with limits that last, and with a button at which the page tells
+  // what it sees, unless it does so itself.
+  prepare({ folder, limits, isPlain }) {
+    const home = join(this.#home, "pages", basename(folder));
+    mkdirSync(home, { recursive: true });
+    let page = readFileSync(join(ROOT, folder, "page.html"), "utf8");
+    if (!isPlain) {
+      page = page.replace("<script>", `<p><button id="mirror">Mirror</button></p>\n<script>`);
+      page = page.replace(/\s*<\/body>/, () => `<script>${MIRROR}</script></body>`);
+    }
+    const manifest = JSON.parse(readFileSync(join(ROOT, folder, "app.json"), "utf8"));
+    manifest.limits = limits ?? (manifest.limits.cells ? manifest.limits : LIMITS);
+    writeFileSync(join(home, "page.html"), page);
+    writeFileSync(join(home, "app.json"), JSON.stringify(manifest));
+    return home;
+  }
+
+  // A server over the page and the manifest of a prepared folder: its log.
+  async serve(home, port = FIRST) {
     this.#runs += 1;
-    const log = new Log(join(this.#home, `${basename(folder)}-${port}-${this.#runs}.log`));
-    const files = ["page.html", "app.json"].map((name) => join(ROOT, folder, name));
-    const words = ["serve", ...files, `127.0.0.1:${port}`];
+    const log = new Log(join(this.#home, `${basename(home)}-${port}-${this.#runs}.log`));
+    const words = ["serve", join(home, "page.html"), join(home, "app.json"), `127.0.0.1:${port}`];
     log.process = await this.#start(this.#ripley, words, log.path, port);
     return log;
   }
@@ -70,17 +92,32 @@ export class Stack {
     return path;
   }
 
-  // nginx with the policy of the folder's page before the server of this port. Here one address opens many sessions.
-  async nginx(folder, port = FIRST) {
+  // The recorder, with what a try sees of it, and with these changes of its files: a name, a text, and what takes its place.
+  #recorder(changes) {
+    const home = join(this.#home, "browser");
+    const watch = join(ROOT, "tools/browser/watch");
+    cpSync(join(ROOT, "browser"), home, { recursive: true });
+    for (const [name, from, to] of [["index.html", "<script", WATCH], ...changes]) {
+      const text = readFileSync(join(home, name), "utf8");
+      if (!text.includes(from)) { throw new Error(`${name} has no ${from}`); }
+      writeFileSync(join(home, name), text.replace(from, to));
+    }
+    for (const name of ["wire", "silence"]) { renameSync(join(home, `${name}.js`), join(home, `true${name}.js`)); }
+    cpSync(watch, home, { recursive: true });
+    return home;
+  }
+
+  // nginx with the policy of the prepared page before the server of this port. Here one address opens many sessions.
+  async nginx(folder, port = FIRST, changes = []) {
     this.#key();
-    const policy = execFileSync(join(ROOT, "deploy/policy.py"), [join(ROOT, folder, "page.html")]);
+    const policy = execFileSync(join(ROOT, "deploy/policy.py"), [join(folder, "page.html")]);
     writeFileSync(join(this.#home, "policy.conf"), policy);
     const file = this.#file("nginx.conf", [
       ["user www-data;", process.getuid() === 0 ? "user root;" : ""],
       ["/run/nginx.pid", join(this.#home, "nginx.pid")],
       ["/var/log/nginx", join(this.#home, "log")],
       ["/etc/ripley", this.#home],
-      ["/usr/share/ripley/browser", join(ROOT, "browser")],
+      ["/usr/share/ripley/browser", this.#recorder(changes)],
       ["127.0.0.1:8080", `127.0.0.1:${port}`],
       ["listen 80;", `listen 127.0.0.1:${PORT + 81};`],
       ["listen 443", `listen 127.0.0.1:${SITE}`],
@@ -150,6 +187,10 @@ export class Log {
 export function itemsOf(lines) {
   const batches = lines.filter((line) => line.startsWith("batch "));
   return batches.flatMap((line) => JSON.parse(line.split(" ").slice(4).join(" ")));
+}
+
+export function isEnded(lines) {
+  return lines.some((line) => line.startsWith("close ") || (line.startsWith("done ") && !line.endsWith(" ok")));
 }
 
 export function servedOf(lines) {

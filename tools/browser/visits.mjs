@@ -1,5 +1,6 @@
-// The visits of the three examples: gestures of a visitor, and what page and log have to agree on.
-import { itemsOf, servedOf } from "./stack.mjs";
+// The visits of the examples: gestures of a visitor.
+import { isEnded, servedOf } from "./stack.mjs";
+import { loudItems } from "./traces.mjs";
 import { pause, until } from "./chromium.mjs";
 
 // Numbers from a seed: those of seeds that are near each other have nothing in common.
@@ -21,90 +22,57 @@ export class Draw {
 
 // A visit: a page, the session that it opened, and the log of its server.
 export class Visit {
-  #underWay = new Set();
   session = null;
-  bodies = [];
+  numbers = {};
+  loud = null;
 
   constructor(page, log, kind) {
     this.page = page;
     this.log = log;
     this.kind = kind;
-    page.hear((method, params) => this.#hear(method, params));
-  }
-
-  #hear(method, params) {
-    if (method === "Network.requestWillBeSent" && /\/[eq]\//.test(params.request.url)) {
-      this.#underWay.add(params.requestId);
-      this.bodies.push(params.request.postData);
-    }
-    if (method.startsWith("Network.loading")) { this.#underWay.delete(params.requestId); }
-    if (method === "Network.responseReceived") {
-      const fields = Object.entries(params.response.headers);
-      const field = fields.find(([name]) => name.toLowerCase() === "ripley-session");
-      if (field) { this.session = field[1]; }
-    }
   }
 
   async open(url) {
     await this.page.open(url, this.kind.title);
+    ({ session: this.session, numbers: this.numbers } = await this.seen());
     await until(() => this.lines(), "the line of the opening");
   }
 
+  // What the try sees of the recorder.
+  seen() { return this.page.run("window.ripleyTry"); }
+
   lines() { return this.log.of(this.session); }
 
-  // Waits until no report has been under way for a while.
+  // Waits until no report has been under way for a while, in which no input waits either.
   async rest() {
-    for (let still = 0; still < 4; still++) {
-      if (this.#underWay.size > 0) { still = 0; }
+    for (let still = 0; still < 6; still++) {
+      if (await this.page.run("window.ripleyTry.underWay > 0")) { still = 0; }
       await pause(25);
     }
   }
 
-  // The document and the log of one moment, after which nothing was reported.
-  async #still() {
-    for (;;) {
-      await this.rest();
-      const lines = this.lines();
-      const seen = await this.page.run(this.kind.seen);
-      await this.rest();
-      if (this.lines().length === lines.length) { return { lines, seen }; }
-    }
-  }
-
-  // Compares the document with the log: the differences.
+  // Has the page tell its document and its controls, which the server compares with its own: what is wrong, after which
+  // nothing was reported.
   async compare() {
-    const { lines, seen } = await this.#still();
-    const differ = lines.filter((line) => line.startsWith("done ") && !line.endsWith(" ok"));
-    const due = this.kind.due(itemsOf(lines), servedOf(lines));
-    for (const [what, value] of Object.entries(due)) {
-      if (JSON.stringify(seen[what]) !== JSON.stringify(value)) {
-        differ.push(`${what} is ${JSON.stringify(seen[what])}, and by the log ${JSON.stringify(value)}`);
-      }
-    }
+    await this.rest();
+    if (!this.kind.isPlain) { await this.page.click("mirror"); }
+    await this.rest();
+    const seen = await this.seen();
+    const wrong = [];
     const notice = await this.page.notice();
-    if (notice !== null) { differ.push(`the page says: ${notice}`); }
-    return this.kind.isLoud ? differ : [...differ, ...this.page.errors];
+    if (notice !== null) { wrong.push(`the page says: ${notice}`); }
+    if (isEnded(this.lines())) { wrong.push(`the session has ended: ${this.lines().at(-1)}`); }
+    if (!this.kind.isPlain && !servedOf(this.lines()).some(({ name }) => name === "mirror")) { wrong.push("no mirror"); }
+    if (!this.kind.isLoud) { wrong.push(...this.page.errors, ...seen.errors); }
+    if (wrong.length === 0) { this.loud = loudItems(seen); }
+    return wrong;
   }
 
-  // Leaves the page: whether the log has the line of the closing.
+  // Leaves the page: the log has the line of the closing.
   async leave() {
     await this.page.close();
     await until(() => this.lines().some((line) => line.startsWith("close ")), "the line of the closing");
   }
-}
-
-const isEvent = (item, type) => item[0] === "event" && item[1] === type;
-
-// The last value that a report gave to a node.
-function last(items, type, node, first) {
-  const found = items.filter((item) => isEvent(item, type) && item[2] === node && item.length === 4).pop();
-  return found ? found[3] : first;
-}
-
-// The replies that were delivered, in order, each with its call.
-function delivered(items, served) {
-  const numbers = items.filter((item) => item[0] === "reply").map((item) => item[1]);
-  return numbers.map((number) => served.find((call) => call.number === number));
 }
 
 const TEXTS = ["0", "1", "2", "3", "7", "12", "20", "21", "", "-4", "1.5", "1e1", "007", "e", "99999"];
@@ -123,7 +91,7 @@ export const shop = {
     await page.type("pot", "1");
     await page.type("name", "Ann");
     await page.click("buy");
-    await until(async () => (await page.text("message")).startsWith("Thank you"), "the order's number");
+    await until(async () => /\d/.test(await page.text("message")), "the order's number");
     await page.type("cup", "3");
     await page.key("Tab");
     await page.key("Tab");
@@ -142,32 +110,6 @@ export const shop = {
       case 7: return page.key("Tab");
       default: return page.click("buy");
     }
-  },
-
-  seen: `(() => {
-    const $ = (id) => document.getElementById(id);
-    return {
-      tea: $("tea").value, cup: $("cup").value, pot: $("pot").value, name: $("name").value, way: $("way").selectedIndex,
-      message: $("message").textContent, isOff: $("buy").disabled, total: $("total").textContent,
-    };
-  })()`,
-
-  due(items, served) {
-    const replies = delivered(items, served);
-    const message = replies.length === 0 ? "" : `Thank you. Your order has the number ${replies.at(-1).reply}.`;
-    const control = (node, first) => last(items, "input", node, first);
-    const due = {
-      tea: control(18, "0"), cup: control(23, "0"), pot: control(28, "0"), name: control(42, ""),
-      way: last(items, "change", 33, 0), message, isOff: replies.length < served.length,
-    };
-    // What was ordered last is what the page shows, where nothing was changed behind it.
-    const end = items.findLastIndex((item) => item[0] === "call");
-    const isShown = items.some((item) => isEvent(item, "input") || isEvent(item, "change"));
-    if (end >= 0 && isShown && !items.slice(end).some((item) => item.length === 4 && item[0] === "event")) {
-      const cents = served.at(-1).list[1].total;
-      due.total = `Total ${Math.floor(cents / 100)}.${String(cents % 100).padStart(2, "0")}`;
-    }
-    return due;
   },
 };
 
@@ -192,27 +134,6 @@ export const booking = {
       default: return page.click(draw.of(SEATS));
     }
   },
-
-  seen: `(() => {
-    const $ = (id) => document.getElementById(id);
-    const all = ${JSON.stringify(SEATS)};
-    return {
-      seats: $("seats").textContent,
-      off: all.filter((id) => $(id).disabled),
-      mine: all.filter((id) => $(id).className === "mine"),
-    };
-  })()`,
-
-  due(items, served) {
-    const seat = (call) => call.list[0];
-    const got = delivered(items, served).filter((call) => call.reply === 1).map(seat);
-    const asked = served.map(seat);
-    return {
-      seats: got.length === 0 ? "No seat yet." : `Your seats: ${got.join(", ")}`,
-      off: SEATS.filter((id) => asked.includes(id)),
-      mine: SEATS.filter((id) => got.includes(id)),
-    };
-  },
 };
 
 const FIELDS = ["c0", "c1", "c2", "c3", "c4", "c5", "c6", "c7", "c8"];
@@ -235,30 +156,57 @@ export const game = {
       default: return page.click(draw.of(FIELDS));
     }
   },
+};
 
-  seen: `(() => {
-    const text = (id) => document.getElementById(id).textContent;
-    const marks = ${JSON.stringify(FIELDS)}.map(text);
-    const count = (mark) => marks.filter((each) => each === mark).length;
-    return {
-      crosses: marks.flatMap((mark, at) => (mark === "X" ? [at] : [])),
-      isBalanced: Math.abs(count("X") - count("O")) <= 1,
-      isWon: text("state") === "You win.", score: text("score"),
-    };
-  })()`,
+export const votes = {
+  name: "votes",
+  folder: "examples/votes",
+  title: "Votes",
 
-  due(items, served) {
-    const moves = served.filter((call) => call.name === "move").map((call) => call.list[1]);
-    const won = served.filter((call) => call.name === "won");
-    const told = delivered(items, served);
-    return {
-      crosses: moves.sort(), isBalanced: true, isWon: won.length === 1,
-      score: told.length === 0 ? "" : `Games won here: ${told[0].reply}`,
-    };
+  async play({ page }) {
+    await page.click("vote");
+    await until(async () => /\d/.test(await page.text("tea")), "the count");
+    await page.click("tea");
+    await page.click("vote");
+  },
+
+  async gesture(page, draw) {
+    switch (draw.below(3)) {
+      case 0: await page.key("Tab"); return page.key(draw.of(["Enter", " "]));
+      default: return page.click(draw.of(["vote", "vote", "tea"]));
+    }
   },
 };
 
-export const examples = [shop, booking, game];
+// A page in which nobody listens while it is filled in.
+export const letter = {
+  name: "letter",
+  folder: "tools/browser/letter",
+  title: "A letter",
+
+  async play({ page }) {
+    await page.type("letter", "Dear shop,\nthe tea was good.");
+    await page.click("copy");
+    await page.key("Tab");
+    await page.key("ArrowDown");
+    await page.click("send");
+    await until(async () => (await page.text("told")).startsWith("Sent"), "the reply");
+  },
+
+  async gesture(page, draw) {
+    switch (draw.below(8)) {
+      case 0: case 1: return page.type("letter", draw.of(NAMES));
+      case 2: await page.click("letter"); return page.key(draw.of(["Enter", "Backspace", "x", "Home"]));
+      case 3: await page.click("copy"); return page.click("copy");
+      case 4: return page.click("copy");
+      case 5: await page.click("copy"); await page.key("Tab"); return page.key(draw.of(["ArrowDown", "ArrowUp"]));
+      case 6: return page.key(draw.of(["Tab", " "]));
+      default: return page.click("send");
+    }
+  },
+};
+
+export const examples = [shop, booking, game, votes, letter];
 
 const PLACES = [
   "text", "long", "number", "check", "kept", "label", "select", "area", "send", "other", "reset", "link", "inlink", "labelled", "span", "off",
@@ -289,7 +237,6 @@ export const hazards = {
     }
   },
 
-  seen: "({})",
-  due: () => ({}),
   isLoud: true,
+  isPlain: true,
 };

@@ -1,0 +1,3 @@
+// What visitors meet beside plain visits.
+export const inEach = {};
+export const inChromium = {};
