@@ -23,9 +23,10 @@ export async function until(look, what, seconds = 30) {
   }
 }
 
-// The place of an element's middle in the window, and what the notice says, as expressions in a page.
-export const centerOf = (id) => `(() => {
-  const element = document.getElementById(${JSON.stringify(id)});
+// An element, the place of its middle in the window, and what the notice says, as expressions in a page.
+export const withId = (id) => `document.getElementById(${JSON.stringify(id)})`;
+export const centerOf = (element) => `(() => {
+  const element = ${element};
   element.scrollIntoView({ block: "center", behavior: "instant" });
   const box = element.getBoundingClientRect();
   return { x: box.x + box.width / 2, y: box.y + box.height / 2 };
@@ -150,9 +151,11 @@ export class Page {
 
   notice() { return this.run(noticeOf); }
 
-  // A click of the mouse in the middle of an element.
-  async click(id) {
-    const { x, y } = await this.run(centerOf(id));
+  click(id) { return this.clickOn(withId(id)); }
+
+  // A click of the mouse, or a touch, in the middle of an element.
+  async clickOn(element) {
+    const { x, y } = await this.run(centerOf(element));
     if (this.isPhone) {
       await this.ask("Input.dispatchTouchEvent", { type: "touchStart", touchPoints: [{ x, y }] });
       await this.ask("Input.dispatchTouchEvent", { type: "touchEnd", touchPoints: [] });
@@ -165,7 +168,7 @@ export class Page {
   }
 
   async key(name, modifiers = 0) {
-    const code = KEYS[name] ?? name.toUpperCase().charCodeAt(0);
+    const code = KEYS[name] ?? (/^[a-z0-9]$/i.test(name) ? name.toUpperCase().charCodeAt(0) : 0);
     const text = modifiers ? undefined : TEXTS[name] ?? (name.length === 1 ? name : undefined);
     const key = { key: name, code: name.length > 1 ? name : undefined, windowsVirtualKeyCode: code, modifiers };
     await this.ask("Input.dispatchKeyEvent", { ...key, type: text ? "keyDown" : "rawKeyDown", text });

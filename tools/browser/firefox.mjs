@@ -4,7 +4,7 @@ import { existsSync, mkdtempSync, readFileSync, rmSync, writeFileSync } from "no
 import { connect } from "node:net";
 import { tmpdir } from "node:os";
 import { join } from "node:path";
-import { centerOf, noticeOf, until } from "./chromium.mjs";
+import { centerOf, noticeOf, until, withId } from "./chromium.mjs";
 
 // Nothing but loopback is asked: all else goes to a proxy that is not there.
 const PREFERENCES = {
@@ -137,8 +137,10 @@ class Page {
     return this.ask("WebDriver:PerformActions", { actions: [{ id, type, parameters, actions }] });
   }
 
-  async click(id) {
-    const { x, y } = await this.run(centerOf(id));
+  click(id) { return this.clickOn(withId(id)); }
+
+  async clickOn(element) {
+    const { x, y } = await this.run(centerOf(element));
     const move = { type: "pointerMove", x: Math.round(x), y: Math.round(y), origin: "viewport", duration: 0 };
     const press = ["pointerDown", "pointerUp"].map((type) => ({ type, button: 0 }));
     await this.#act("mouse", "pointer", [move, ...press], { pointerType: "mouse" });

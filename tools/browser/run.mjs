@@ -36,8 +36,10 @@ function tellWrong(what, differences) {
 }
 
 // Opens a page on the example that a server serves.
-async function begin(browser, log, kind) {
-  const visit = new Visit(await browser.page(), log, kind);
+async function begin(browser, log, kind, prepare = () => {}) {
+  const page = await browser.page();
+  await prepare(page);
+  const visit = new Visit(page, log, kind);
   await visit.open(site);
   return visit;
 }

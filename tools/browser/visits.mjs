@@ -32,8 +32,9 @@ export class Visit {
     this.kind = kind;
   }
 
+  // Opens the page, or takes up the session of a page that has opened itself again, where no address is given.
   async open(url) {
-    await this.page.open(url, this.kind.title);
+    if (url !== null) { await this.page.open(url, this.kind.title); }
     ({ session: this.session, numbers: this.numbers } = await this.seen());
     await until(() => this.lines(), "the line of the opening");
   }
