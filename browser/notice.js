@@ -65,12 +65,12 @@ export function hide() {
 export function takeAway() { place.remove(); }
 
 export function putBack() {
-  if (isShown && !place.isConnected) { document.documentElement.append(place); }
+  if (isShown && !place.isConnected) { document.documentElement?.append(place); }
 }
 
 // The page takes no more input.
 export function freeze() {
-  for (const part of document.documentElement.children) {
+  for (const part of document.documentElement?.children ?? []) {
     if (part === place) { continue; }
     part.inert = true;
     Object.assign(part.style, { opacity: "0.5", filter: "grayscale(1)" });

@@ -466,7 +466,7 @@ function ended(reason) {
   const controls = [...touched.keys()].filter((control) => control.isConnected);
   const typed = typedIn(controls, numbers);
   const isOffer = typed.length > 0 && isOffered(reason);
-  show(textOfEnd(reason), {
+  show(typed.length > 0 ? `${textOfEnd(reason)} ${TEXTS.kept}` : textOfEnd(reason), {
     reason,
     kept: textsOf(typed),
     offered: isOffer ? TEXTS.againWith : TEXTS.again,

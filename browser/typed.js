@@ -16,7 +16,7 @@ export function typedIn(controls, numbers) {
 
 function labelOf(control) {
   const label = control.labels?.[0]?.textContent ?? control.placeholder ?? "";
-  return label.trim().slice(0, 80);
+  return label.trim().replace(/\s*:$/, "").slice(0, 80);
 }
 
 // All of it as one text, to be copied.

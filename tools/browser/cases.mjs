@@ -3,7 +3,7 @@
 import { join } from "node:path";
 import { pause, until } from "./chromium.mjs";
 import { itemsOf, ports, servedOf, site } from "./stack.mjs";
-import { Draw, examples, letter, shop } from "./visits.mjs";
+import { Draw, examples, hazards, letter, shop } from "./visits.mjs";
 
 const inputs = (visit) => itemsOf(visit.lines()).filter((item) => item[1] === "input").length;
 
@@ -204,6 +204,37 @@ async function reloading({ browser, begin, withStack, tellWrong }) {
   });
 }
 
+// What a translation does to a page: each text is put into elements of its own, which no script has made.
+const TRANSLATE = `(() => {
+  const walker = document.createTreeWalker(document.body, NodeFilter.SHOW_TEXT);
+  const texts = [];
+  while (walker.nextNode()) { texts.push(walker.currentNode); }
+  for (const text of texts) {
+    if (text.data.trim() === "" || text.parentNode.closest("script, textarea, font")) { continue; }
+    const place = new DOMParser().parseFromString("<font><font></font></font>", "text/html").body.firstChild;
+    place.firstChild.append(text.data.toUpperCase());
+    text.replaceWith(place);
+  }
+})()`;
+
+// A translated page goes on where its script reads no text of the page, and ends where it tells one.
+async function translating({ browser, begin, withStack, tellWrong }) {
+  for (const [kind, isDue] of [[shop, true], [letter, true], [hazards, false]]) {
+    await withStack({ ...kind, isPlain: true }, async (stack, log) => {
+      const visit = await begin(browser, log, { ...kind, isPlain: true });
+      await visit.page.run(TRANSLATE);
+      const again = setInterval(() => visit.page.run(TRANSLATE).catch(() => {}), 100);
+      await (isDue ? kind.play(visit) : visit.page.click("shape"));
+      await (isDue ? visit.rest() : notice(visit));
+      clearInterval(again);
+      const line = done(visit);
+      tellWrong(`a translated page, ${kind.name}`, differs("the last line", line.endsWith(" ok"), isDue));
+      console.log(`a translated page: ${kind.name}: ${line.slice(0, 60)}`);
+      await visit.page.close();
+    });
+  }
+}
+
 const QUICK = [["wire.js", "BEAT = 240000", "BEAT = 1000"], ["recorder.js", "LOOK = 30000", "LOOK = 300"]];
 
 // A page that is only looked at says that it is seen.
@@ -219,7 +250,9 @@ async function beating({ browser, begin, withStack, tellWrong }) {
   }, QUICK);
 }
 
-export const inEach = { held, written, refusing, closing, ending, hanging, filling, reloading, beating };
+export const inEach = {
+  held, written, refusing, closing, ending, hanging, filling, reloading, translating, beating,
+};
 
 // A phone: the width of the window, and touches.
 async function phone({ browser, begin, withStack, tellWrong, into }) {

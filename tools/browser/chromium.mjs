@@ -47,6 +47,7 @@ export class Browser {
   constructor() {
     const words = ["-n", "5", "chromium", ...WORDS, `--user-data-dir=${this.#home}`];
     this.#process = spawn("nice", words, { stdio: ["ignore", "ignore", "ignore", "pipe", "pipe"] });
+    process.once("exit", () => this.#process.kill());
     this.#process.stdio[4].setEncoding("utf8").on("data", (data) => this.#read(data));
   }
 

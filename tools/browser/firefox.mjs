@@ -38,6 +38,7 @@ export class Firefox {
     writeFileSync(join(this.#home, "user.js"), lines.join("\n"));
     const words = ["-n", "5", "firefox-esr", "--headless", "--marionette", "--no-remote", "--profile", this.#home];
     this.#process = spawn("nice", words, { stdio: "ignore", env: { ...process.env, HOME: this.#home } });
+    process.once("exit", () => this.#process.kill());
     const told = join(this.#home, "MarionetteActivePort");
     const port = await until(() => existsSync(told) && Number(readFileSync(told, "utf8")), "Marionette's port", 60);
     this.#socket = connect(port, "127.0.0.1").on("data", (data) => this.#read(data));

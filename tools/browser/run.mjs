@@ -252,6 +252,10 @@ async function playIn(name, browser, known) {
   await browser.close();
 }
 
+// What was started ends with the run, also where it is broken off.
+process.setMaxListeners(0);
+for (const signal of ["SIGINT", "SIGTERM"]) { process.once(signal, () => process.exit(1)); }
+
 const engines = (words.engines ?? "chromium,firefox").split(",");
 if (engines.includes("chromium")) { await playIn("chromium", new Browser(), { ...parts, ...chromiumParts }); }
 if (engines.includes("firefox")) { await playIn("firefox", await new Firefox().start(), parts); }

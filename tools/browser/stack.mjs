@@ -51,6 +51,7 @@ export class Stack {
     const started = spawn(name, words, { stdio: ["ignore", into, "inherit"] });
     closeSync(into);
     this.#started.push(started);
+    process.once("exit", () => started.kill());
     await until(() => isThere(port), `${name} on port ${port}`);
     return started;
   }
