@@ -329,7 +329,7 @@ function heard(event) {
   const { type, target } = event;
   if (type === "submit" || isLink(event) || wire.isOver) { event.preventDefault(); }
   if (!isLoaded || inside > 0 || wire.isOver) { return; }
-  if (late !== null && !(type === "input" && target === late.control)) { tellLate(); }
+  if (late !== null && !staysLate(type, target)) { tellLate(); }
   if (!isReport(type, target)) {
     // What the input before took from the visitor's reach does not turn over.
     if (type === "click" && typeOf(target) === "checkbox") { event.preventDefault(); }
@@ -372,6 +372,11 @@ function wait(control) {
   if (late !== null) { return; }
   const rest = touched.get(control) + CLOSEST - performance.now();
   late = { control, timer: setTimeout(tellLate, rest) };
+}
+
+// Whether this is no more than what a step of the control that waits brings: an input, and a change that nobody hears.
+function staysLate(type, target) {
+  return target === late.control && (type === "input" || (type === "change" && !isHeard(type, target)));
 }
 
 function tellLate() {

@@ -176,14 +176,16 @@ export class Page {
     await this.ask("Input.dispatchKeyEvent", { ...key, type: "keyUp" });
   }
 
-  // Holds a key for so many repeats, thirty a second.
+  // Holds a key for so many repeats, thirty a second, whether the page is done with the one before or not.
   async hold(name, count) {
     const key = { key: name, code: name, windowsVirtualKeyCode: KEYS[name] };
     const begin = Date.now();
+    const presses = [];
     for (let at = 0; at < count; at++) {
-      await this.ask("Input.dispatchKeyEvent", { ...key, type: "rawKeyDown", autoRepeat: at > 0 });
+      presses.push(this.ask("Input.dispatchKeyEvent", { ...key, type: "rawKeyDown", autoRepeat: at > 0 }));
       await pause(begin + (at + 1) * 33 - Date.now());
     }
+    await Promise.all(presses);
     await this.ask("Input.dispatchKeyEvent", { ...key, type: "keyUp" });
   }
 

@@ -149,11 +149,14 @@ class Page {
 
   key(name) { return this.#act("keys", "key", key(KEYS[name] ?? name)); }
 
-  // Holds a key for so many repeats.
-  hold(name, count) {
+  // Holds a key for so many repeats, thirty a second.
+  async hold(name, count) {
     const value = KEYS[name] ?? name;
-    const press = { type: "keyDown", value };
-    return this.#act("keys", "key", [...Array(count).fill(press).flatMap((each) => [each, { type: "pause", duration: 33 }]), { type: "keyUp", value }]);
+    const step = [{ type: "keyDown", value }, { type: "pause", duration: 33 }];
+    for (let at = 0; at < count; at += 300) {
+      await this.#act("keys", "key", Array(Math.min(300, count - at)).fill(step).flat());
+    }
+    await this.#act("keys", "key", [{ type: "keyUp", value }]);
   }
 
   async type(id, text) {
