@@ -12,8 +12,8 @@ import { Wire } from "./wire.js";
 
 // The page's script may have names of its own for these.
 const {
-  Array, BigInt, Boolean, DOMException, Element, Node, WeakMap, WeakSet, clearTimeout, location, performance, reportError,
-  setInterval, setTimeout,
+  Array, BigInt, Boolean, DOMException, Element, Map, Math, Node, Number, Object, String, TypeError, WeakMap, WeakSet,
+  clearTimeout, location, performance, reportError, setInterval, setTimeout,
 } = window;
 
 const CONTROLS = ["button", "input", "select", "textarea"];
@@ -50,7 +50,8 @@ const listeners = new WeakMap();
 // Objects that look plain and are none to the server.
 const strange = new WeakSet();
 const silence = new Silence();
-// The controls that the visitor changed, with the moment of the last input that was told, and the one whose input waits.
+// The controls that the visitor changed, with the moment of the last input that was told or kept back, and the one whose
+// input waits.
 const touched = new Map();
 let late = null;
 let nodes = 0;
@@ -341,6 +342,8 @@ function heard(event) {
     note(type, target);
   } else if (isClose(type, target)) {
     wait(target);
+  } else if (late !== null) {
+    tellLate();
   } else if (tell(type, target)) {
     event.preventDefault();
   }
