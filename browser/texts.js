@@ -1,4 +1,4 @@
-// What a visitor reads, all of it: translate the texts of `TEXTS`, and nothing else of this folder.
+// What a visitor reads: to translate it, translate the texts of `TEXTS`, and title and `noscript` of index.html.
 
 export const TEXTS = {
   // While the page stands.
