@@ -12,6 +12,9 @@ import hashlib
 import sys
 from html.parser import HTMLParser
 
+# The policy of what is no document.
+NOTHING = "default-src 'none'; frame-ancestors 'none'"
+
 
 class Texts(HTMLParser):
     """The texts of the scripts and of the styles of a page."""
@@ -61,4 +64,4 @@ def policy(page):
 
 if __name__ == "__main__":
     with open(sys.argv[1], encoding="utf-8-sig", newline="") as file:
-        print(f'add_header Content-Security-Policy "{policy(file.read())}";')
+        print(f'map $uri $policy {{\n    /ripley/index.html "{policy(file.read())}";\n    default "{NOTHING}";\n}}')

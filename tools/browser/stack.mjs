@@ -121,8 +121,15 @@ export class Stack {
       ["/usr/share/ripley/browser", this.#recorder(changes)],
       ["127.0.0.1:8080", `127.0.0.1:${port}`],
       ["listen 80;", `listen 127.0.0.1:${PORT + 81};`],
+      ["listen [::]:80;", ""],
       ["listen 443", `listen 127.0.0.1:${SITE}`],
+      ["listen [::]:443 ssl http2;", ""],
+      ["/run/ripley/8080/openings", join(this.#home, "openings")],
       ["rate=60r/m", "rate=100r/s"],
+      ["rate=30r/m", "rate=100r/s"],
+      ["rate=20r/s", "rate=1000r/s"],
+      ["rate=50r/s", "rate=1000r/s"],
+      ["limit_conn at_work 4;", "limit_conn at_work 40;"],
     ]);
     const words = ["-c", file, "-e", join(this.#home, "log/error.log"), "-g", "daemon off;"];
     return this.#start("nginx", words, join(this.#home, "nginx.out"), SITE);
