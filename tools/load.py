@@ -7,9 +7,12 @@
 Client N draws from the seed `SEED + N`, and rests before each visit for up to REST milliseconds, as it draws. IDLE sessions
 are opened before, and stay: the manifest has to allow as many beside the connections, as that of `tools/load.json` does up to
 900. At the end it prints how many visits of each kind there were, the time of an answer, and the resident memory of the
-process in the second minute and in the last. The status is 0 only where each answer was the due one and the memory of the
-last minute is no more than a tenth above that of the second. A server keeps some 60 bytes of each session that ended, so that
-what is asked of it is still answered: with no rest thousands are opened in a second, and what is kept of them shows.
+process in the second minute and in the last. The status is 0 only where each answer was the due one and memory grew no more
+than it may:
+
+- where visitors rest, that of the last minute is at most a tenth above that of the second;
+- a storm of openings, with no rest, grows by at most 64 bytes for each session that was ever opened. The server keeps as
+  much of one that ended, so that what is asked of it is still answered.
 """
 
 import json
@@ -97,6 +100,19 @@ def resident(pid):
     return 0
 
 
+def grew(memory, seconds, rest, opened):
+    """Whether resident memory grew more than it may, by what it was at which time in KiB."""
+    second = max(kib for at, kib in memory if 60 <= at < 120)
+    last = max(kib for at, kib in memory if at >= seconds - 60)
+    print(f"resident in the second minute {second} KiB, in the last {last} KiB")
+    if rest:
+        print("visitors rest: the last may be a tenth above the second")
+        return last * 10 > second * 11
+    each = max(0, last - second) * 1024 / opened
+    print(f"a storm of {opened} openings: {each:.1f} bytes for each, of which 64 are allowed")
+    return each > 64
+
+
 def main():
     words = dict(word[2:].split("=", 1) for word in sys.argv[2:])
     seconds = int(words.get("seconds", 600))
@@ -120,13 +136,9 @@ def main():
     print(f"a lie was answered in {times[len(times) // 2] * 1000:.2f} ms, the slowest in {times[-1] * 1000:.2f} ms")
     for line in load.wrong[:10]:
         print(f"WRONG {line}")
-    grew = False
-    if memory and seconds >= 180:
-        second = max(kib for at, kib in memory if 60 <= at < 120)
-        last = max(kib for at, kib in memory if at >= seconds - 60)
-        grew = last * 10 > second * 11
-        print(f"resident in the second minute {second} KiB, in the last {last} KiB")
-    sys.exit(1 if load.wrong or grew else 0)
+    opened = load.counts["truthful"] + load.counts["lying"]
+    too_much = bool(memory) and seconds >= 180 and grew(memory, seconds, load.rest, opened)
+    sys.exit(1 if load.wrong or too_much else 0)
 
 
 if __name__ == "__main__":
