@@ -5,8 +5,8 @@
     tools/load.py 127.0.0.1:8080 --pid=$! [--seconds=600] [--connections=64] [--seed=1] [--rest=0] [--idle=0]
 
 Client N draws from the seed `SEED + N`, and rests before each visit for up to REST milliseconds, as it draws. IDLE sessions
-are opened before, and stay: the manifest has to allow as many beside the connections, as that of `tools/load.json` does up to
-900. At the end it prints how many visits of each kind there were, the time of an answer, and the resident memory of the
+are opened before, and stay: the manifest has to allow as many beside the connections, and that of `tools/load.json` allows
+1,019 in all. At the end it prints how many visits of each kind there were, the time of an answer, and the resident memory of the
 process in the second minute and in the last. The status is 0 only where each answer was the due one and memory grew no more
 than it may:
 
