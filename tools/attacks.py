@@ -572,7 +572,7 @@ def in_namespace() -> None:
         os.environ["RIPLEY_ATTACKS"] = "here"
         os.execvp("unshare", ["unshare", "--net", sys.executable, *sys.argv])
     subprocess.run(["ip", "link", "set", "lo", "up"], check=True)
-    subprocess.run(["ip", "-6", "route", "add", "local", "fd00:66::/64", "dev", "lo"], check=True)
+    subprocess.run(["ip", "-6", "route", "add", "local", "fd00:66::/64", "dev", "lo", "table", "local"], check=True)
 
 
 def main() -> None:
