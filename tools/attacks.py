@@ -32,6 +32,7 @@ sys.dont_write_bytecode = True
 sys.path.insert(0, str(TOP / "deploy"))
 follow = importlib.import_module("follow")
 
+FOLDER = "/dev/shm" if os.path.isdir("/dev/shm") else None
 ATTACKER, OTHER = "127.0.0.66", "127.0.0.9"
 LIMIT = 0.1
 
@@ -234,7 +235,8 @@ ATTACKS = {each.__name__: each for each in (openings, reports, slow, bodies, lon
 
 
 def attack(name: str, seconds: float, told: multiprocessing.Queue) -> None:
-    """Runs an attack in a process of its own."""
+    """Runs an attack in a process of its own, which takes no processor that the others want."""
+    os.nice(15)
 
     async def run() -> Crowd:
         crowd = Crowd(seconds)
@@ -402,7 +404,8 @@ class Attacks:
 
     @contextlib.contextmanager
     def site(self, page: str, app: str, *changes: tuple[str, str]):
-        home = pathlib.Path(tempfile.mkdtemp(prefix="ripley-attacks-"))
+        # In memory where it can be, so that no disk is waited for.
+        home = pathlib.Path(tempfile.mkdtemp(prefix="ripley-attacks-", dir=FOLDER))
         home.chmod(0o755)
         site = Site(self.ripley, home)
         try:
@@ -573,6 +576,7 @@ def in_namespace() -> None:
         os.execvp("unshare", ["unshare", "--net", sys.executable, *sys.argv])
     subprocess.run(["ip", "link", "set", "lo", "up"], check=True)
     subprocess.run(["ip", "-6", "route", "add", "local", "fd00:66::/64", "dev", "lo", "table", "local"], check=True)
+    pathlib.Path("/proc/sys/net/ipv6/ip_nonlocal_bind").write_text("1")
 
 
 def main() -> None:
