@@ -17,9 +17,9 @@ import sys
 
 TOP = pathlib.Path(__file__).resolve().parent.parent
 PACKAGES = "nginx openssl python3 logrotate curl haproxy prometheus python3-prometheus-client"
-SECTIONS = ["Once", "Several servers", "Watching"]
+SECTIONS = ["Once", "Watching", "Several servers"]
 
-# Looks behind the commands: a line of shell, and what it is to put.
+# Looks before several servers are behind nginx, and with them: a line of shell, and what it is to put.
 LOOKS = [
     ("systemctl is-active ripley@8080 ripley-idle@8080 ripley-anew@8080.path ripley-logs.timer nginx | uniq", "active"),
     ("stat -L -c '%a %U' /var/log/ripley /var/log/ripley/8080.log", "750 ripley\n640 ripley"),
@@ -48,6 +48,11 @@ LOOKS = [
     ("journalctl -q -p err -u 'ripley*' --no-pager | grep -v 'Main process exited\\|Failed with result'", ""),
     ("curl -s 'http://127.0.0.1:9090/api/v1/query?query=up' | grep -o '\"value\":.*\"1\"' | wc -l", "1"),
 ]
+LOOKS_AT_SEVERAL = [
+    ("systemctl is-active ripley@8082 ripley-idle@8082 ripley-anew@8082.path haproxy | uniq", "active"),
+    ("for each in 1 2 3 4; do curl -sk -o /dev/null -w '%{http_code} ' -H 'Ripley-Open: 1' https://localhost/; done", "200 200 200 200 "),
+    ("grep -c '^open' /var/log/ripley/8082.log", "2"),
+]
 
 SERVICE = """[Unit]
 Description=The commands
@@ -75,12 +80,10 @@ def commands() -> str:
     lines = ["#!/bin/bash", "cd /root/ripley", "install -m 755 crates/ripley/out/ripley /usr/local/bin/ripley",
              "export DEBIAN_FRONTEND=noninteractive HOME=/root"]
     for section in SECTIONS:
-        if section == "Watching":
-            lines += look(*LOOKS[0])
         for block in blocks(section):
             lines += [f"cat <<'BLOCK'\n== {section}\n{block}BLOCK", f"( set -e\n{block})", 'test $? = 0 || echo "WRONG status"']
-    for line, due in LOOKS:
-        lines += look(line, due)
+        for line, due in {"Watching": LOOKS, "Several servers": LOOKS_AT_SEVERAL}.get(section, []):
+            lines += look(line, due)
     return "\n".join(lines) + "\necho THE END\n"
 
 
