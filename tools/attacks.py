@@ -246,6 +246,17 @@ def attack(name: str, seconds: float, told: multiprocessing.Queue) -> None:
     told.put(dict(asyncio.run(run()).codes))
 
 
+async def opens(source: str, count: int) -> list[tuple[int, float, str]]:
+    """Opens sessions one after the other: the code of each answer, how long it took, and the identifier."""
+    client, got = Client(source), []
+    for _ in range(count):
+        start = time.monotonic()
+        answer = await client.ask(*OPENING)
+        got.append((answer.code, time.monotonic() - start, answer.fields.get("ripley-session", "")))
+    client.close()
+    return got
+
+
 class Visitor(threading.Thread):
     """The other address: a session that reports, new connections that open and close one, and the files."""
 
@@ -349,7 +360,16 @@ class Site:
         unit = self.text("ripley-idle@.service").replace("\\\n", " ")
         words = re.search(r"^ExecStart=(.*)$", unit, re.M)[1].split()
         with open(self.home / "idle.out", "ab") as file:
-            self.start(sys.executable, "-B", *words, *more, stdout=file, stderr=file)
+            self.follower = self.start(sys.executable, "-B", *words, *more, stdout=file, stderr=file)
+        until((self.home / "openings").exists, "close_idle.py listens")
+        (self.home / "openings").chmod(0o666)
+
+    def idle_anew(self, *more: str) -> None:
+        """Another close_idle.py in the place of the one that runs."""
+        self.follower.kill()
+        self.follower.wait()
+        (self.home / "openings").unlink()
+        self.idle(*more)
 
     def nginx(self, *changes: tuple[str, str]) -> None:
         conf = self.file("nginx.conf", *changes)
@@ -403,7 +423,7 @@ class Attacks:
         self.wrong: list[str] = []
 
     @contextlib.contextmanager
-    def site(self, page: str, app: str, *changes: tuple[str, str]):
+    def site(self, page: str, app: str, *changes: tuple[str, str], idle: tuple[str, ...] = ()):
         # In memory where it can be, so that no disk is waited for.
         home = pathlib.Path(tempfile.mkdtemp(prefix="ripley-attacks-", dir=FOLDER))
         home.chmod(0o755)
@@ -412,9 +432,7 @@ class Attacks:
             site.page(page, app)
             site.serve()
             until(lambda: answers(8080), "the server answers")
-            site.idle()
-            until((home / "openings").exists, "close_idle.py listens")
-            (home / "openings").chmod(0o666)
+            site.idle(*idle)
             site.nginx(*changes)
             until(lambda: answers(443), "nginx answers")
             yield site
@@ -452,14 +470,23 @@ class Attacks:
         return codes
 
     def openings(self) -> None:
+        """With a bound of 10 sessions, which the attacker meets soon."""
         with self.site(*self.shop) as site:
+            asyncio.run(opens(ATTACKER, 1))
+            site.idle_anew("--each=10")
             most: list[int] = []
-            watch = threading.Thread(target=lambda: most.extend((time.sleep(0.5), site.alive())[1] for _ in range(int(self.seconds * 2))))
+
+            def looks() -> None:
+                for _ in range(int(self.seconds * 2)):
+                    time.sleep(0.5)
+                    most.append(site.alive())
+
+            watch = threading.Thread(target=looks)
             watch.start()
             self.under("openings")
             watch.join()
-            print(f"  at most {max(most)} sessions were alive")
-            self.check(max(most) <= 60, "one address has 50 sessions or few more")
+            print(f"  {max(most)} sessions were alive at most, and {most[-1]} at the end")
+            self.check(max(most) <= 35 and most[-1] <= 15, "one address has 10 sessions, and for a second those that it opens")
 
     def reports(self) -> None:
         with self.site(*self.shop) as site:
@@ -514,11 +541,8 @@ def fields(attacks: Attacks) -> None:
 def rotation(attacks: Attacks) -> None:
     """logrotate cuts the log while visitors report; no line is lost, and what is silent is closed after it."""
     with attacks.site(*attacks.shop) as site:
-        site.started[1].terminate()
-        (site.home / "openings").unlink()
-        site.idle("--seconds=4")
+        site.idle_anew("--seconds=4")
         conf, state = site.file("logrotate.conf", ("size 100M", "size 1k")), site.home / "state/state"
-        until((site.home / "openings").exists, "close_idle.py listens")
         visitor = Visitor(8)
         visitor.start()
         for _ in range(4):
@@ -527,10 +551,7 @@ def rotation(attacks: Attacks) -> None:
         visitor.join()
         attacks.check(not visitor.wrong, f"the log is rotated: the other is served within 100 ms {visitor.wrong[:5] or ''}")
 
-        async def forgets() -> str:
-            return (await Client(OTHER).ask(*OPENING)).fields["ripley-session"]
-
-        name = asyncio.run(forgets())
+        name = asyncio.run(opens(OTHER, 1))[0][2]
         until(lambda: site.alive() == 0, "the silent session is closed after a rotation", 8)
         lines = [line.decode() for line in site.lines()]
         turns = [int(line.split()[1]) for line in lines]
@@ -550,23 +571,38 @@ def several(attacks: Attacks) -> None:
         site.start("haproxy", "-f", site.file("haproxy.cfg"), stderr=subprocess.DEVNULL)
         until(lambda: answers(8090), "HAProxy answers")
 
-        async def opens(count: int) -> list[tuple[int, float]]:
-            client, got = Client(OTHER), []
-            for _ in range(count):
-                start = time.monotonic()
-                got.append(((await client.ask(*OPENING)).code, time.monotonic() - start))
-            return got
-
-        got = asyncio.run(opens(10))
+        got = asyncio.run(opens(OTHER, 10))
         here = sum(line.startswith(b"open ") for line in site.lines(8082))
-        attacks.check([code for code, _ in got] == [200] * 10 and here == 3, f"a server that is full is passed over: {here} of 10 are its own")
+        attacks.check([code for code, _, _ in got] == [200] * 10 and here == 3, f"a server that is full is passed over: {here} of 10 are its own")
         second.send_signal(signal.SIGSTOP)
         time.sleep(7)
-        got = asyncio.run(opens(10))
-        attacks.check(all(code == 200 and taken < LIMIT for code, taken in got), f"a server that stands still is taken out {got[:3]}")
+        got = asyncio.run(opens(OTHER, 10))
+        attacks.check(all(code == 200 and taken < LIMIT for code, taken, _ in got), f"a server that stands still is taken out {got[:3]}")
 
 
-PARTS = ["openings", "reports", "slow", "bodies", "long", "networks", "fields", "rotation", "several"]
+def full(attacks: Attacks) -> None:
+    """Twelve addresses fill a server that may have 100 sessions: room is made at their cost."""
+    page, app = attacks.shop
+    manifest = json.loads(app)
+    manifest["limits"]["sessions"] = 100
+    with attacks.site(page, json.dumps(manifest)) as site:
+        async def fills() -> tuple[str, list[int]]:
+            name = (await opens(OTHER, 1))[0][2]
+            got = await asyncio.gather(*(opens(f"127.0.0.{number}", 20) for number in range(70, 82)))
+            return name, [code for each in got for code, _, _ in each]
+
+        name, codes = asyncio.run(fills())
+        attacks.check(codes.count(503) > 0, f"the server was full for a moment: {codes.count(200)} of {len(codes)} were opened")
+        until(lambda: site.alive() <= 90, "room is made", 5)
+
+        async def goes_on() -> list[int]:
+            client = Client(OTHER)
+            return [(await client.ask("POST", f"/e/{name}", batch(1))).code, (await client.ask(*OPENING)).code]
+
+        attacks.check(asyncio.run(goes_on()) == [200, 200], "the other goes on, and opens another session")
+
+
+PARTS = ["openings", "reports", "slow", "bodies", "long", "networks", "fields", "rotation", "full", "several"]
 
 
 def in_namespace() -> None:

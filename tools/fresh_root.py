@@ -50,7 +50,7 @@ LOOKS = [
 ]
 LOOKS_AT_SEVERAL = [
     ("systemctl is-active ripley@8082 ripley-idle@8082 ripley-anew@8082.path haproxy | uniq", "active"),
-    ("for each in 1 2 3 4; do curl -sk -o /dev/null -w '%{http_code} ' -H 'Ripley-Open: 1' https://localhost/; done", "200 200 200 200 "),
+    ("sleep 2; for each in 1 2 3 4; do curl -sk -o /dev/null -w '%{http_code} ' -H 'Ripley-Open: 1' https://localhost/; done", "200 200 200 200 "),
     ("grep -c '^open' /var/log/ripley/8082.log", "2"),
 ]
 
