@@ -3,9 +3,10 @@
 
     tools/attacks.py RIPLEY [--page=examples/shop] [--seconds=15] [--parts=openings,reports,..]
 
-It runs as root, in a network namespace of its own, with Debian's nginx, haproxy, logrotate and openssl. nginx, HAProxy,
-close_idle.py and logrotate run by the files of deploy/, of which paths alone are changed. Each attack lasts SECONDS. The
-status is 0 only where each request of the other address had its due answer within 100 ms, and each bound held.
+It runs as root, in a network namespace of its own, with Debian's nginx, haproxy, logrotate, nftables
+and openssl. nginx, HAProxy, close_idle.py and logrotate run by the files of deploy/, of which paths alone are changed.
+Each attack lasts SECONDS. The status is 0 only where each request of the other address had its due answer within 100 ms,
+and each bound held.
 """
 
 import asyncio
@@ -17,8 +18,10 @@ import multiprocessing
 import os
 import pathlib
 import re
+import resource
 import shutil
 import signal
+import socket
 import ssl
 import statistics
 import subprocess
@@ -184,6 +187,34 @@ async def slow(crowd: Crowd, source: str) -> None:
     await asyncio.gather(*(holds(number) for number in range(1500)))
 
 
+def is_held(one: socket.socket) -> bool:
+    """Whether a connection stands, over which nothing came."""
+    try:
+        one.recv(1)
+    except BlockingIOError:
+        return True
+    except OSError:
+        pass
+    return False
+
+
+async def many(crowd: Crowd, source: str) -> None:
+    """Opens up to 5,000 connections that say nothing, and others for those that are refused or shut."""
+    held: list[socket.socket] = []
+    while crowd.is_on:
+        for _ in range(500 if len(held) < 5000 else 0):
+            one = socket.socket()
+            one.setblocking(False)
+            one.bind((source, 0))
+            one.connect_ex(("127.0.0.1", 443))
+            held.append(one)
+        await asyncio.sleep(0.2)
+        standing = [one for one in held if is_held(one)]
+        crowd.codes["shut or refused"] += len(held) - len(standing)
+        crowd.codes["held at most"] = max(crowd.codes["held at most"], len(standing))
+        held = standing
+
+
 async def bodies(crowd: Crowd, source: str) -> None:
     """Holds 200 requests by half a body each."""
 
@@ -231,7 +262,7 @@ async def networks(crowd: Crowd, source: str) -> None:
     await asyncio.gather(*(opens(number) for number in range(1, 201)))
 
 
-ATTACKS = {each.__name__: each for each in (openings, reports, slow, bodies, long, networks)}
+ATTACKS = {each.__name__: each for each in (openings, reports, slow, many, bodies, long, networks)}
 
 
 def attack(name: str, seconds: float, told: multiprocessing.Queue) -> None:
@@ -498,6 +529,13 @@ class Attacks:
         with self.site(*self.shop):
             self.under("slow", self.seconds + 15)
 
+    def many(self) -> None:
+        """With the rules of deploy/nftables.conf."""
+        subprocess.run(["nft", "-f", TOP / "deploy/nftables.conf"], check=True)
+        with self.site(*self.shop):
+            self.check(self.under("many").get("held at most", 0) <= 100, "one address has 100 connections")
+        subprocess.run(["nft", "flush", "ruleset"], check=True)
+
     def bodies(self) -> None:
         with self.site(*self.shop):
             self.under("bodies")
@@ -602,7 +640,7 @@ def full(attacks: Attacks) -> None:
         attacks.check(asyncio.run(goes_on()) == [200, 200], "the other goes on, and opens another session")
 
 
-PARTS = ["openings", "reports", "slow", "bodies", "long", "networks", "fields", "rotation", "full", "several"]
+PARTS = ["openings", "reports", "slow", "many", "bodies", "long", "networks", "fields", "rotation", "full", "several"]
 
 
 def in_namespace() -> None:
@@ -613,6 +651,7 @@ def in_namespace() -> None:
     subprocess.run(["ip", "link", "set", "lo", "up"], check=True)
     subprocess.run(["ip", "-6", "route", "add", "local", "fd00:66::/64", "dev", "lo", "table", "local"], check=True)
     pathlib.Path("/proc/sys/net/ipv6/ip_nonlocal_bind").write_text("1")
+    resource.setrlimit(resource.RLIMIT_NOFILE, (16384, 16384))
 
 
 def main() -> None:

@@ -16,8 +16,8 @@ import subprocess
 import sys
 
 TOP = pathlib.Path(__file__).resolve().parent.parent
-PACKAGES = "nginx openssl python3 logrotate curl haproxy prometheus python3-prometheus-client"
-SECTIONS = ["Once", "Watching", "Several servers"]
+PACKAGES = "nginx openssl python3 logrotate curl nftables haproxy prometheus python3-prometheus-client"
+SECTIONS = ["Once", "What one visitor can take", "Watching", "Several servers"]
 
 # Looks before several servers are behind nginx, and with them: a line of shell, and what it is to put.
 LOOKS = [
@@ -29,6 +29,7 @@ LOOKS = [
     ("for unit in ripley@8080 ripley-idle@8080 ripley-metrics@8080 ripley-logs; do systemd-analyze security --no-pager "
      "--threshold=25 $unit.service > /dev/null || echo $unit is exposed; done", ""),
     ("systemctl start ripley-logs && echo rotated", "rotated"),
+    ("nft list ruleset | grep -c 'ct count over 100'", "2"),
     # A visitor, and what close_idle.py and the metrics know of it.
     ("id=$(curl -sk -D - -o /dev/null -H 'Ripley-Open: 1' https://localhost/ | tr -d '\\r' | sed -n 's/^ripley-session: //p'); sleep 3; "
      "curl -sk --data-binary '{\"batch\":1,\"items\":[]}' https://localhost/e/$id | cut -c 1-10", '{"batch":1'),
