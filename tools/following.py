@@ -1,5 +1,6 @@
 #!/usr/bin/env python3
-"""Tries deploy/follow.py: logs that grow, are rotated at any place, are cut off, and give way to another run.
+"""Tries deploy/follow.py and close_idle.py: logs that grow, are rotated at any place, are cut off, and give way to another
+run; and which sessions are closed.
 
     tools/following.py [--seed=1] [--rounds=100]
 
@@ -16,7 +17,7 @@ import tempfile
 
 sys.dont_write_bytecode = True
 sys.path.insert(0, os.path.join(os.path.dirname(os.path.dirname(os.path.abspath(__file__))), "deploy"))
-follow, cut_log = importlib.import_module("follow"), importlib.import_module("cut_log")
+follow, cut_log, close_idle = map(importlib.import_module, ["follow", "cut_log", "close_idle"])
 
 # The writer is this process, which does not write while it cuts.
 cut_log.writers = lambda log: []
@@ -92,6 +93,32 @@ def another_run(folder: str) -> None:
     follow.Log(os.path.join(folder, "nowhere")).read()
 
 
+def closings(folder: str) -> None:
+    """Of ten sessions the silent ones are closed, then the longest silent of an address that has more than three, then
+    those of the address that has the most where more than nine tenths of those that may be are alive."""
+    path = os.path.join(folder, "log")
+    names = [f"{number:08x}-0000-4000-8000-000000000000" for number in range(11)]
+
+    def told(*lines: str) -> None:
+        with open(path, "a") as file:
+            file.writelines(line + "\n" for line in lines)
+
+    openings = close_idle.Openings(None)
+    openings.known = {names[number]: ("a" if number < 6 else "b" if number < 9 else "c", 0.0) for number in range(1, 11)}
+    told(*(f"open {number} {number} {names[number]} 1 2" for number in range(1, 11)))
+    watch = close_idle.Watch(follow.Log(path), openings, 900, 1000, 3)
+    watch.read(0.0)
+    assert [number for number, _ in watch.due(1.0)] == [1, 2], "an address has more than three"
+    told("batch 11 1 1 []", "done 11 1 1 ok", "close 12 3", "batch 13 4 1 []", "done 13 4 1 report 1 due")
+    watch.read(500.0)
+    assert watch.due(501.0) == [], "three are left"
+    assert [number for number, _ in watch.due(901.0)] == [2, 5, 6, 7, 8, 9, 10], "all but the first are silent"
+    watch.nearly = 5
+    assert [number for number, _ in watch.due(600.0)] == [2, 6, 5], "more than five are alive"
+    told("end 14 0")
+    watch.read(601.0)
+
+
 # In memory where it can be: each cut waits for the disk.
 FOLDER = "/dev/shm" if os.path.isdir("/dev/shm") else None
 
@@ -101,10 +128,12 @@ def main() -> None:
     seed = int(words.get("seed", 1))
     with tempfile.TemporaryDirectory(dir=FOLDER) as folder:
         another_run(folder)
+    with tempfile.TemporaryDirectory(dir=FOLDER) as folder:
+        closings(folder)
     for run in range(int(words.get("rounds", 100))):
         with tempfile.TemporaryDirectory(dir=FOLDER) as folder:
             round_of(random.Random(seed + run), folder, run)
-    print(f"seed {seed}: each line came once")
+    print(f"seed {seed}: each line came once, and sessions are closed as they are to be")
 
 
 if __name__ == "__main__":
