@@ -47,7 +47,7 @@ LOOKS = [
     ("id=$(curl -sk -D - -o /dev/null -H 'Ripley-Open: 1' https://localhost/ | tr -d '\\r' | sed -n 's/^ripley-session: //p'); sleep 2; "
      "cat /var/log/nginx/*.log | grep -c $id", "0"),
     ("journalctl -q -p err -u 'ripley*' --no-pager | grep -v 'Main process exited\\|Failed with result'", ""),
-    ("curl -s 'http://127.0.0.1:9090/api/v1/query?query=up' | grep -o '\"value\":.*\"1\"' | wc -l", "1"),
+    ("sleep 20; curl -s 'http://127.0.0.1:9090/api/v1/query?query=up' | grep -o '\"value\":.*\"1\"' | wc -l", "1"),
 ]
 LOOKS_AT_SEVERAL = [
     ("systemctl is-active ripley@8082 ripley-idle@8082 ripley-anew@8082.path haproxy | uniq", "active"),
