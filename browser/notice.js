@@ -68,6 +68,8 @@ export function putBack() {
   if (isShown && !place.isConnected) { document.documentElement?.append(place); }
 }
 
+export const isNotice = (node) => node === place;
+
 // The page takes no more input.
 export function freeze() {
   for (const part of document.documentElement?.children ?? []) {

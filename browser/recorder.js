@@ -4,7 +4,7 @@
 // The server finds the same calls on a document of its own, so what a script can see here is to be what it sees there:
 // the events of the flow below, on listeners that are kept here and not by the browser.
 import { Refusal, written } from "./data.js";
-import { freeze, hide, putBack, show, takeAway } from "./notice.js";
+import { freeze, hide, isNotice, putBack, show, takeAway } from "./notice.js";
 import { Silence } from "./silence.js";
 import { TEXTS, isOffered, textOfEnd } from "./texts.js";
 import { putIn, take, textsOf, typedIn } from "./typed.js";
@@ -327,13 +327,14 @@ function isHeard(type, target) {
 
 // An event of the browser: where it is one that the server can be told, it is reported and flows.
 function heard(event) {
-  const { type, target } = event;
+  const { type } = event;
+  const target = placeOf(event.target);
   if (type === "submit" || isLink(event) || wire.isOver) { event.preventDefault(); }
   if (!isLoaded || inside > 0 || wire.isOver) { return; }
   if (late !== null && !staysLate(type, target)) { tellLate(); }
   if (!isReport(type, target)) {
     // What the input before took from the visitor's reach does not turn over.
-    if (type === "click" && typeOf(target) === "checkbox") { event.preventDefault(); }
+    if (type === "click" && target !== null && typeOf(target) === "checkbox") { event.preventDefault(); }
     return;
   }
   if (type === "input") { cut(target); }
@@ -347,6 +348,14 @@ function heard(event) {
   } else if (tell(type, target)) {
     event.preventDefault();
   }
+}
+
+// Where an event happened. What a translation or an add-on put into the page has no number: an event there is one of what
+// it stands in, and one at the notice is none of the page.
+function placeOf(node) {
+  let place = node;
+  while (place instanceof Element && !numbers.has(place)) { place = isNotice(place) ? null : place.parentNode; }
+  return place;
 }
 
 // Reports an event and lets it flow: whether a listener prevented the default.

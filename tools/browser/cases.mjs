@@ -211,7 +211,7 @@ const TRANSLATE = `(() => {
   while (walker.nextNode()) { texts.push(walker.currentNode); }
   for (const text of texts) {
     if (text.data.trim() === "" || text.parentNode.closest("script, textarea, font")) { continue; }
-    const place = new DOMParser().parseFromString("<font><font></font></font>", "text/html").body.firstChild;
+    const place = new DOMParser().parseFromString("<font><font></font></font>", "text/html").querySelector("font");
     place.firstChild.append(text.data.toUpperCase());
     text.replaceWith(place);
   }
