@@ -18,7 +18,7 @@ import { Browser, pause, until } from "./chromium.mjs";
 import { Firefox } from "./firefox.mjs";
 import { lies, refusals, tell } from "./lies.mjs";
 import { Stack, itemsOf, ports, servedOf, site } from "./stack.mjs";
-import { replays } from "./traces.mjs";
+import { loudItems, replays } from "./traces.mjs";
 import { Draw, Visit, examples, hazards, shop } from "./visits.mjs";
 
 const words = Object.fromEntries(process.argv.slice(3).map((word) => word.slice(2).split("=", 2)));
@@ -81,7 +81,7 @@ async function playAll(browser, kinds) {
       await visit.leave();
       const all = [visit];
       for (let number = 1; number <= visits; number++) { all.push(await randomVisit(browser, log, kind, number)); }
-      const loud = new Map(all.filter((each) => each.loud !== null).map((each) => [each.session, each.loud]));
+      const loud = new Map(all.filter(({ told }) => told !== null).map(({ session, told }) => [session, loudItems(told)]));
       const found = replays(ripley, home, log, loud);
       tellWrong(`${kind.name}, replayed`, found.wrong);
       console.log(`${kind.name}: ${all.length} visits, ${found.calls} calls, ${found.items} items, ${found.loud} without silence`);

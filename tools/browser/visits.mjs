@@ -1,6 +1,5 @@
 // The visits of the examples: gestures of a visitor.
 import { isEnded, servedOf } from "./stack.mjs";
-import { loudItems } from "./traces.mjs";
 import { pause, until } from "./chromium.mjs";
 
 // Numbers from a seed: those of seeds that are near each other have nothing in common.
@@ -24,7 +23,8 @@ export class Draw {
 export class Visit {
   session = null;
   numbers = {};
-  loud = null;
+  // What the try saw of the recorder, where nothing was wrong.
+  told = null;
 
   constructor(page, log, kind) {
     this.page = page;
@@ -65,7 +65,7 @@ export class Visit {
     if (isEnded(this.lines())) { wrong.push(`the session has ended: ${this.lines().at(-1)}`); }
     if (!this.kind.isPlain && !servedOf(this.lines()).some(({ name }) => name === "mirror")) { wrong.push("no mirror"); }
     if (!this.kind.isLoud) { wrong.push(...this.page.errors, ...seen.errors); }
-    if (wrong.length === 0) { this.loud = loudItems(seen); }
+    if (wrong.length === 0) { this.told = seen; }
     return wrong;
   }
 
