@@ -7,7 +7,7 @@ import { Refusal, written } from "./data.js";
 import { freeze, hide, isNotice, putBack, show, takeAway } from "./notice.js";
 import { Silence } from "./silence.js";
 import { TEXTS, isOffered, textOfEnd } from "./texts.js";
-import { putIn, take, textsOf, typedIn } from "./typed.js";
+import { canTake, putIn, take, textsOf, typedIn } from "./typed.js";
 import { Wire } from "./wire.js";
 
 // The page's script may have names of its own for these.
@@ -482,7 +482,7 @@ function ended(reason) {
   freeze();
   const controls = [...touched.keys()].filter((control) => control.isConnected);
   const typed = typedIn(controls, numbers);
-  const isOffer = typed.length > 0 && isOffered(reason);
+  const isOffer = typed.length > 0 && isOffered(reason) && canTake();
   show(typed.length > 0 ? `${textOfEnd(reason)} ${TEXTS.kept}` : textOfEnd(reason), {
     reason,
     kept: textsOf(typed),
@@ -497,7 +497,7 @@ function ended(reason) {
 // Types anew what the visitor took along from the session before.
 function putTyped() {
   const left = putIn(document, numbers, (control) => !wire.isOver && isReport("input", control));
-  if (left.length > 0 && !wire.isOver) { show(TEXTS.left, { kept: textsOf(left) }); }
+  if (left.length > 0 && !wire.isOver) { show(TEXTS.left, { kept: textsOf(left), offer: hide, offered: TEXTS.close }); }
 }
 
 function silent(isSilent) {

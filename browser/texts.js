@@ -25,6 +25,7 @@ export const TEXTS = {
   kept: "What you typed is kept for you to copy.",
   copy: "Copy",
   copied: "Copied",
+  close: "Close",
   again: "Load again",
   againWith: "Load again, with what you typed",
 };

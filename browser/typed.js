@@ -2,9 +2,21 @@
 // is typed anew.
 
 // The page's script may have names of its own for these.
-const { Event, JSON, sessionStorage } = globalThis;
+const { Event, JSON } = globalThis;
 
 const PLACE = "ripley-typed";
+const store = found();
+
+// What a tab keeps, or null where the visitor lets no page keep anything.
+function found() {
+  try {
+    return globalThis.sessionStorage ?? null;
+  } catch {
+    return null;
+  }
+}
+
+export const canTake = () => store !== null;
 
 // What stands in these controls, but for passwords: the control's id and number, by which it is found again, its label and
 // its value.
@@ -24,12 +36,12 @@ export function textsOf(typed) {
   return typed.map(({ label, value }) => (label === "" ? value : `${label}: ${value}`)).join("\n");
 }
 
-export function take(typed) { sessionStorage.setItem(PLACE, JSON.stringify(typed)); }
+export function take(typed) { store.setItem(PLACE, JSON.stringify(typed)); }
 
 // Types what was taken along into the controls of a new page that can have it, as events of the visitor: what is left.
 export function putIn(document, numbers, isFit) {
-  const typed = JSON.parse(sessionStorage.getItem(PLACE) ?? "[]");
-  sessionStorage.removeItem(PLACE);
+  const typed = JSON.parse(store?.getItem(PLACE) ?? "[]");
+  store?.removeItem(PLACE);
   return typed.filter(({ id, number, name, value }) => {
     const isOne = (control) => (id === "" ? numbers.get(control) === number : control.id === id);
     const control = [...document.querySelectorAll(name)].find(isOne);

@@ -204,6 +204,26 @@ async function reloading({ browser, begin, withStack, tellWrong }) {
   });
 }
 
+const STRAY = [{ id: "nowhere", number: 0, name: "input", label: "Elsewhere", value: "a text" }];
+
+// What was taken along and finds no control is shown, and the visit goes on.
+async function leaving({ browser, begin, withStack, tellWrong }) {
+  await withStack(shop, async (stack, log) => {
+    const visit = await begin(browser, log, shop);
+    await visit.page.run(`sessionStorage.setItem("ripley-typed", ${JSON.stringify(JSON.stringify(STRAY))})`);
+    await visit.page.run("void setTimeout(() => location.reload())");
+    await until(async () => ![null, undefined, visit.session].includes((await visit.seen())?.session), "the new session");
+    await visit.open(null);
+    const told = await notice(visit);
+    const kept = await visit.page.run(`${panel}.querySelector("textarea").value`);
+    await visit.page.clickOn(`${panel}.querySelectorAll("button")[1]`);
+    await shop.play(visit);
+    tellWrong("what finds no control", [...differs("what is kept", kept, "Elsewhere: a text"), ...await visit.compare()]);
+    console.log(`what finds no control: '${told}'`);
+    await visit.leave();
+  });
+}
+
 // What a translation does to a page: each text is put into elements of its own, which no script has made.
 const TRANSLATE = `(() => {
   const walker = document.createTreeWalker(document.body, NodeFilter.SHOW_TEXT);
@@ -251,7 +271,7 @@ async function beating({ browser, begin, withStack, tellWrong }) {
 }
 
 export const inEach = {
-  held, written, refusing, closing, ending, hanging, filling, reloading, translating, beating,
+  held, written, refusing, closing, ending, hanging, filling, reloading, leaving, translating, beating,
 };
 
 // A phone: the width of the window, and touches.

@@ -1,4 +1,4 @@
-// Tests of browser/data.js and browser/silence.js.
+// Tests of browser/data.js, browser/silence.js and browser/typed.js.
 //
 //   node --test tools/browser/data_test.mjs
 import assert from "node:assert/strict";
@@ -48,6 +48,19 @@ for (const [what, list, reason] of [
 ]) {
   test(`no data: ${what}`, () => assert.throws(() => json(list), (error) => error instanceof Refusal && error.reason === reason));
 }
+
+test("where a page may keep nothing, nothing is taken along", async () => {
+  const get = () => { throw new Error("SecurityError"); };
+  Object.defineProperty(globalThis, "sessionStorage", { get, configurable: true });
+  const { canTake, putIn, textsOf, typedIn } = await import("../../browser/typed.js");
+  assert.equal(canTake(), false);
+  assert.deepEqual(putIn({}, new WeakMap(), () => true), []);
+  const named = { id: "a", localName: "input", value: "Ann", labels: [{ textContent: " Your name: " }] };
+  const secret = { id: "b", localName: "input", type: "password", value: "x" };
+  const typed = typedIn([named, secret, { localName: "textarea", value: "" }], new WeakMap([[named, 5]]));
+  assert.deepEqual(typed, [{ id: "a", number: 5, name: "input", label: "Your name", value: "Ann" }]);
+  assert.equal(textsOf(typed), "Your name: Ann");
+});
 
 test("of each control the last state is kept, and of a checkbox whether it is turned over", () => {
   const silence = new Silence();

@@ -246,7 +246,7 @@ async function playIn(name, browser, known) {
   for (const part of (words.parts ?? Object.keys(known).join(",")).split(",")) {
     if (!(part in known)) { continue; }
     const begun = Date.now();
-    await known[part](browser);
+    await known[part](browser).catch((error) => tellWrong(part, [error.stack]));
     console.log(`${name} ${part}: ${Math.round((Date.now() - begun) / 1000)} s`);
   }
   await browser.close();

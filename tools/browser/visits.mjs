@@ -191,7 +191,7 @@ export const letter = {
     await page.key("Tab");
     await page.key("ArrowDown");
     await page.click("send");
-    await until(async () => (await page.text("told")).startsWith("Sent"), "the reply");
+    await until(async () => /sent/i.test(await page.text("told")), "the reply");
   },
 
   async gesture(page, draw) {
