@@ -31,6 +31,7 @@ mod journal;
 mod link;
 mod outside;
 mod random_words;
+mod requests;
 mod sink;
 mod sockets;
 

@@ -1,6 +1,7 @@
 //! One connection of the TCP door.
 ghost use Rattle.std.specs.Prelude.{◌≤◌, length, vec_len, IfSome};
 
+use crate::requests::Requests;
 use mio::event::Event;
 use mio::net::TcpStream;
 use std::alloc::Global;
@@ -14,10 +15,11 @@ const MAX_WAITING: usize = 4_194_304;
 const MAX_THROWN: u32 = 256;
 
 /// A connection with its number. Readiness is noted as the system reports it, at each change, and holds until a call
-/// would block.
+/// would block. `active` is the time of its last read or write, by whatever clock its owner has.
 #[derive(Drop)]
 pub struct Link {
     pub number: u64,
+    pub active: u64,
     alloc: Global,
     stream: TcpStream,
     waiting: Vec<u8>,
@@ -27,6 +29,7 @@ pub struct Link {
     is_broken: bool,
     is_ending: bool,
     thrown: u32,
+    requests: Requests,
     ghost within: { written ≤ vec_len waiting },
 }
 
@@ -45,9 +48,10 @@ pub enum Piece {
 
 impl Link {
     /// A connection that was just accepted.
-    pub fn new(alloc: Global, number: u64, stream: TcpStream) -> Link {
+    pub fn new(alloc: Global, number: u64, active: u64, stream: TcpStream) -> Link {
         Link {
             number,
+            active,
             alloc,
             stream,
             waiting: Vec::new(alloc),
@@ -57,6 +61,7 @@ impl Link {
             is_broken: false,
             is_ending: false,
             thrown: 0,
+            requests: Requests::new(),
         }
     }
 
@@ -75,15 +80,34 @@ impl Link {
         self.written < self.waiting.len()
     }
 
+    /// Whether an answer may be owed to it, or something of it is still to be read.
+    pub fn is_owed(&self) -> bool {
+        self.is_ready() || self.requests.are_open()
+    }
+
+    /// No answer is owed to it.
+    pub fn settle(&mut self) {
+        self.requests.settle();
+    }
+
+    /// Notes bytes that were read from it.
+    pub fn hear(&mut self, bytes: &[u8], now: u64) {
+        self.active = now;
+        self.requests.hear(bytes);
+    }
+
     /// Notes what was reported, and goes on writing where the connection may be written to.
-    pub fn note(&mut self, event: &Event) {
+    pub fn note(&mut self, event: &Event, now: u64) {
         self.is_readable = self.is_readable || event.is_readable() || event.is_error();
         self.is_closing = self.is_closing || event.is_read_closed() || event.is_error();
         if self.is_closing {
             self.is_readable = true;
         }
-        if event.is_writable() && self.has_waiting() && !self.flush() {
-            self.is_broken = true;
+        if event.is_writable() && self.has_waiting() {
+            self.active = now;
+            if !self.flush() {
+                self.is_broken = true;
+            }
         }
     }
 
@@ -109,8 +133,10 @@ impl Link {
         }
     }
 
-    /// Sends the bytes: those that the system doesn't take wait. False where the connection failed, or too many wait.
-    pub fn send(&mut self, bytes: &[u8]) -> bool {
+    /// Sends an answer: the bytes that the system doesn't take wait. False where the connection failed, or too many wait.
+    pub fn send(&mut self, bytes: &[u8], now: u64) -> bool {
+        self.active = now;
+        self.requests.answer();
         if self.has_waiting() {
             return self.waiting.len() - self.written <= MAX_WAITING && self.keep(bytes);
         }

@@ -2,7 +2,7 @@
 ghost use Rattle.std.specs.Prelude.{◌<◌, length, IfSome};
 
 use crate::link::{Link, Piece};
-use mio::net::TcpListener;
+use mio::net::{TcpListener, TcpStream};
 use mio::{Events, Interest, Poll, Token};
 use rip_outer::Knock;
 use std::alloc::Global;
@@ -17,8 +17,12 @@ const LISTENER: Token = Token(usize::MAX);
 /// The most events of one wait, and the most connections that were shut of which the rest is thrown away.
 const MOST: usize = 128;
 
+/// The most connections that a server has: of one more it shuts the newest.
+const MOST_LINKS: usize = 64;
+
 /// A listener and its connections. Each has its seat; the listener's is 0. The seats are served in turn, each one read
-/// or one acceptance, and before each round the system is asked what has come.
+/// or one acceptance, and before each round the system is asked what has come. Where one more connection comes than a
+/// server has, the longest idle one goes first, and the new one waits for that in `coming`. Time is counted in knocks.
 #[derive(Drop)]
 pub struct Sockets {
     alloc: Global,
@@ -28,7 +32,10 @@ pub struct Sockets {
     is_accepting: bool,
     links: Vec<Link>,
     leaving: Vec<Link>,
+    coming: Option<TcpStream>,
     seat: usize,
+    now: u64,
+    failure: Option<io::Error>,
 }
 
 impl Sockets {
@@ -46,7 +53,10 @@ impl Sockets {
             is_accepting: true,
             links: Vec::new(alloc),
             leaving: Vec::new(alloc),
+            coming: None,
             seat: 0,
+            now: 0,
+            failure: None,
         })
     }
 
@@ -55,8 +65,22 @@ impl Sockets {
         self.listener.local_addr().ok()
     }
 
+    /// Why the outside failed last.
+    pub fn failure(&self) -> Option<io::Error> {
+        self.failure
+    }
+
     /// What came; the next connection gets this number. It waits where nothing came, unless `busy` is true.
     pub fn knock(&mut self, room: &mut [u8; 4096], busy: bool, number: u64) -> Knock {
+        self.now = self.now.saturating_add(1);
+        if !busy {
+            settle(&mut self.links);
+        }
+        if let Some(stream) = self.coming.take()
+            && let Some(knock) = self.seat_of(number, stream)
+        {
+            return knock;
+        }
         for waits in 0..u64::MAX {
             if let Some(knock) = self.serve_round(room, number) {
                 return knock;
@@ -64,11 +88,17 @@ impl Sockets {
             if busy && waits > 0 {
                 return Knock::Quiet;
             }
-            if self.wait(busy).is_err() {
-                return Knock::Failed;
+            if let Err(error) = self.wait(busy) {
+                return self.fail(error);
             }
         }
         Knock::Quiet
+    }
+
+    /// The outside failed.
+    fn fail(&mut self, error: io::Error) -> Knock {
+        self.failure = Some(error);
+        Knock::Failed
     }
 
     /// Serves the seats that are left of this round, up to the first at which something came.
@@ -103,22 +133,32 @@ impl Sockets {
             return None;
         }
         match self.listener.accept() {
-            Ok((stream, _)) => self.seat_of(Link::new(self.alloc, number, stream)),
-            Err(error) => self.not_accepted(error.kind()),
+            Ok((stream, _)) => self.make_room(number, stream),
+            Err(error) => self.not_accepted(error),
         }
     }
 
+    /// Has a connection take its seat; where a server has as many as it may, the longest idle one goes first. Where an
+    /// answer may be owed to each, none goes.
+    fn make_room(&mut self, number: u64, stream: TcpStream) -> Option<Knock> {
+        if self.links.len() >= MOST_LINKS
+            && let Some(idle) = longest_idle(&self.links)
+        {
+            self.shut(idle);
+            self.coming = Some(stream);
+            return Some(Knock::Gone(idle));
+        }
+        self.seat_of(number, stream)
+    }
+
     /// Registers a connection, and gives it the last seat.
-    fn seat_of(&mut self, mut link: Link) -> Option<Knock> {
-        let number = link.number;
+    fn seat_of(&mut self, number: u64, stream: TcpStream) -> Option<Knock> {
+        let mut link = Link::new(self.alloc, number, self.now, stream);
         let _set = link.stream().set_nodelay(true);
         let both = Interest::READABLE | Interest::WRITABLE;
         let registry = self.poll.registry();
-        if registry
-            .register(link.stream(), Token(number as usize), both)
-            .is_err()
-        {
-            return Some(Knock::Failed);
+        if let Err(error) = registry.register(link.stream(), Token(number as usize), both) {
+            return Some(self.fail(error));
         }
         match self.links.push(link) {
             Ok(()) => Some(Knock::Opened(number)),
@@ -128,8 +168,8 @@ impl Sockets {
 
     /// What a failed acceptance means: nothing waits, a connection was lost before it was accepted, or the outside
     /// failed.
-    fn not_accepted(&mut self, kind: ErrorKind) -> Option<Knock> {
-        match kind {
+    fn not_accepted(&mut self, error: io::Error) -> Option<Knock> {
+        match error.kind() {
             ErrorKind::WouldBlock => {
                 self.is_accepting = false;
                 None
@@ -140,7 +180,7 @@ impl Sockets {
             | ErrorKind::HostUnreachable
             | ErrorKind::NetworkUnreachable
             | ErrorKind::NetworkDown => None,
-            _ => Some(Knock::Failed),
+            _ => Some(self.fail(error)),
         }
     }
 
@@ -152,7 +192,10 @@ impl Sockets {
         }
         let number = link.number;
         match link.read(room) {
-            Piece::Bytes(count) => Some(Knock::Bytes(number, count)),
+            Piece::Bytes(count) => {
+                link.hear(room.get(..count).unwrap_or(b""), self.now);
+                Some(Knock::Bytes(number, count))
+            }
             Piece::Later => None,
             Piece::End => {
                 self.shut(number);
@@ -178,8 +221,8 @@ impl Sockets {
                 self.is_accepting = true;
             }
             let number = usize::from(event.token()) as u64;
-            note(&mut self.links, number, event);
-            note(&mut self.leaving, number, event);
+            note(&mut self.links, number, event, self.now);
+            note(&mut self.leaving, number, event, self.now);
         }
         self.throw_away();
         Ok(())
@@ -190,10 +233,10 @@ impl Sockets {
         self.leaving.retain_mut(|link| link.throw_away());
     }
 
-    /// Sends the bytes to a connection. False where it is gone.
+    /// Sends an answer to a connection. False where it is gone.
     pub fn send(&mut self, number: u64, bytes: &[u8]) -> bool {
         let is_sent = match find(&mut self.links, number) {
-            Some(link) => link.send(bytes),
+            Some(link) => link.send(bytes, self.now),
             None => return false,
         };
         if !is_sent {
@@ -248,8 +291,25 @@ fn find(links: &mut [Link], number: u64) -> Option<&mut Link> {
 }
 
 /// Tells a connection, if it is among these, what was reported of it.
-fn note(links: &mut [Link], number: u64, event: &mio::event::Event) {
+fn note(links: &mut [Link], number: u64, event: &mio::event::Event, now: u64) {
     if let Some(link) = find(links, number) {
-        link.note(event);
+        link.note(event, now);
     }
+}
+
+/// No answer is owed to any of these.
+fn settle(links: &mut [Link]) {
+    for link in links {
+        link.settle();
+    }
+}
+
+/// The number of the connection among these that is idle for longest, of those to which no answer is owed; one for which
+/// bytes wait comes behind all others.
+fn longest_idle(links: &[Link]) -> Option<u64> {
+    links
+        .iter()
+        .filter(|link| !link.is_owed())
+        .min_by_key(|link| (link.has_waiting(), link.active))
+        .map(|link| link.number)
 }
