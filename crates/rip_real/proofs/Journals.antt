@@ -160,6 +160,12 @@ pub journal_sent : (deeds more : List Deed) (n c : ℕ) (live bytes : List ℕ) 
 journal_sent deeds more n c live bytes j is =
     journal_of deeds more (send answer.Done c bytes) _ _ n live is (told_send deeds answer.Done c bytes ∙ append-nil (told_in deeds)) (shuts_send deeds answer.Done c bytes) j
 
+-- a send failed
+pub journal_not_sent : (deeds more : List Deed) (n c : ℕ) (live bytes : List ℕ) → IsJournal (told_in deeds) (shuts_in deeds) n live
+    → more ≡ deeds ++ send answer.Failed c bytes ∷ [] → IsJournal (told_in more) (shuts_in more) n live
+journal_not_sent deeds more n c live bytes j is =
+    journal_of deeds more (send answer.Failed c bytes) _ _ n live is (told_send deeds answer.Failed c bytes ∙ append-nil (told_in deeds)) (shuts_send deeds answer.Failed c bytes) j
+
 -- a send found its connection gone
 pub journal_lost : (deeds more : List Deed) (n c : ℕ) (live after bytes : List ℕ) → IsJournal (told_in deeds) (shuts_in deeds) n live → c < n → AreOthers live c after
     → more ≡ deeds ++ send answer.Gone c bytes ∷ [] → IsJournal (told_in more) (shuts_in more) n after

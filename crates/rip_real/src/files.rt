@@ -7,17 +7,26 @@ use rip_values::Bytes;
 use std::alloc::Global;
 use std::io::{ErrorKind, Read};
 use std::marker::Model;
-use std::{fs, rt};
+use std::{fs, io, rt};
 
 /// Bytes that are read at once.
 const ROOM: usize = 4096;
 
-/// The files of the machine. They tell the names that were asked, and not what is held.
+/// The files of the machine. They tell the names that were asked, and not what is held; and, to people, which file could
+/// not be read last, and why.
 #[derive(Drop)]
 pub struct HostFiles<'a, R> {
     rt: &'a R,
     history: History,
     faults: u64,
+    failure: Option<Unread>,
+}
+
+/// A file that could not be read: its name, where there was memory for it, and why.
+#[derive(Drop)]
+pub struct Unread {
+    pub name: Option<String>,
+    pub error: io::Error,
 }
 
 impl<'a, R> Model for HostFiles<'a, R> {
@@ -40,34 +49,56 @@ impl<'a, R> HostFiles<'a, R> {
             rt,
             history: History::new(),
             faults: 0,
+            failure: None,
         }
+    }
+
+    /// The file that could not be read last.
+    pub fn failure(&self) -> Option<&Unread> {
+        self.failure.as_ref()
     }
 }
 
+/// Why reading a file stopped.
+#[derive(Drop)]
+enum ReadError {
+    Failed(io::Error),
+    TooLong,
+    Memory,
+}
+
 /// The contents of a file, at most [`MAX_FILE`] bytes. A read that was interrupted is tried again.
-fn read_file<R: rt::Files>(rt: &R, alloc: Global, name: &str) -> Result<Bytes, FilesError>
+fn read_file<R: rt::Files>(rt: &R, alloc: Global, name: &str) -> Result<Bytes, ReadError>
     ensures { IfOk result (λ bytes. length bytes ≤ longest_file) }
 {
-    let mut file = fs::open(rt, name).map_err(|_| FilesError::Failed)?;
+    let mut file = fs::open(rt, name).map_err(ReadError::Failed)?;
     let mut bytes = Vec::new(alloc);
     let mut room = [0u8; ROOM];
     'reads: for _ in 0..u64::MAX {
         let count = match file.read(&mut room) {
             Ok(count) => count,
             Err(error) if error.kind() == ErrorKind::Interrupted => continue 'reads,
-            Err(_) => return Err(FilesError::Failed),
+            Err(error) => return Err(ReadError::Failed(error)),
         };
         if count == 0 {
             return Ok(Bytes::from_vec(bytes));
         }
         if MAX_FILE - bytes.len() < count {
-            return Err(FilesError::TooLong);
+            return Err(ReadError::TooLong);
         }
         if bytes.extend_from_slice(&room[..count]).is_err() {
-            return Err(FilesError::Memory);
+            return Err(ReadError::Memory);
         }
     }
-    Err(FilesError::Failed)
+    Err(ReadError::Failed(io::Error::from(ErrorKind::Other)))
+}
+
+/// A file that could not be read.
+fn failure_of(alloc: Global, name: &str, error: io::Error) -> Unread {
+    Unread {
+        name: String::from_str(alloc, name).ok(),
+        error,
+    }
 }
 
 impl<'a, R: rt::Files> Files for HostFiles<'a, R> {
@@ -86,13 +117,18 @@ impl<'a, R: rt::Files> Files for HostFiles<'a, R> {
 
     fn read_all(&mut self, alloc: Global, name: &str) -> Result<Bytes, FilesError> {
         let answer = read_file(self.rt, alloc, name);
-        if matches!(answer, Err(FilesError::Memory)) {
-            return answer;
+        if matches!(answer, Err(ReadError::Memory)) {
+            return Err(FilesError::Memory);
         }
         self.history = self.history.then(&Deed::Read(name));
-        if matches!(answer, Err(FilesError::Failed)) {
-            self.faults = self.faults.saturating_add(1);
+        match answer {
+            Ok(bytes) => Ok(bytes),
+            Err(ReadError::Failed(error)) => {
+                self.failure = Some(failure_of(alloc, name, error));
+                self.faults = self.faults.saturating_add(1);
+                Err(FilesError::Failed)
+            }
+            Err(_) => Err(FilesError::TooLong),
         }
-        answer
     }
 }

@@ -130,15 +130,42 @@ impl Journal {
         Knock::Gone(c)
     }
 
-    /// Notes that bytes were taken for a connection, or that it was found gone.
-    pub fn answer(&mut self, c: u64, bytes: &[u8], is_taken: bool) -> Sent
+    /// Notes what became of bytes for a connection: they were taken, it was found gone, or the outside failed.
+    pub fn answer(&mut self, c: u64, bytes: &[u8], became: Sent) -> Sent
         requires { c < self.old.opened }
         ensures { Answers self.old self.new result c bytes.now }
     {
-        if is_taken {
-            self.history = self.history.then(&Deed::Send(Sent::Done, c, bytes));
-            return Sent::Done;
+        match became {
+            Sent::Done => self.take(c, bytes),
+            Sent::Failed => self.fail_to_send(c, bytes),
+            Sent::Gone | Sent::Memory => self.lose(c, bytes),
         }
+    }
+
+    /// Notes that bytes were taken for a connection.
+    fn take(&mut self, c: u64, bytes: &[u8]) -> Sent
+        requires { c < self.old.opened }
+        ensures { Answers self.old self.new result c bytes.now }
+    {
+        self.history = self.history.then(&Deed::Send(Sent::Done, c, bytes));
+        Sent::Done
+    }
+
+    /// Notes that the outside failed, and that nothing was sent.
+    fn fail_to_send(&mut self, c: u64, bytes: &[u8]) -> Sent
+        requires { c < self.old.opened }
+        ensures { Answers self.old self.new result c bytes.now }
+    {
+        self.faults = self.faults.saturating_add(1);
+        self.history = self.history.then(&Deed::Send(Sent::Failed, c, bytes));
+        Sent::Failed
+    }
+
+    /// Notes that a connection was found gone.
+    fn lose(&mut self, c: u64, bytes: &[u8]) -> Sent
+        requires { c < self.old.opened }
+        ensures { Answers self.old self.new result c bytes.now }
+    {
         strike(&mut self.live, c);
         self.history = self.history.then(&Deed::Send(Sent::Gone, c, bytes));
         Sent::Gone

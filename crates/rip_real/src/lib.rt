@@ -17,8 +17,14 @@
 //! Law: whatever the sockets answer, a door tells a piece or a going only of a connection that it told as opened, and
 //! that is neither gone nor shut; connections are numbered in the order of their opening (`Journal.IsJournal`).
 //!
+//! People are told on standard error: where a server listens, once it serves; when nine tenths, ninety-nine hundredths and
+//! all of the sessions of a run are opened; and, by [`say_failure`] and [`say_unread`], why the outside failed, for which
+//! files, sink and door keep their last error. No clause speaks of that, and where it can't be written, nothing else changes.
+//!
 //! A layer above may rest on this: each meets its trait of `rip_outer`, and begins with nothing told and no failure
-//! counted. Bytes that were sent to a connection were taken by the system or wait for it; a door never waits for a peer
+//! counted. Where the system gives no random numbers, door and words share why ([`RandomFailure`]): the door then fails at
+//! each call and sends nothing, so that no session is opened by words that could be foreseen. A 65th connection is told only
+//! once the longest idle one is told as gone; where an answer may be owed to each, it is told as it comes. Bytes that were sent to a connection were taken by the system or wait for it; a door never waits for a peer
 //! that doesn't read, and gives a connection up once more than 4 MiB wait when more are sent. A connection that is shut
 //! is still written to, and what it still sends is thrown away. A peer that will send no more counts as gone.
 #![tactic(auto)]
@@ -34,10 +40,12 @@ mod random_words;
 mod requests;
 mod sink;
 mod sockets;
+mod speech;
 
 pub use clock::HostClock;
 pub use door::TcpDoor;
-pub use files::HostFiles;
+pub use files::{HostFiles, Unread};
 pub use outside::{RealOutside, real_outside};
-pub use random_words::HostWords;
+pub use random_words::{HostWords, RandomFailure};
 pub use sink::HostSink;
+pub use speech::{say_failure, say_unread};

@@ -2,15 +2,23 @@ ghost use Rattle.std.specs.Prelude.{◌≡◌, ◌≤◌, length};
 
 use crate::history::{Deed, History};
 use rip_outer::{Sink, SinkError};
+use std::io;
 use std::io::{ErrorKind, Write};
 use std::marker::Model;
 
-/// A writer as a sink. It tells the bytes that the writer took.
+/// Of what was put last, so many bytes are kept.
+const KEPT: usize = 80;
+
+/// A writer as a sink. It tells the bytes that the writer took; and, to people, how what was put last begins, and why
+/// putting failed last.
 #[derive(Drop)]
 pub struct HostSink<W> {
     writer: W,
     history: History,
     faults: u64,
+    failure: Option<io::Error>,
+    last: [u8; KEPT],
+    kept: usize,
 }
 
 impl<W> Model for HostSink<W> {
@@ -33,13 +41,33 @@ impl<W> HostSink<W> {
             writer,
             history: History::new(),
             faults: 0,
+            failure: None,
+            last: [0; KEPT],
+            kept: 0,
         }
+    }
+
+    /// Why putting failed last.
+    pub fn failure(&self) -> Option<io::Error> {
+        self.failure
+    }
+
+    /// How what was put last begins.
+    pub fn last(&self) -> &[u8] {
+        self.last.get(..self.kept).unwrap_or(b"")
     }
 }
 
+/// Keeps the first of these bytes, and says how many.
+fn keep(last: &mut [u8; KEPT], bytes: &[u8]) -> usize {
+    let kept = bytes.len().min(KEPT);
+    last[..kept].copy_from_slice(&bytes[..kept]);
+    kept
+}
+
 /// Writes the bytes, and says how many of them the writer took: all where none of its calls failed. A write that was
-/// interrupted is tried again.
-fn write_front<W: Write>(writer: &mut W, bytes: &[u8]) -> usize
+/// interrupted is tried again; why another failed is left in `failure`.
+fn write_front<W: Write>(writer: &mut W, bytes: &[u8], failure: &mut Option<io::Error>) -> usize
     ensures { result ≤ length bytes.now }
 {
     let mut count = 0;
@@ -48,10 +76,16 @@ fn write_front<W: Write>(writer: &mut W, bytes: &[u8]) -> usize
             break;
         }
         match writer.write(&bytes[count..]) {
-            Ok(0) => break,
+            Ok(0) => {
+                *failure = Some(io::Error::from(ErrorKind::WriteZero));
+                break;
+            }
             Ok(more) => count += more,
             Err(error) if error.kind() == ErrorKind::Interrupted => {}
-            Err(_) => break,
+            Err(error) => {
+                *failure = Some(error);
+                break;
+            }
         }
     }
     count
@@ -69,7 +103,8 @@ impl<W: Write> Sink for HostSink<W> {
     }
 
     fn put(&mut self, bytes: &[u8]) -> Result<(), SinkError> {
-        let count = write_front(&mut self.writer, bytes);
+        self.kept = keep(&mut self.last, bytes);
+        let count = write_front(&mut self.writer, bytes, &mut self.failure);
         self.history = self.history.then(&Deed::Put(&bytes[..count]));
         if count < bytes.len() {
             self.faults = self.faults.saturating_add(1);

@@ -1,11 +1,15 @@
 //! The program `ripley`: the words of the command line, real files, standard output, and, where the words ask to serve, a
-//! TCP door, handed to the top call.
+//! TCP door, handed to the top call. What people are told of it goes to standard error.
 #![tactic(auto)]
 
+mod messages;
+
+use messages::{Ending, say_end, say_no_memory};
 use rip_cli::{Status, ripley};
 use rip_real::{HostFiles, HostSink, RealOutside, real_outside};
 use rip_words::{Command, command_of};
 use std::alloc::Global;
+use std::cell::Cell;
 use std::process::ExitCode;
 use std::rt::Env;
 use std::{env, io};
@@ -33,17 +37,25 @@ fn main(rt: HostRuntime) -> ExitCode {
     let words = match words(&rt, alloc) {
         Ok(words) => words,
         Err(error) if error.kind() == io::ErrorKind::OutOfMemory => {
+            let _said = say_no_memory(&rt);
             return ExitCode::from(Status::NoMemory as u8);
         }
         Err(_) => Vec::new(alloc),
     };
+    let random_failure = Cell::new(None);
     let mut files = HostFiles::new(&rt);
     let mut sink = HostSink::new(io::writer(&rt));
     let RealOutside {
         mut door,
         mut clock,
         words: mut random,
-    } = real_outside(&rt, alloc, address(words.as_slice()));
+    } = real_outside(
+        &rt,
+        alloc,
+        address(words.as_slice()),
+        &random_failure,
+        rt.stderr(),
+    );
     let status = ripley(
         alloc,
         words.as_slice(),
@@ -53,5 +65,13 @@ fn main(rt: HostRuntime) -> ExitCode {
         &mut random,
         &mut sink,
     );
+    let ending = Ending {
+        file: files.failure(),
+        output: sink.failure(),
+        random: random_failure.get(),
+        door: door.failure(),
+        last: sink.last(),
+    };
+    say_end(&rt, alloc, words.as_slice(), status, &ending);
     ExitCode::from(status as u8)
 }

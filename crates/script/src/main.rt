@@ -1,6 +1,10 @@
-//! The program `script`: the words of the command line, real files and standard output, handed to the top call.
+//! The program `script`: the words of the command line, real files and standard output, handed to the top call. What
+//! people are told of it goes to standard error.
 #![tactic(auto)]
 
+mod messages;
+
+use messages::{say_end, say_no_memory};
 use rip_real::{HostFiles, HostSink};
 use rip_script::{Status, script};
 use std::alloc::Global;
@@ -23,6 +27,7 @@ fn main(rt: HostRuntime) -> ExitCode {
     let words = match words(&rt, alloc) {
         Ok(words) => words,
         Err(error) if error.kind() == io::ErrorKind::OutOfMemory => {
+            let _said = say_no_memory(&rt);
             return ExitCode::from(Status::NoMemory as u8);
         }
         Err(_) => Vec::new(alloc),
@@ -30,5 +35,6 @@ fn main(rt: HostRuntime) -> ExitCode {
     let mut files = HostFiles::new(&rt);
     let mut sink = HostSink::new(io::writer(&rt));
     let status = script(alloc, words.as_slice(), &mut files, &mut sink);
+    say_end(&rt, alloc, words.as_slice(), status, &files, &sink);
     ExitCode::from(status as u8)
 }
