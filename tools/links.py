@@ -5,6 +5,7 @@
 
 A link leads to a file, and where it has a `#`, to a heading of that page or to a line of that file. A name such as
 `rip_cli::ripley` or `rip_http` in code marks is that of a crate, and what stands behind the `::` is spelled somewhere in it.
+In a table whose last column is `crate`, so is each name in the column before it, in one of the crates that the row names.
 Addresses outside the repository are not looked up. The status is 0 where all is there.
 """
 
@@ -82,14 +83,36 @@ def wrong_names(code: str, known: dict[str, set[str]]) -> list[str]:
     return wrong
 
 
+def wrong_row(line: str, known: dict[str, set[str]]) -> list[str]:
+    """The names of a row of a table by crate that none of its crates has."""
+    cells = line.strip().strip("|").replace("\\|", "").split("|")
+    crates = re.findall(r"`(rip_\w+)`", cells[-1])
+    if not crates:
+        return []
+    crates += re.findall(r"`(rip_\w+)`", cells[-2])
+    there = set().union(*(words_of(crate, known) for crate in crates))
+    names = [name for code in CODE.findall(cells[-2]) for name in re.findall(r"[A-Za-z_]\w*", code)]
+    return [f"{name}: not in {', '.join(crates)}" for name in names if name not in there and name not in crates]
+
+
+def wrong_in(page: pathlib.Path, known: dict[str, set[str]]) -> list[str]:
+    """What is wrong with a page, each with its line."""
+    wrong, by_crate = [], False
+    for number, line in enumerate(without_blocks(page.read_text(encoding="utf-8")).split("\n"), 1):
+        found = [wrong_link(page, link) for link in LINK.findall(line)]
+        for code in CODE.findall(line):
+            found += wrong_names(code, known)
+        by_crate = line.startswith("|") and (by_crate or line.endswith("| crate |"))
+        if by_crate and line.count("|") > 3:
+            found += wrong_row(line, known)
+        wrong += [f"{page.relative_to(TOP)}:{number}: {each}" for each in found if each]
+    return wrong
+
+
 def main() -> int:
     wrong, known = [], {}
     for page in [TOP / "README.md", *sorted((TOP / "docs").glob("**/*.md"))]:
-        for number, line in enumerate(without_blocks(page.read_text(encoding="utf-8")).split("\n"), 1):
-            found = [wrong_link(page, link) for link in LINK.findall(line)]
-            for code in CODE.findall(line):
-                found += wrong_names(code, known)
-            wrong += [f"{page.relative_to(TOP)}:{number}: {each}" for each in found if each]
+        wrong += wrong_in(page, known)
     print("\n".join(wrong) or "each link and each name of a crate in the pages leads to something")
     return 1 if wrong else 0
 
