@@ -124,6 +124,10 @@ def run(program: str, room: pathlib.Path, blocks: list[tuple[str, str]]) -> list
     return outputs
 
 
+def stop(*_) -> None:
+    raise TimeoutError("the tutorial takes too long")
+
+
 def main() -> int:
     if len(sys.argv) < 2:
         print(__doc__, file=sys.stderr)
@@ -131,6 +135,7 @@ def main() -> int:
     text = PAGE.read_text(encoding="utf-8")
     found = list(BLOCK.finditer(text))
     with tempfile.TemporaryDirectory() as room:
+        signal.signal(signal.SIGALRM, stop)
         signal.alarm(8 * SECONDS)
         outputs = run(sys.argv[1], pathlib.Path(room), [(each[1], each[2] or "") for each in found])
     wrong = [(each, printed) for each, printed in zip(found, outputs) if not same(printed, each[2] or "")]
