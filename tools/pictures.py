@@ -88,8 +88,7 @@ def examples(room: pathlib.Path) -> list[str]:
 
 def lie_of_the_tutorial(program: str, room: pathlib.Path) -> pathlib.Path:
     """The visit that the tutorial looks at."""
-    blocks = [(each[1], each[2] or "") for each in tutorial.BLOCK.finditer(tutorial.PAGE.read_text())]
-    tutorial.run(program, room, blocks)
+    tutorial.run(program, room, [each[1] for each in tutorial.BLOCK.finditer(tutorial.PAGE.read_text())])
     return next(room.glob("tmp.*/visit.html"))
 
 

@@ -1,12 +1,13 @@
 #!/usr/bin/env python3
-"""Runs the commands of docs/TUTORIAL.md as they are printed, and compares what they print.
+"""Runs the commands of docs/TUTORIAL.md and README.md as they are printed, and compares what they print.
 
-usage: tutorial.py PROGRAM [--write]     PROGRAM the program `ripley`; --write puts what is printed into the page
+usage: tutorial.py PROGRAM [--write]     PROGRAM the program `ripley`; --write puts what is printed into the pages
 
-All blocks marked `sh` run one after the other in one shell, which begins in the repository's folder. The block without a mark
-behind one is its standard output; where there is none, nothing is to be printed. What differs from run to run counts as equal:
-identifiers of sessions, and times of a real clock. The page's two ports stand for two that are free. Where there is no `curl`, a
-small one that knows the page's options stands in its place. The status is 0 where all is so.
+All blocks of a page marked `sh` run one after the other in one shell, which begins in the repository's folder. The block without a
+mark behind one is its standard output; where there is none, nothing is to be printed. What differs from run to run counts as equal:
+identifiers of sessions, and times of a real clock. The two ports of the tutorial stand for two that are free. PROGRAM stands in the
+place of README's `rt try`, which builds it anew. Where there is no `curl`, a small one that knows the tutorial's options stands in
+its place. The status is 0 where all is so.
 """
 
 import os
@@ -21,6 +22,8 @@ import time
 
 TOP = pathlib.Path(__file__).resolve().parent.parent
 PAGE = TOP / "docs/TUTORIAL.md"
+README = TOP / "README.md"
+BUILT = ("cd crates/ripley; rt try -- ", "ripley ")
 BLOCK = re.compile(r"^```sh\n(.*?)^```\n(?:\n^```\n(.*?)^```\n)?", re.M | re.S)
 END = "-- the block is over --"
 SECONDS = 60
@@ -103,13 +106,14 @@ def install(room: pathlib.Path, program: str) -> None:
         (room / "curl").chmod(0o755)
 
 
-def run(program: str, room: pathlib.Path, blocks: list[tuple[str, str]]) -> list[str]:
+def run(program: str, room: pathlib.Path, blocks: list[str]) -> list[str]:
     """What each block prints, in the page's own ports."""
     install(room, program)
     ports = {name: free_port() for name in PORTS}
     shell, outputs = Shell(room), []
     try:
-        for block, _ in blocks:
+        for block in blocks:
+            block = block.replace(*BUILT)
             for name, port in ports.items():
                 block = re.sub(rf"\b{name}\b", str(port), block)
             printed = shell.run(block)
@@ -128,27 +132,32 @@ def stop(*_) -> None:
     raise TimeoutError("the tutorial takes too long")
 
 
+def checked(program: str, page: pathlib.Path, writes: bool) -> bool:
+    """Whether the blocks of a page print what stands below them; says where they do not, and puts it there if asked."""
+    text = page.read_text(encoding="utf-8")
+    found = list(BLOCK.finditer(text))
+    with tempfile.TemporaryDirectory() as room:
+        outputs = run(program, pathlib.Path(room), [each[1] for each in found])
+    wrong = [(each, printed) for each, printed in zip(found, outputs) if not same(printed, each[2] or "")]
+    for each, printed in wrong:
+        print(f"{page.name}: {each[1].splitlines()[-1]!r} prints\n{printed}in place of\n{each[2] or ''}")
+    if not wrong:
+        print(f"{page.name}: the {len(found)} blocks print what stands below them")
+    elif writes:
+        for each, printed in reversed(wrong):
+            shown = f"\n```\n{printed.rstrip()}\n```\n" if printed.strip() else ""
+            text = text[: each.start()] + f"```sh\n{each[1]}```\n{shown}" + text[each.end() :]
+        page.write_text(text, encoding="utf-8")
+    return not wrong
+
+
 def main() -> int:
     if len(sys.argv) < 2:
         print(__doc__, file=sys.stderr)
         return 2
-    text = PAGE.read_text(encoding="utf-8")
-    found = list(BLOCK.finditer(text))
-    with tempfile.TemporaryDirectory() as room:
-        signal.signal(signal.SIGALRM, stop)
-        signal.alarm(8 * SECONDS)
-        outputs = run(sys.argv[1], pathlib.Path(room), [(each[1], each[2] or "") for each in found])
-    wrong = [(each, printed) for each, printed in zip(found, outputs) if not same(printed, each[2] or "")]
-    for each, printed in wrong:
-        print(f"docs/TUTORIAL.md: {each[1].splitlines()[-1]!r} prints\n{printed}in place of\n{each[2] or ''}")
-    if "--write" in sys.argv and wrong:
-        for each, printed in reversed(wrong):
-            shown = f"\n```\n{printed.rstrip()}\n```\n" if printed.strip() else ""
-            text = text[: each.start()] + f"```sh\n{each[1]}```\n{shown}" + text[each.end() :]
-        PAGE.write_text(text, encoding="utf-8")
-    if not wrong:
-        print(f"the {len(found)} blocks of the tutorial print what stands below them")
-    return 1 if wrong else 0
+    signal.signal(signal.SIGALRM, stop)
+    signal.alarm(8 * SECONDS)
+    return 0 if all([checked(sys.argv[1], page, "--write" in sys.argv) for page in (README, PAGE)]) else 1
 
 
 if __name__ == "__main__":
