@@ -1,4 +1,4 @@
-//! Tests of values, data, trees, the outside in memory, tables, logs and requests that no row of `rows/` reaches.
+//! Tests of values, data, trees, the outside in memory and the real one, tables, logs and requests that no row of `rows/` reaches.
 //!
 //! They stand above the crates that they try, since a crate with tests is proved twice.
 #![tactic(auto)]
@@ -13,6 +13,8 @@ mod http;
 mod log;
 #[cfg(test)]
 mod outer;
+#[cfg(test)]
+mod real;
 #[cfg(test)]
 mod table;
 #[cfg(test)]
