@@ -86,10 +86,10 @@ def wrong_names(code: str, known: dict[str, set[str]]) -> list[str]:
 def wrong_row(line: str, known: dict[str, set[str]]) -> list[str]:
     """The names of a row of a table by crate that none of its crates has."""
     cells = line.strip().strip("|").replace("\\|", "").split("|")
-    crates = re.findall(r"`(rip_\w+)`", cells[-1])
+    crates = re.findall(r"`(rip_\w+)(?:::\w+)*`", cells[-1])
     if not crates:
         return []
-    crates += re.findall(r"`(rip_\w+)`", cells[-2])
+    crates += re.findall(r"`(rip_\w+)(?:::\w+)*`", cells[-2])
     there = set().union(*(words_of(crate, known) for crate in crates))
     names = [name for code in CODE.findall(cells[-2]) for name in re.findall(r"[A-Za-z_]\w*", code)]
     return [f"{name}: not in {', '.join(crates)}" for name in names if name not in there and name not in crates]

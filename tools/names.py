@@ -16,7 +16,7 @@ TABLE = "tables/names.txt"
 MADE = "Made from tables/names.txt by tools/names.py."
 # The crate of the names, and that of the tables of calls.
 VALUES = "rip_values"
-MEMBERS = "rip_members"
+MEMBERS = "rip_ops"
 SPECS = f"Rattle.{VALUES}.specs"
 # The longest list that `rt fmt` leaves on one line, in characters.
 LONGEST_LIST = 60
@@ -331,7 +331,7 @@ def global_code(names: Names) -> str:
         f"// {MADE}\n"
         "ghost use Rattle.std.specs.Prelude.{◌≡◌};\n"
         f"ghost use {SPECS}.GlobalTable.{{global_name, global_value}};\n",
-        "use crate::builtin::Builtin;\nuse crate::builtin_lookup::FIRST_NODE;\nuse crate::value::Value;\n",
+        "use crate::builtin::Builtin;\nuse crate::builtin_lookup::FIRST_NODE;\nuse rip_base::Value;\n",
         enum("A global name of the profile (ECMA-262 15.1).", "Global", [variant(g.name) for g in of]),
         array("/// All global names.", "pub const GLOBALS: [Global", [f"Global::{g.name}" for g in of]),
         "impl Global {\n" + "\n".join(methods) + "}\n"])
@@ -349,8 +349,8 @@ def global_definitions(names: Names) -> str:
         "use Rattle.std.specs.Prelude.{ℕ, ◌^◌, List, [], ◌∷◌, codes}\n"
         f"use {SPECS}.declared.builtin.Builtin.TheVariants as builtin\n"
         + variants("global", "Global", [g.name for g in of])
-        + f"use {SPECS}.declared.value.Value.{{Value}}\n"
-        f"use {SPECS}.declared.value.Value.TheVariants as value\n"
+        + "use Rattle.rip_base.specs.declared.value.Value.{Value}\n"
+        "use Rattle.rip_base.specs.declared.value.Value.TheVariants as value\n"
         f"use {SPECS}.Builtins.{{number_of}}\n",
         equations("the name of a global", "abbrev pub global_name : Global → List ℕ",
                   [f"global_name {g.name} = {codes(g.text)}" for g in of]),
@@ -486,7 +486,7 @@ FILES: dict[str, Callable[[Names], str]] = {
     f"crates/{VALUES}/specs/GlobalTable.antt": global_definitions,
     f"crates/{VALUES}/proofs/BuiltinTableLemmas.antt": builtin_lemmas,
     f"crates/{VALUES}/proofs/FixedTableLemmas.antt": fixed_lemmas,
-    f"crates/{MEMBERS}/src/call_table.rt": call_code,
+    f"crates/{MEMBERS}/src/access/call_table.rt": call_code,
     f"crates/{MEMBERS}/specs/CallTable.antt": call_definitions,
 }
 

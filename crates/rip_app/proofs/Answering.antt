@@ -1,8 +1,8 @@
 -- A page and a manifest have one answer.
 use Rattle.std.proofs.Common.{◌≡◌, ◌≢◌, ℕ, zero, suc, ◌+◌, ◌-◌, ◌<◌, ◌≤◌, Bool, true, false, ltb, ltb-true, ltb-false, List, [], ◌∷◌, length, Option, Some, None, Result, Ok, Err, IfOk, IfErr, inl, inr, slice_get, refl, sym, ap, ◌∙◌, subst, arith}
 use Rattle.std.specs.Prelude.{MatchResult, ◌⊎◌, option_and_then, option_map}
-use Rattle.rip_values.specs.Page.{script_at, Contents as Page}
-use Rattle.rip_values.specs.declared.page.PageKind.{PageKind}
+use Rattle.rip_base.specs.Page.{script_at, Contents as Page}
+use Rattle.rip_base.specs.declared.page.PageKind.{PageKind}
 use Rattle.rip_lexer.specs.declared.refusal.LexKind.{LexKind}
 use Rattle.rip_lexer.specs.Tokens.{IsFirstRefusal}
 use Rattle.rip_lexer.proofs.Lexing.{same_refusals, not_both_ways}

@@ -2,7 +2,7 @@
 use Rattle.std.proofs.Common.{◌≡◌, ◌≢◌, ℕ, zero, suc, ◌+◌, ◌-◌, ◌<◌, ◌≤◌, ◌⊎◌, inl, inr, List, [], ◌∷◌, ◌++◌, length, Option, Some, None, Result, Ok, Err, slice_get, refl, sym, ap, ◌∙◌, subst, arith, length-append}
 use Rattle.std.specs.Prelude.{option_and_then, option_map}
 use Rattle.std.specs.List.{AllByRecursion}
-use Rattle.rip_values.specs.Page.{script_at, Contents as Page}
+use Rattle.rip_base.specs.Page.{script_at, Contents as Page}
 use Rattle.rip_lexer.proofs.Existing.{a_reading}
 use Rattle.rip_tree.specs.Branches.{Plant}
 use Rattle.rip_parser.specs.Parsed.{IsTreeOf}

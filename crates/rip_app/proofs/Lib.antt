@@ -1,4 +1,4 @@
-pub mod LoadLemmas
-pub mod ScriptLemmas
 pub mod Answering
 pub mod Existing
+pub mod LoadLemmas
+pub mod ScriptLemmas

@@ -1,6 +1,6 @@
 -- How the trees of a page's scripts are gathered.
 use Rattle.std.proofs.Common.{◌≡◌, ◌+◌, ◌++◌, ◌∷◌, ℕ, suc, List, [], length, arith, subst}
-use Rattle.rip_values.specs.Page.{Contents as Page}
+use Rattle.rip_base.specs.Page.{Contents as Page}
 use Rattle.rip_tree.specs.Branches.{Plant}
 use Rattle.rip_app.specs.App.{HasTreeAt, HaveTreesFrom}
 

@@ -1,7 +1,7 @@
 -- The application that a page and a manifest are, and why they are none.
 use Rattle.std.specs.Prelude.{◌≡◌, ◌+◌, ℕ, suc, List, [], ◌∷◌, length, Some}
-use Rattle.rip_values.specs.Page.{script_at, Contents as Page}
-use Rattle.rip_values.specs.declared.page.PageKind.{PageKind}
+use Rattle.rip_base.specs.Page.{script_at, Contents as Page}
+use Rattle.rip_base.specs.declared.page.PageKind.{PageKind}
 use Rattle.rip_lexer.specs.declared.refusal.LexKind.{LexKind}
 use Rattle.rip_lexer.specs.Tokens.{IsFirstRefusal}
 use Rattle.rip_tree.specs.Branches.{Plant}

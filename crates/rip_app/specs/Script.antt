@@ -1,7 +1,7 @@
 -- How the refusals of the layers below are told, and what each part of loading says of its own. No public clause cites
 -- this.
 use Rattle.std.specs.Prelude.{◌≡◌, ℕ, Some, List}
-use Rattle.rip_values.specs.Page.{script_at, Contents as Page}
+use Rattle.rip_base.specs.Page.{script_at, Contents as Page}
 use Rattle.rip_markup.specs.declared.refusal.PageRefusal.{PageRefusal}
 use Rattle.rip_markup.specs.declared.refusal.PageRefusal.TheVariants as markup
 use Rattle.rip_lexer.specs.declared.refusal.LexRefusal.{LexRefusal}

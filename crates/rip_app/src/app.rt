@@ -1,5 +1,5 @@
 ghost use Rattle.std.specs.Prelude.{◌≡◌, ◌≢◌, IfErr, IfOk, MatchResult, length};
-ghost use Rattle.rip_values.specs.Limits.{AreInRange};
+ghost use Rattle.rip_base.specs.Limits.{AreInRange};
 ghost use Rattle.rip_html.specs.Pages.{PageOf};
 ghost use Rattle.rip_manifest.specs.Manifest.{ManifestOf};
 ghost use Rattle.rip_app.specs.App.{AppOf, IsAppRefusal, Loaded};
@@ -9,10 +9,10 @@ ghost use Rattle.rip_app.specs.declared.refusal.AppRefusal.{AppRefusal as AppRef
 
 use crate::refusal::AppRefusal;
 use crate::scripts::program_of;
+use rip_base::{Bytes, Limits, Page};
 use rip_html::read_page;
 use rip_manifest::{Functions, Manifest, read_manifest};
 use rip_tree::Program;
-use rip_values::{Bytes, Limits, Page};
 use std::alloc::Global;
 use std::marker::Model;
 

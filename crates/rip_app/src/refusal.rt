@@ -1,12 +1,12 @@
 ghost use Rattle.std.specs.Prelude.{◌≡◌};
 ghost use Rattle.rip_app.specs.Script.{of_manifest, of_mistake, of_page, of_tokens, of_tree};
 
+use rip_base::{NoMemory, PageKind};
 use rip_early::{EarlyKind, EarlyRefusal};
 use rip_html::PageRefusal;
 use rip_lexer::{LexKind, LexRefusal};
 use rip_manifest::{ManifestKind, ManifestRefusal};
 use rip_parser::{ParseKind, ParseRefusal};
-use rip_values::{NoMemory, PageKind};
 use std::alloc::AllocFailed;
 
 /// Why a page and a manifest are no application. Scripts are numbered from 1. A place of a page counts its bytes, and that

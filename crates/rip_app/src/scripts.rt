@@ -7,9 +7,9 @@ ghost use Rattle.rip_app.specs.Script.{RefusesProgram, RefusesScriptAt, RefusesS
 
 use crate::refusal::AppRefusal;
 use crate::script::tree_of;
+use rip_base::{List, Page};
 use rip_early::check;
 use rip_tree::{Program, Tree, Trees};
-use rip_values::{List, Page};
 use std::alloc::Global;
 
 /// The program of the page's scripts, or the first cause why they have none.

@@ -1,7 +1,7 @@
 -- The words that continue an expression are those with which the machine goes on in it.
 use Rattle.std.proofs.Common.{◌≡◌, ℕ, Bool, true, false, [], ◌∷◌, refl, sym, subst}
-use Rattle.rip_values.specs.declared.operator.BinaryOperator.TheVariants as B
-use Rattle.rip_values.specs.declared.operator.LogicalOperator.TheVariants as L
+use Rattle.rip_base.specs.declared.operator.BinaryOperator.TheVariants as B
+use Rattle.rip_base.specs.declared.operator.LogicalOperator.TheVariants as L
 use Rattle.rip_grammar.specs.declared.word.Word.{Word}
 use Rattle.rip_grammar.specs.declared.word.Word.TheVariants as W
 use Rattle.rip_grammar.specs.declared.word.Lexeme.{Lexeme}

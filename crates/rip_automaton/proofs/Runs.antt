@@ -1,8 +1,8 @@
 -- What the machine does with scripts, as rows: the events of those that have a phrase, and the refusals.
 use Rattle.std.proofs.Common.{◌≡◌, [], ◌∷◌, Some, None, refl}
-use Rattle.rip_values.specs.declared.operator.BinaryOperator.TheVariants as B
-use Rattle.rip_values.specs.declared.operator.LogicalOperator.TheVariants as L
-use Rattle.rip_values.specs.declared.operator.StepOperator.TheVariants as S
+use Rattle.rip_base.specs.declared.operator.BinaryOperator.TheVariants as B
+use Rattle.rip_base.specs.declared.operator.LogicalOperator.TheVariants as L
+use Rattle.rip_base.specs.declared.operator.StepOperator.TheVariants as S
 use Rattle.rip_grammar.specs.declared.word.Word.TheVariants as W
 use Rattle.rip_automaton.specs.declared.mode.Mode.TheVariants as M
 use Rattle.rip_grammar.specs.Phrases.{Inserted, Absent, Nothing, More, Single, Parenthesized, Index, NewCall, Postfix, Prefix, Assignment, Block, Initialised, Expression, If, DoWhile, For, Bindings, Return, Empty}

@@ -3,7 +3,7 @@ use Rattle.std.proofs.Common.{◌≡◌, ℕ, zero, suc, ◌+◌, ◌<◌, ◌�
 use Rattle.std.proofs.lemmas.List.{at_drop_all}
 use Rattle.std.specs.Option.{option_map_or}
 use Rattle.std.specs.List.{position_from}
-use Rattle.rip_values.specs.declared.value.Value.{Value}
+use Rattle.rip_base.specs.declared.value.Value.{Value}
 use Rattle.rip_values.specs.Pool.{Texts}
 use Rattle.rip_builtins.specs.Arguments.{argument, integer_in, then_gives}
 use Rattle.rip_builtins.specs.Arrays.{index_in, place_of_value}

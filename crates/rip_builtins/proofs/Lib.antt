@@ -1,5 +1,5 @@
 pub mod ArrayLemmas
-pub mod NumberLemmas
-pub mod SearchLemmas
 pub mod JoinLemmas
+pub mod NumberLemmas
 pub mod RangedLemmas
+pub mod SearchLemmas

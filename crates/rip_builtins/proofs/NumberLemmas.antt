@@ -1,8 +1,8 @@
 -- The extreme of numbers that are met one by one.
 use Rattle.std.proofs.Common.{◌≡◌, List, ◌∷◌, Result, Ok, Err, refl, ap, ◌∙◌}
-use Rattle.rip_values.specs.declared.value.Value.{Value}
-use Rattle.rip_values.specs.declared.value.Numeral.{Numeral}
-use Rattle.rip_values.specs.declared.value.Fault.{Fault}
+use Rattle.rip_base.specs.declared.value.Value.{Value}
+use Rattle.rip_base.specs.declared.value.Numeral.{Numeral}
+use Rattle.rip_base.specs.declared.value.Fault.{Fault}
 use Rattle.rip_values.specs.Pool.{Texts}
 use Rattle.rip_heap.specs.Conversions.{number_of}
 use Rattle.rip_builtins.specs.Arguments.{then_tries}

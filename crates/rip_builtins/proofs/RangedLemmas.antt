@@ -2,12 +2,12 @@
 use Rattle.std.proofs.Common.{◌≡◌, ◌≤◌, ℤ, pos, negsuc, Bool, true, false, cond, Result, Ok, Err, refl, ap, arith, nat_le, unsigned_abs}
 use Rattle.std.proofs.lemmas.Bool.Decides.{nat_tests}
 use Rattle.std.proofs.lemmas.Int.{ints}
-use Rattle.rip_values.specs.declared.value.Numeral.{Numeral}
-use Rattle.rip_values.specs.declared.value.Numeral.TheVariants.{Num, NaN}
-use Rattle.rip_values.specs.declared.value.Fault.{Fault}
-use Rattle.rip_values.specs.declared.value.Fault.TheVariants.{NotWhole, Infinite, OutOfRange, Hole, NotInProfile, ObjectToPrimitive, BadArgument, LoneSurrogate, TextTooLong}
-use Rattle.rip_values.specs.NumberScan.{IsRanged}
-use Rattle.rip_values.specs.Whole.{IsWhole}
+use Rattle.rip_base.specs.declared.value.Numeral.{Numeral}
+use Rattle.rip_base.specs.declared.value.Numeral.TheVariants.{Num, NaN}
+use Rattle.rip_base.specs.declared.value.Fault.{Fault}
+use Rattle.rip_base.specs.declared.value.Fault.TheVariants.{NotWhole, Infinite, OutOfRange, Hole, NotInProfile, ObjectToPrimitive, BadArgument, LoneSurrogate, TextTooLong}
+use Rattle.rip_base.specs.NumberScan.{IsRanged}
+use Rattle.rip_base.specs.Whole.{IsWhole}
 use Rattle.rip_heap.specs.Conversions.{ranged}
 
 within_whole : (z : ℤ) → unsigned_abs z ≤ 9007199254740991 → IsWhole z

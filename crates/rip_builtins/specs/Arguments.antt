@@ -1,12 +1,12 @@
 -- The arguments of a call, and what follows their conversions.
 use Rattle.std.specs.Prelude.{ℕ, ℤ, List, Option, None, Some, Result, Ok, Err, slice_get, unwrap_or}
-use Rattle.rip_values.specs.declared.value.Value.{Value}
-use Rattle.rip_values.specs.declared.value.Value.TheVariants.{Undefined, Object}
-use Rattle.rip_values.specs.declared.value.Fault.{Fault}
+use Rattle.rip_base.specs.declared.value.Value.{Value}
+use Rattle.rip_base.specs.declared.value.Value.TheVariants.{Undefined, Object}
+use Rattle.rip_base.specs.declared.value.Fault.{Fault}
 use Rattle.rip_heap.specs.Conversions.{number_of, integer_of}
 use Rattle.rip_heap.specs.Outcome.{Outcome, Gives, Faults, Exceeds}
 use Rattle.rip_heap.specs.World.{World}
-use Rattle.rip_values.specs.declared.value.Limit.TheVariants.{Cells}
+use Rattle.rip_base.specs.declared.value.Limit.TheVariants.{Cells}
 use Rattle.rip_values.specs.Pool.{Texts}
 
 -- the argument at this place; one that is absent is undefined (ECMA-262 15)

@@ -1,10 +1,10 @@
 -- The functions of arrays, each on an array of that number.
 use Rattle.std.specs.Prelude.{ℕ, ℤ, pos, negsuc, suc, List, [], length, drop, ◌-◌, min, Option, None, Some, Result, Ok, Err, unwrap_or, slice_range}
 use Rattle.std.specs.List.{position_from}
-use Rattle.rip_values.specs.declared.value.Value.{Value}
-use Rattle.rip_values.specs.declared.value.Value.TheVariants.{Undefined, Num}
-use Rattle.rip_values.specs.declared.value.Fault.{Fault}
-use Rattle.rip_values.specs.declared.value.Limit.TheVariants.{Cells}
+use Rattle.rip_base.specs.declared.value.Value.{Value}
+use Rattle.rip_base.specs.declared.value.Value.TheVariants.{Undefined, Num}
+use Rattle.rip_base.specs.declared.value.Fault.{Fault}
+use Rattle.rip_base.specs.declared.value.Limit.TheVariants.{Cells}
 use Rattle.rip_values.specs.Pool.{Texts}
 use Rattle.rip_heap.specs.Arrays.{elements_at, last_of, popped, push_items, new_array}
 use Rattle.rip_heap.specs.Conversions.{strictly_equal}

@@ -4,9 +4,9 @@ use Rattle.rip_values.specs.declared.builtin.Builtin.{Builtin}
 use Rattle.rip_values.specs.declared.builtin.Builtin.TheVariants as which
 use Rattle.rip_values.specs.declared.builtin.BuiltinHome.{BuiltinHome}
 use Rattle.rip_values.specs.declared.builtin.BuiltinHome.TheVariants as home
-use Rattle.rip_values.specs.declared.value.Span.{Span}
-use Rattle.rip_values.specs.declared.value.Value.{Value}
-use Rattle.rip_values.specs.declared.value.Fault.TheVariants.{NotInProfile}
+use Rattle.rip_base.specs.declared.value.Span.{Span}
+use Rattle.rip_base.specs.declared.value.Value.{Value}
+use Rattle.rip_base.specs.declared.value.Fault.TheVariants.{NotInProfile}
 use Rattle.rip_values.specs.Builtins.{home_of}
 use Rattle.rip_heap.specs.declared.class.Class.TheVariants.{Error as ErrorClass, TypeError as TypeErrorClass, RangeError as RangeErrorClass}
 use Rattle.rip_heap.specs.Outcome.{Outcome, Faults}

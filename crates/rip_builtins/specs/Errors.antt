@@ -1,7 +1,7 @@
 -- The makers of errors (ECMA-262 15.11.1.1 and 15.11.7.1, also of TypeError and RangeError).
 use Rattle.std.specs.Prelude.{List}
-use Rattle.rip_values.specs.declared.value.Value.{Value}
-use Rattle.rip_values.specs.declared.value.Value.TheVariants.{Undefined}
+use Rattle.rip_base.specs.declared.value.Value.{Value}
+use Rattle.rip_base.specs.declared.value.Value.TheVariants.{Undefined}
 use Rattle.rip_heap.specs.declared.class.Class.{Class}
 use Rattle.rip_heap.specs.Errors.{new_error}
 use Rattle.rip_heap.specs.Objects.{new_of}

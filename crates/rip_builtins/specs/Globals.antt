@@ -1,7 +1,7 @@
 -- `String`.
 use Rattle.std.specs.Prelude.{List, [], ◌∷◌}
-use Rattle.rip_values.specs.declared.value.Value.{Value}
-use Rattle.rip_values.specs.declared.value.Value.TheVariants.{Text}
+use Rattle.rip_base.specs.declared.value.Value.{Value}
+use Rattle.rip_base.specs.declared.value.Value.TheVariants.{Text}
 use Rattle.rip_values.specs.declared.fixed.FixedText.TheVariants.{Empty}
 use Rattle.rip_heap.specs.Conversions.{span_of, text_of_value}
 use Rattle.rip_heap.specs.Outcome.{Outcome, Gives, after_text}

@@ -1,12 +1,12 @@
 -- The functions of `Math`, and the conversions to numbers.
 use Rattle.std.specs.Prelude.{pos, Bool, true, false, List, [], ◌∷◌, Result, Ok, Err, fold, unsigned_abs}
 use Rattle.std.specs.Int.{int_min, int_max}
-use Rattle.rip_values.specs.declared.value.Value.{Value}
-use Rattle.rip_values.specs.declared.value.Value.TheVariants.{Num as NumberValue}
-use Rattle.rip_values.specs.declared.value.Numeral.{Numeral}
-use Rattle.rip_values.specs.declared.value.Numeral.TheVariants.{Num, NaN}
-use Rattle.rip_values.specs.declared.value.Fault.{Fault}
-use Rattle.rip_values.specs.declared.value.Fault.TheVariants.{Infinite}
+use Rattle.rip_base.specs.declared.value.Value.{Value}
+use Rattle.rip_base.specs.declared.value.Value.TheVariants.{Num as NumberValue}
+use Rattle.rip_base.specs.declared.value.Numeral.{Numeral}
+use Rattle.rip_base.specs.declared.value.Numeral.TheVariants.{Num, NaN}
+use Rattle.rip_base.specs.declared.value.Fault.{Fault}
+use Rattle.rip_base.specs.declared.value.Fault.TheVariants.{Infinite}
 use Rattle.rip_values.specs.Pool.{Texts}
 use Rattle.rip_heap.specs.Conversions.{number_of}
 use Rattle.rip_heap.specs.Outcome.{Outcome, Gives, number_or_fault, truth_or_fault}

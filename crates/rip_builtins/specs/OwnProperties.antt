@@ -1,9 +1,9 @@
 -- `hasOwnProperty` (ECMA-262 15.2.4.5).
 use Rattle.std.specs.Prelude.{ℕ, ℤ, Bool, false, List, length, Option, None, Some, nat_lt, is_some, unsigned_abs, if◌then◌else◌}
-use Rattle.rip_values.specs.declared.value.Span.{Span}
-use Rattle.rip_values.specs.declared.value.Value.{Value}
-use Rattle.rip_values.specs.declared.value.Value.TheVariants.{Undefined, Null, Bool as Boolean, Num, NaN, Text, Object}
-use Rattle.rip_values.specs.declared.value.Fault.TheVariants.{NotInProfile}
+use Rattle.rip_base.specs.declared.value.Span.{Span}
+use Rattle.rip_base.specs.declared.value.Value.{Value}
+use Rattle.rip_base.specs.declared.value.Value.TheVariants.{Undefined, Null, Bool as Boolean, Num, NaN, Text, Object}
+use Rattle.rip_base.specs.declared.value.Fault.TheVariants.{NotInProfile}
 use Rattle.rip_values.specs.declared.fixed.FixedText.TheVariants.{Length}
 use Rattle.rip_values.specs.Pool.{text_at}
 use Rattle.rip_heap.specs.Arrays.{elements_at}

@@ -1,15 +1,15 @@
 -- `parseInt` (ECMA-262 15.1.2.2).
 use Rattle.std.specs.Prelude.{ℕ, ℤ, pos, negsuc, Bool, false, ◌||◌, ◌&&◌, ◌==◌, List, [], ◌∷◌, drop, Option, None, Some, Result, Ok, nat_le, take_while, if◌then◌else◌}
 use Rattle.std.specs.Str.Parse.{digits_value, starts_with_minus, without_leading_sign}
-use Rattle.rip_values.specs.declared.value.Value.{Value}
-use Rattle.rip_values.specs.declared.value.Numeral.{Numeral}
-use Rattle.rip_values.specs.declared.value.Numeral.TheVariants.{NaN}
-use Rattle.rip_values.specs.declared.value.Fault.{Fault}
-use Rattle.rip_values.specs.Blank.{trimmed_start}
-use Rattle.rip_values.specs.NumberScan.{is_digit, signed_value}
+use Rattle.rip_base.specs.declared.value.Value.{Value}
+use Rattle.rip_base.specs.declared.value.Numeral.{Numeral}
+use Rattle.rip_base.specs.declared.value.Numeral.TheVariants.{NaN}
+use Rattle.rip_base.specs.declared.value.Fault.{Fault}
+use Rattle.rip_base.specs.Blank.{trimmed_start}
+use Rattle.rip_base.specs.NumberScan.{is_digit, signed_value}
 use Rattle.rip_values.specs.Pool.{Texts, text_at}
 use Rattle.rip_heap.specs.Conversions.{number_of, int32_of, ranged, text_of_value}
-use Rattle.rip_values.specs.Values.{value_of_number}
+use Rattle.rip_base.specs.Values.{value_of_number}
 use Rattle.rip_heap.specs.Outcome.{Outcome, after_text}
 use Rattle.rip_heap.specs.World.{World}
 use Rattle.rip_builtins.specs.Arguments.{argument, then_gives, then_tries, value_or_fault}

@@ -1,8 +1,8 @@
 -- How the texts are found that `join` joins. No public clause cites this.
 use Rattle.std.specs.Prelude.{ℕ, zero, suc, true, false, List, [], codes, map, length, ◌+◌, slice_get, slice_range, unwrap_or}
 use Rattle.std.specs.Fmt.{signed_decimal}
-use Rattle.rip_values.specs.declared.value.Value.{Value}
-use Rattle.rip_values.specs.declared.value.Value.TheVariants.{Undefined, Null, Bool as Boolean, Num, NaN, Text, Object}
+use Rattle.rip_base.specs.declared.value.Value.{Value}
+use Rattle.rip_base.specs.declared.value.Value.TheVariants.{Undefined, Null, Bool as Boolean, Num, NaN, Text, Object}
 use Rattle.rip_values.specs.declared.fixed.FixedText.TheVariants.{Undefined as UndefinedText, Null as NullText, True as TrueText, False as FalseText, NaN as NaNText}
 use Rattle.rip_values.specs.Pool.{with_text}
 use Rattle.rip_heap.specs.Conversions.{span_of}

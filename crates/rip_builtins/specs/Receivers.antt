@@ -1,9 +1,9 @@
 -- The values on which the functions of arrays and of texts are called.
 use Rattle.std.specs.Prelude.{ℕ, Result, Ok, Err, if◌then◌else◌}
-use Rattle.rip_values.specs.declared.value.Span.{Span}
-use Rattle.rip_values.specs.declared.value.Value.{Value}
-use Rattle.rip_values.specs.declared.value.Value.TheVariants.{Undefined, Null, Bool as Boolean, Num, NaN, Text, Object}
-use Rattle.rip_values.specs.declared.value.Fault.TheVariants.{NotInProfile}
+use Rattle.rip_base.specs.declared.value.Span.{Span}
+use Rattle.rip_base.specs.declared.value.Value.{Value}
+use Rattle.rip_base.specs.declared.value.Value.TheVariants.{Undefined, Null, Bool as Boolean, Num, NaN, Text, Object}
+use Rattle.rip_base.specs.declared.value.Fault.TheVariants.{NotInProfile}
 use Rattle.rip_heap.specs.Outcome.{Outcome, Throws, Faults}
 use Rattle.rip_heap.specs.World.{World, is_array, class_of, object_at}
 use Rattle.rip_builtins.specs.declared.receivers.NoReceiver.{NoReceiver}

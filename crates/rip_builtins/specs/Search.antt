@@ -1,8 +1,8 @@
 -- A text in a text (ECMA-262 15.5.4.7).
 use Rattle.std.specs.Prelude.{ℕ, ℤ, List, length, Result}
-use Rattle.rip_values.specs.declared.value.Span.{Span}
-use Rattle.rip_values.specs.declared.value.Value.{Value}
-use Rattle.rip_values.specs.declared.value.Fault.{Fault}
+use Rattle.rip_base.specs.declared.value.Span.{Span}
+use Rattle.rip_base.specs.declared.value.Value.{Value}
+use Rattle.rip_base.specs.declared.value.Fault.{Fault}
 use Rattle.rip_values.specs.Pool.{Texts, text_at}
 use Rattle.rip_heap.specs.Conversions.{text_of_value}
 use Rattle.rip_heap.specs.Outcome.{Outcome, after_text}

@@ -1,9 +1,9 @@
 -- The functions of texts. Places count units from 0; a piece of a text costs nothing.
 use Rattle.std.specs.Prelude.{ℕ, ℤ, pos, negsuc, List, length, ◌+◌, ◌-◌, min, max, nat_lt, Option, None, Some, Result, Ok, slice_get, option_and_then, if◌then◌else◌}
-use Rattle.rip_values.specs.declared.value.Span.{Span}
-use Rattle.rip_values.specs.declared.value.Value.{Value}
-use Rattle.rip_values.specs.declared.value.Value.TheVariants.{Undefined, Num, NaN, Text}
-use Rattle.rip_values.specs.declared.value.Fault.{Fault}
+use Rattle.rip_base.specs.declared.value.Span.{Span}
+use Rattle.rip_base.specs.declared.value.Value.{Value}
+use Rattle.rip_base.specs.declared.value.Value.TheVariants.{Undefined, Num, NaN, Text}
+use Rattle.rip_base.specs.declared.value.Fault.{Fault}
 use Rattle.rip_values.specs.declared.fixed.FixedText.TheVariants.{Empty}
 use Rattle.rip_values.specs.Pool.{Texts, text_at}
 use Rattle.rip_heap.specs.Conversions.{span_of}

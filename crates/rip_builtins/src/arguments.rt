@@ -2,8 +2,9 @@ ghost use Rattle.std.specs.Prelude.{◌≡◌};
 ghost use Rattle.rip_heap.specs.Conversions.{span_of};
 ghost use Rattle.rip_builtins.specs.Arguments.{argument, integer_in};
 
+use rip_base::{Fault, Span, Value};
 use rip_heap::{Heap, to_integer, to_number};
-use rip_values::{Fault, FixedText, Span, Value};
+use rip_values::FixedText;
 
 // The argument at this place; one that is absent is undefined (ECMA-262 15).
 pub fn argument(args: &[Value], place: usize) -> Value

@@ -1,6 +1,6 @@
 ghost use Rattle.std.specs.Prelude.{◌≡◌, ◌≤◌, false, slice_get};
 ghost use Rattle.std.specs.Option.{option_map_or};
-ghost use Rattle.rip_values.specs.declared.value.Value.{Value};
+ghost use Rattle.rip_base.specs.declared.value.Value.{Value};
 ghost use Rattle.rip_heap.specs.Conversions.{strictly_equal};
 ghost use Rattle.rip_heap.specs.Arrays.{elements_at};
 ghost use Rattle.rip_heap.specs.Growth.{Grows};
@@ -9,8 +9,8 @@ ghost use Rattle.rip_builtins.specs.Arrays.{push, pop, slice, slice_between, ind
 
 use crate::arguments::{argument, integer_of};
 use crate::texts::end_of;
+use rip_base::{Value, Whole};
 use rip_heap::{Abrupt, Heap, strictly_equal};
-use rip_values::{Value, Whole};
 use std::alloc::Global;
 
 // `push` (ECMA-262 15.4.4.7).

@@ -14,8 +14,9 @@ use crate::parse_int::parse_int;
 use crate::receivers::{array_of, refused, text_of};
 use crate::text_search::place_of;
 use crate::texts::{char_at, char_code_at, substring};
+use rip_base::{Fault, Value};
 use rip_heap::{Abrupt, Class, Heap};
-use rip_values::{Builtin, BuiltinHome, Fault, Value};
+use rip_values::{Builtin, BuiltinHome};
 use std::alloc::Global;
 
 /// What a built-in function answers where it is called on `this` with these arguments (ECMA-262 15). An answer other

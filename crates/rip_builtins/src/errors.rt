@@ -5,8 +5,8 @@ ghost use Rattle.rip_heap.specs.Objects.{new_of};
 ghost use Rattle.rip_builtins.specs.Arguments.{object_or_limit};
 
 use crate::arguments::argument;
+use rip_base::Value;
 use rip_heap::{Abrupt, Class, Heap};
-use rip_values::Value;
 use std::alloc::Global;
 
 // `Error`, `TypeError` and `RangeError` (ECMA-262 15.11.1.1).

@@ -2,8 +2,9 @@ ghost use Rattle.rip_heap.specs.Growth.{Grows};
 ghost use Rattle.rip_heap.specs.Outcome.{Answers};
 ghost use Rattle.rip_builtins.specs.Globals.{string_call};
 
+use rip_base::Value;
 use rip_heap::{Abrupt, Heap, to_text};
-use rip_values::{FixedText, Value};
+use rip_values::FixedText;
 use std::alloc::Global;
 
 // `String` (ECMA-262 15.5.1.1).

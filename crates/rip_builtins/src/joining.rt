@@ -1,5 +1,5 @@
 ghost use Rattle.std.specs.Prelude.{◌≡◌, ◌+◌, ◌≤◌, ◌^◌, ◌∷◌, OnOk, IfErr, Ok, Err, length, min, take};
-ghost use Rattle.rip_values.specs.declared.value.Value.TheVariants.{Text};
+ghost use Rattle.rip_base.specs.declared.value.Value.TheVariants.{Text};
 ghost use Rattle.rip_heap.specs.Arrays.{elements_at};
 ghost use Rattle.rip_heap.specs.Growth.{Grows};
 ghost use Rattle.rip_heap.specs.Outcome.{Answers, Gives};
@@ -8,8 +8,8 @@ ghost use Rattle.rip_builtins.specs.Pieces.{gap, item_at, joined_in, piece_in, w
 
 use crate::arguments::argument;
 use crate::pieces::{Piece, add_piece, piece_length, piece_of_element, piece_of_separator};
+use rip_base::{Fault, Limit, Span, Value, text_of_whole};
 use rip_heap::{Abrupt, Halt, Heap, to_text};
-use rip_values::{Fault, Limit, Span, Value, text_of_whole};
 use std::alloc::Global;
 
 // `join` (ECMA-262 15.4.4.5).

@@ -4,8 +4,8 @@ ghost use Rattle.rip_builtins.specs.Arguments.{then_tries};
 ghost use Rattle.rip_builtins.specs.Numbers.{absolute, math_abs, math_floor, math_extreme, extreme_of, extreme_of_two, numbers_of, is_nan_call, number_call};
 
 use crate::arguments::argument;
+use rip_base::{Fault, Numeral, Value, Whole};
 use rip_heap::{Abrupt, Heap, number_done, to_number};
-use rip_values::{Fault, Numeral, Value, Whole};
 
 /// Which number of several is asked for.
 #[derive(Clone, Copy, Debug, PartialEq, Eq)]

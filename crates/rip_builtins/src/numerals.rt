@@ -1,11 +1,11 @@
-ghost use Rattle.rip_values.specs.declared.value.Value.TheVariants.{Num};
+ghost use Rattle.rip_base.specs.declared.value.Value.TheVariants.{Num};
 ghost use Rattle.rip_heap.specs.Conversions.{text_of_value};
 ghost use Rattle.rip_heap.specs.Growth.{Grows};
 ghost use Rattle.rip_heap.specs.Outcome.{Answers, after_text};
 ghost use Rattle.rip_builtins.specs.Arguments.{value_or_fault};
 
+use rip_base::{Fault, Value, Whole};
 use rip_heap::{Abrupt, Heap, room_for_numeral, to_text};
-use rip_values::{Fault, Value, Whole};
 use std::alloc::Global;
 
 // The answer of a call behind the conversion of a number to text, which is charged where there is a value.

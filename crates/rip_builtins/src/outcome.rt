@@ -1,8 +1,8 @@
 ghost use Rattle.rip_heap.specs.Outcome.{Answers};
 ghost use Rattle.rip_builtins.specs.Arguments.{value_or_fault};
 
+use rip_base::{Fault, Value};
 use rip_heap::{Abrupt, Heap};
-use rip_values::{Fault, Value};
 
 // The answer of a call that gives a value or a fault.
 pub fn value_done(heap: &Heap, answer: Result<Value, Fault>) -> Result<Value, Abrupt>

@@ -4,11 +4,12 @@ ghost use Rattle.rip_heap.specs.Outcome.{Answers};
 ghost use Rattle.rip_builtins.specs.OwnProperties.{has_own_property, has_own, own_asked, own_of_plain, own_of_array, number_of_array};
 
 use crate::arguments::argument;
+use rip_base::{Fault, Span, Value, Whole};
 use rip_heap::{
     Abrupt, Asked, Heap, asked_of, index_of, is_barred, is_index, is_named, is_underscored,
     not_in_profile, to_text,
 };
-use rip_values::{Fault, FixedText, Span, Value, Whole};
+use rip_values::FixedText;
 use std::alloc::Global;
 
 // `hasOwnProperty` (ECMA-262 15.2.4.5).

@@ -1,8 +1,8 @@
 ghost use Rattle.std.specs.Prelude.{◌≡◌, ◌≤◌, take_while, length, IfSome};
 ghost use Rattle.std.specs.List.{prefix_len};
-ghost use Rattle.rip_values.specs.NumberScan.{is_digit};
+ghost use Rattle.rip_base.specs.NumberScan.{is_digit};
 ghost use Rattle.rip_values.specs.Pool.{text_at};
-ghost use Rattle.rip_values.specs.declared.value.Value.TheVariants.{Num};
+ghost use Rattle.rip_base.specs.declared.value.Value.TheVariants.{Num};
 ghost use Rattle.rip_heap.specs.Conversions.{text_of_value};
 ghost use Rattle.rip_heap.specs.Growth.{Grows};
 ghost use Rattle.rip_heap.specs.Outcome.{Answers, after_text};
@@ -12,10 +12,10 @@ ghost use Rattle.rip_builtins.specs.ParseInt.{is_marked, base_of, without_mark, 
 use crate::arguments::argument;
 use crate::numerals::behind_numeral;
 use crate::outcome::value_done;
-use rip_heap::{Abrupt, Heap, to_int32, to_number, to_text};
-use rip_values::{
+use rip_base::{
     Fault, Numeral, Value, Whole, digit_value, split_sign, text_of_whole, trim_start, whole_of,
 };
+use rip_heap::{Abrupt, Heap, to_int32, to_number, to_text};
 use std::alloc::Global;
 
 const ZERO: u16 = 0x30;

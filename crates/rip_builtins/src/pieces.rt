@@ -4,8 +4,9 @@ ghost use Rattle.rip_builtins.specs.declared.pieces.Piece.TheVariants.{Part};
 ghost use Rattle.rip_builtins.specs.Pieces.{piece_in, piece_of_element, piece_of_separator, piece_of_value, with_units};
 
 use crate::arguments::fixed_span;
+use rip_base::{Span, Value, Whole, text_of_whole};
 use rip_heap::Heap;
-use rip_values::{FixedText, Span, Value, Whole, text_of_whole};
+use rip_values::FixedText;
 use std::alloc::Global;
 
 const COMMA: [u16; 1] = [0x2C];

@@ -3,8 +3,8 @@ ghost use Rattle.rip_builtins.specs.Receivers.{array_of, text_of, refusal};
 ghost use Rattle.rip_heap.specs.Outcome.{Answers};
 ghost use Rattle.rip_heap.specs.World.{is_array, class_of, object_at};
 
+use rip_base::{Fault, Span, Value};
 use rip_heap::{Abrupt, Class, Heap};
-use rip_values::{Fault, Span, Value};
 
 /// Why a value has no function of arrays, or of texts.
 #[derive(Clone, Copy, Debug, PartialEq, Eq)]

@@ -1,6 +1,6 @@
 ghost use Rattle.std.specs.Prelude.{◌≡◌, length};
 ghost use Rattle.rip_values.specs.Pool.{text_at};
-ghost use Rattle.rip_values.specs.declared.value.Value.TheVariants.{Num};
+ghost use Rattle.rip_base.specs.declared.value.Value.TheVariants.{Num};
 ghost use Rattle.rip_heap.specs.Conversions.{text_of_value};
 ghost use Rattle.rip_heap.specs.Growth.{Grows};
 ghost use Rattle.rip_heap.specs.Outcome.{Answers, after_text};
@@ -13,8 +13,8 @@ use crate::arrays::place_or_none;
 use crate::numerals::behind_numeral;
 use crate::outcome::value_done;
 use crate::texts::clamped;
+use rip_base::{Fault, Span, Value, Whole, text_of_whole};
 use rip_heap::{Abrupt, Heap, to_text};
-use rip_values::{Fault, Span, Value, Whole, text_of_whole};
 use std::alloc::Global;
 
 // `indexOf` of texts (ECMA-262 15.5.4.7).

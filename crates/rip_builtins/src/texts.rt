@@ -1,13 +1,14 @@
 ghost use Rattle.std.specs.Prelude.{◌≡◌, ◌≤◌, ◌+◌, ◌^◌, ◌<◌, ℕ, Some, IfSome, length, slice_get, option_and_then};
-ghost use Rattle.rip_values.specs.declared.value.Value.TheVariants.{Text};
+ghost use Rattle.rip_base.specs.declared.value.Value.TheVariants.{Text};
 ghost use Rattle.rip_values.specs.Pool.{text_at};
 ghost use Rattle.rip_heap.specs.Outcome.{Answers};
 ghost use Rattle.rip_builtins.specs.Arguments.{value_or_fault};
 ghost use Rattle.rip_builtins.specs.Texts.{piece, place_within, clamped, char_at, char_code_at, substring, end_in, piece_between, unit_or_empty, number_or_nan};
 
 use crate::arguments::{argument, fixed_span, integer_of};
+use rip_base::{Fault, Span, Value};
 use rip_heap::{Abrupt, Heap};
-use rip_values::{Fault, FixedText, Pool, Span, Value};
+use rip_values::{FixedText, Pool};
 
 // `charAt` (ECMA-262 15.5.4.4).
 pub fn char_at(heap: &Heap, text: Span, args: &[Value]) -> Result<Value, Abrupt>

@@ -4,7 +4,7 @@ ghost use Rattle.rip_calls.specs.Lines.{BeginsWithLine};
 
 use crate::queue::LINE_FEED;
 use circular_buffer::HeapCircularBuffer;
-use rip_values::{Bytes, NoMemory};
+use rip_base::{Bytes, NoMemory};
 use std::alloc::Global;
 
 /// Where the first line feed stands.

@@ -4,7 +4,7 @@ ghost use Rattle.rip_calls.specs.Calls.{IsOneLine, least_text, none_made, waitin
 use crate::lines::{begins_with_line, first_bytes, line_end};
 use crate::past::{Call, Past};
 use circular_buffer::HeapCircularBuffer;
-use rip_values::{Bytes, Limit, NoMemory, Refused};
+use rip_base::{Bytes, Limit, NoMemory, Refused};
 use std::alloc::Global;
 use std::marker::Model;
 

@@ -1,9 +1,9 @@
-pub mod AskedLemmas
-pub mod WordLemmas
-pub mod DoorLemmas
-pub mod MomentLemmas
-pub mod FileLemmas
-pub mod SettleLemmas
-pub mod ServeLemmas
-pub mod RunLemmas
 pub mod Accepting
+pub mod AskedLemmas
+pub mod DoorLemmas
+pub mod FileLemmas
+pub mod MomentLemmas
+pub mod RunLemmas
+pub mod ServeLemmas
+pub mod SettleLemmas
+pub mod WordLemmas

@@ -3,7 +3,7 @@ use Rattle.std.proofs.Common.{◌≡◌, ℕ, List, [], Option, refl, sym, appen
 use Rattle.rip_outer.proofs.Composing.{Front-none}
 use Rattle.rip_outer.specs.declared.reading.NamedFile.{NamedFile}
 use Rattle.rip_words.specs.Commands.{Task, IsTask}
-use Rattle.rip_turn.specs.Turning.{Outer}
+use Rattle.rip_server.specs.Turning.{Outer}
 use Rattle.rip_cli.specs.Words.{IsForm, in_order, usage_line}
 use Rattle.rip_cli.specs.Steps.{AskedFront, PutsLine, CountsStatus}
 use Rattle.rip_cli.specs.Settling.{Settles, Counts, with_sink}

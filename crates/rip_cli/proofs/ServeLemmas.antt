@@ -8,11 +8,11 @@ use Rattle.rip_outer.specs.declared.connections.TraceKnock.{TraceKnock}
 use Rattle.rip_server.specs.Acts.{seen}
 use Rattle.rip_app.specs.App.{Loaded}
 use Rattle.rip_trace.specs.Traces.{Given}
-use Rattle.rip_turn.specs.Turning.{Outer, outer, source}
+use Rattle.rip_server.specs.Turning.{Outer, outer, source}
 use Rattle.rip_serve.specs.Serving.{Serves, NoFaults, OneFault}
 use Rattle.rip_serve.specs.declared.serving.Stop.{Stop}
 use Rattle.rip_cli.specs.Input.{IsApp, HasTrace}
-use Rattle.rip_site.specs.Sites.{ServesApp, site_of_app}
+use Rattle.rip_serve.specs.Sites.{ServesApp, site_of_app}
 use Rattle.rip_cli.specs.Service.{IsStop, Replayed, brought}
 use Rattle.rip_cli.specs.Settling.{Settles, Counts, with_sink}
 use Rattle.rip_cli.specs.Steps.{CountsStatus}

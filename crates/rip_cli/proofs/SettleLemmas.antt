@@ -1,7 +1,7 @@
 -- What a line that was put, and a server that was run, say of what was done for the input.
 use Rattle.std.proofs.Common.{◌≡◌, ℕ, List, Option, Some, None, inl, inr, length, refl, ap, ◌∙◌}
 use Rattle.rip_app.specs.App.{Loaded, AppOf}
-use Rattle.rip_turn.specs.Turning.{Outer}
+use Rattle.rip_server.specs.Turning.{Outer}
 use Rattle.rip_serve.specs.Serving.{OnlyPuts}
 use Rattle.rip_cli.specs.Content.{content_bytes}
 use Rattle.rip_cli.specs.Lines.{count_line}
@@ -13,7 +13,7 @@ use Rattle.rip_cli.specs.declared.input.ThreeFiles.{ThreeFiles}
 use Rattle.rip_cli.specs.Service.{IsTraceOf}
 use Rattle.rip_cli.specs.declared.input.Input.{Input}
 use Rattle.rip_cli.specs.declared.input.Input.TheVariants.{Check, Drive, Generate}
-use Rattle.rip_generate.specs.Generated.{IsGenerated}
+use Rattle.rip_gen.specs.Generated.{IsGenerated}
 use Rattle.rip_cli.specs.declared.refusal.Refusal.{Refusal}
 use Rattle.rip_cli.specs.declared.status.Status.{Status}
 use Rattle.rip_cli.specs.declared.status.Status.TheVariants.{Read, BadWords, BadInput, TurnsSpent, Outside, NoMemory}

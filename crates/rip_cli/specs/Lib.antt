@@ -1,10 +1,10 @@
-pub mod Words
-pub mod Lines
 pub mod Content
 pub mod Input
-pub mod Steps
-pub mod TraceDoor
+pub mod Laws
+pub mod Lines
+pub mod Run
 pub mod Service
 pub mod Settling
-pub mod Run
-pub mod Laws
+pub mod Steps
+pub mod TraceDoor
+pub mod Words

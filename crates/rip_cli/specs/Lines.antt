@@ -1,6 +1,6 @@
 -- The lines of a run that puts one.
 use Rattle.std.specs.Prelude.{◌++◌, ℕ, List, codes, decimal, Option, Some, None}
-use Rattle.rip_values.specs.Printed.{kind_text as page_word}
+use Rattle.rip_base.specs.Printed.{kind_text as page_word}
 use Rattle.rip_lexer.specs.Printed.{kind_text as lex_word}
 use Rattle.rip_parser.specs.Printed.{kind_text as parse_word}
 use Rattle.rip_early.specs.Printed.{kind_text as early_word}

@@ -3,7 +3,7 @@ use Rattle.std.specs.Prelude.{◌≡◌, ◌++◌, ◌⊎◌, ℕ, List, Option}
 use Rattle.rip_outer.specs.Outside.{Rose, also}
 use Rattle.rip_outer.specs.declared.reading.NamedFile.{NamedFile}
 use Rattle.rip_words.specs.Commands.{Task, IsTask}
-use Rattle.rip_turn.specs.Turning.{Outer}
+use Rattle.rip_server.specs.Turning.{Outer}
 use Rattle.rip_serve.specs.Serving.{NoFaults, OneFault}
 use Rattle.rip_cli.specs.Words.{IsForm, in_order, usage_line}
 use Rattle.rip_cli.specs.Input.{IsInputOf, Refuses}

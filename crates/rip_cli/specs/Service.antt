@@ -8,12 +8,12 @@ use Rattle.rip_app.specs.App.{Loaded}
 use Rattle.rip_trace.specs.Traces.{Given}
 use Rattle.rip_trace.specs.declared.gestures.LinedGesture.{LinedGesture}
 use Rattle.rip_drive.specs.Driving as driving
-use Rattle.rip_generate.specs.Generated.{IsGenerated}
+use Rattle.rip_gen.specs.Generated.{IsGenerated}
 use Rattle.rip_server.specs.Acts.{seen}
-use Rattle.rip_turn.specs.Turning.{Outer, outer, source}
+use Rattle.rip_server.specs.Turning.{Outer, outer, source}
 use Rattle.rip_serve.specs.declared.serving.Stop.{Stop}
 use Rattle.rip_serve.specs.declared.serving.Stop.TheVariants as stop
-use Rattle.rip_site.specs.Sites.{ServesApp}
+use Rattle.rip_serve.specs.Sites.{ServesApp}
 use Rattle.rip_cli.specs.Input.{IsApp, HasTrace, HasGestures, IsCount}
 use Rattle.rip_cli.specs.declared.input.AppInput.{AppInput}
 use Rattle.rip_cli.specs.declared.input.ThreeFiles.{ThreeFiles}

@@ -1,7 +1,7 @@
 -- What is done for the input, whether it is refused or accepted.
 use Rattle.std.specs.Prelude.{◌≡◌, ◌⊎◌, ℕ, List, Option}
 use Rattle.rip_outer.specs.Outside.{Front, also}
-use Rattle.rip_turn.specs.Turning.{Outer}
+use Rattle.rip_server.specs.Turning.{Outer}
 use Rattle.rip_serve.specs.Serving.{OnlyPuts, NoFaults, OneFault}
 use Rattle.rip_cli.specs.Input.{Refuses}
 use Rattle.rip_cli.specs.Service.{Does}

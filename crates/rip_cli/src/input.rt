@@ -10,9 +10,9 @@ ghost use Rattle.rip_cli.specs.Words.{in_order};
 
 use crate::refusal::Refusal;
 use rip_app::{App, load};
+use rip_base::Bytes;
 use rip_outer::{Files, FilesError};
 use rip_trace::{Gestures, Trace, TraceRefusal, read_gestures, read_trace};
-use rip_values::Bytes;
 use rip_words::Command;
 use std::alloc::Global;
 

@@ -1,7 +1,7 @@
 ghost use Rattle.std.specs.Prelude.{◌≡◌, ◌++◌, IfOk, OnOk, codes, decimal};
 ghost use Rattle.rip_cli.specs.Lines.{count_line, gestures_line, manifest_line, page_line, script_line, too_long_line, trace_line};
 
-use rip_values::{Bytes, NoMemory, Writer};
+use rip_base::{Bytes, NoMemory, Writer};
 use std::alloc::Global;
 
 /// What `check` says of an application whose page has so many nodes and scripts.

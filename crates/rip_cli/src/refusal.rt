@@ -7,7 +7,7 @@ use crate::lines::{
     gestures_line, manifest_line, page_line, script_line, too_long_line, trace_line,
 };
 use rip_app::AppRefusal;
-use rip_values::{Bytes, NoMemory};
+use rip_base::{Bytes, NoMemory};
 use std::alloc::Global;
 
 /// Why input is refused.

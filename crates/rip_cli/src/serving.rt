@@ -4,11 +4,11 @@ ghost use Rattle.rip_cli.specs.Service.{Replayed};
 
 use crate::trace_door::TraceDoor;
 use rip_app::App;
+use rip_base::NoMemory;
 use rip_outer::{MemoryClock, MemoryWords, Sink};
 use rip_serve::Stop;
-use rip_site::serve_app;
+use rip_serve::site::serve_app;
 use rip_trace::Trace;
-use rip_values::NoMemory;
 use std::alloc::Global;
 
 /// Serves the application to what the trace brings, from memory. Want of memory before the first turn leaves the sink as it

@@ -1,6 +1,6 @@
 ghost use Rattle.std.specs.Prelude.{◌≡◌, length, map, string_bytes};
 ghost use Rattle.rip_server.specs.Acts.{seen};
-ghost use Rattle.rip_turn.specs.Turning.{Outer, outer, source};
+ghost use Rattle.rip_server.specs.Turning.{Outer, outer, source};
 ghost use Rattle.rip_cli.specs.Input.{FitsAll};
 ghost use Rattle.rip_cli.specs.Laws.{AcceptedIsDone};
 ghost use Rattle.rip_cli.specs.Lines.{count_line};
@@ -16,9 +16,9 @@ use crate::serving::replay;
 use crate::status::Status;
 use rip_app::App;
 use rip_drive::{DriveRefusal, drive};
-use rip_generate::generate;
+use rip_gen::generate::generate;
 use rip_outer::{Clock, Door, Files, Sink, SinkError, Words};
-use rip_site::serve_app;
+use rip_serve::site::serve_app;
 use rip_words::command_of;
 use std::alloc::Global;
 

@@ -3,8 +3,8 @@ ghost use Rattle.std.specs.List.{AllByRecursion};
 ghost use Rattle.rip_outer.specs.MemoryDoor.{hushed_by};
 ghost use Rattle.rip_cli.specs.TraceDoor.{IsWithin};
 
+use rip_base::NoMemory;
 use rip_outer::{Door, Knock, KnockList, Sent, TraceKnock, answer_of, copy_of_knocks};
-use rip_values::NoMemory;
 use std::alloc::Global;
 use std::collections::VecDeque;
 use std::marker::Model;

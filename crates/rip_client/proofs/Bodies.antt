@@ -7,8 +7,8 @@ use Rattle.json.specs.Print.{escape_byte, quoted}
 use Rattle.serde_json.specs.View.{items_of}
 use Rattle.serde_json.specs.Written.{compact_text}
 use Rattle.serde_json.specs.Written as written
-use Rattle.rip_cutting.specs.Cutting.{body_size}
-use Rattle.rip_cutting.specs.Cutting as cutting
+use Rattle.rip_client.specs.Cutting.{body_size}
+use Rattle.rip_client.specs.Cutting as cutting
 use Rattle.rip_wire.specs.Batches.{Contents, batch_text, items_text}
 use Rattle.rip_wire.specs.Items.{Reported, event, call, reply, reported_of, item_value}
 use Rattle.rip_wire.specs.declared.item.Item.{Item}

@@ -1,2 +1,4 @@
 pub mod Bodies
+pub mod Fronts
+pub mod PlayedWhole
 pub mod Telling

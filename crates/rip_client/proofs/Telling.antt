@@ -8,8 +8,8 @@ use Rattle.rip_wire.specs.declared.item.Item.{Item}
 use Rattle.rip_client.specs.declared.client.Client.{Client}
 use Rattle.rip_client.specs.declared.list.Telling.{Telling}
 use Rattle.rip_client.specs.Bytes.{batches_of}
-use Rattle.rip_runs.specs.declared.close.Close.{Close}
-use Rattle.rip_runs.specs.declared.close.Close.TheVariants.{Fine, Refused, Mismatch, Stopped}
+use Rattle.rip_eval_rows.specs.declared.close.Close.{Close}
+use Rattle.rip_eval_rows.specs.declared.close.Close.TheVariants.{Fine, Refused, Mismatch, Stopped}
 use Rattle.rip_client.specs.declared.client.Stop.{Stop}
 use Rattle.rip_client.specs.declared.client.Stop.TheVariants.{Closed, Memory}
 use Rattle.rip_client.specs.Truth.{Fits, IsPut, Place, Playing, Waiting, Then, goes_on, breaks, IsReportOf, TellsCall, TellsCalls, TellsEvent, TellsItem, TellsList, TellsReplies, in_next, with_item}

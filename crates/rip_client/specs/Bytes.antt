@@ -1,7 +1,7 @@
 -- The bytes of items and of batches as they are told.
 use Rattle.std.specs.Prelude.{◌≡◌, ℕ, List, length, map, min}
 use Rattle.serde_json.specs.Written.{compact_text}
-use Rattle.rip_cutting.specs.Cutting.{body_size}
+use Rattle.rip_client.specs.Cutting.{body_size}
 use Rattle.rip_wire.specs.Batches.{Contents, contents_of}
 use Rattle.rip_wire.specs.Items.{Reported, item_value, reported_of}
 use Rattle.rip_wire.specs.declared.item.Item.{Item}

@@ -1,3 +1,5 @@
 pub mod Bytes
+pub mod Cutting
 pub mod Sizes
 pub mod Truth
+pub mod Wholes

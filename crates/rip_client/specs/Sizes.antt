@@ -1,7 +1,7 @@
 -- How clients stand in code, and what came of telling.
 use Rattle.std.specs.Prelude.{◌≡◌, map, Option, None, Some, Result, Ok, Err}
-use Rattle.rip_runs.specs.declared.close.Close.{Close}
-use Rattle.rip_runs.specs.declared.close.Close.TheVariants.{Fine, Refused, Mismatch, Stopped}
+use Rattle.rip_eval_rows.specs.declared.close.Close.{Close}
+use Rattle.rip_eval_rows.specs.declared.close.Close.TheVariants.{Fine, Refused, Mismatch, Stopped}
 use Rattle.rip_wire.specs.Items.{Reported, event, reply, reported_of, HasDetail}
 use Rattle.rip_wire.specs.declared.gesture.Gesture.{Gesture}
 use Rattle.rip_wire.specs.declared.gesture.Gesture.TheVariants.{Event, Flush}

@@ -1,8 +1,8 @@
 -- What a truthful client tells of a user's gestures.
 use Rattle.std.specs.Prelude.{◌≡◌, ◌≢◌, ℕ, ◌+◌, ◌≤◌, Bool, List, [], ◌∷◌, ◌++◌, length, map, Option, Some, None, Result, Ok, Err, if◌then◌else◌}
 use Rattle.rip_data.specs.Datum.{Tree}
-use Rattle.rip_runs.specs.declared.close.Close.{Close}
-use Rattle.rip_runs.specs.declared.close.Close.TheVariants.{Fine, Refused, Mismatch, Stopped}
+use Rattle.rip_eval_rows.specs.declared.close.Close.{Close}
+use Rattle.rip_eval_rows.specs.declared.close.Close.TheVariants.{Fine, Refused, Mismatch, Stopped}
 use Rattle.rip_wire.specs.Batches.{Contents, batch_text, contents_of}
 use Rattle.rip_wire.specs.Calls.{call_text}
 use Rattle.rip_wire.specs.Items.{Reported, event, call, reply, reported_of, AreArgs}

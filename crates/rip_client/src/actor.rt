@@ -1,5 +1,5 @@
-use rip_runs::Close;
-use rip_values::{Bytes, NoMemory};
+use rip_base::{Bytes, NoMemory};
+use rip_eval_rows::Close;
 use rip_wire::Item;
 use std::alloc::Global;
 

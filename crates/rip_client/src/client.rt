@@ -1,5 +1,5 @@
 ghost use Rattle.std.specs.Prelude.{◌≡◌, ◌≢◌, ◌+◌, ◌++◌, ◌∷◌, [], ℕ, List as Sequence, None, Some, IfOk, IfErr, OnOk, if◌then◌else◌};
-ghost use Rattle.rip_runs.specs.declared.close.Close.{Close as Closes};
+ghost use Rattle.rip_eval_rows.specs.declared.close.Close.{Close as Closes};
 ghost use Rattle.rip_wire.specs.Items.{reported_of};
 ghost use Rattle.rip_client.specs.Truth.{IsPut, Then, waiting_of, TellsCall, TellsCalls, TellsEvent, TellsGesture, TellsItem, TellsList, TellsReplies};
 ghost use Rattle.rip_client.specs.Sizes.{Comes, IsGesture, IsTold, MayBeTold, ToldSo, end_of, how_told, place_of};
@@ -9,8 +9,8 @@ ghost use Rattle.rip_client.specs.Bytes.{batches_of, size_of};
 use crate::actor::{Actor, WaitingCall};
 use crate::list::{Telling, ToldBatch};
 use crate::tale::{Tale, item_of, text_size};
-use rip_runs::Close;
-use rip_values::NoMemory;
+use rip_base::NoMemory;
+use rip_eval_rows::Close;
 use rip_wire::{Gesture, Item};
 use std::alloc::Global;
 use std::mem;

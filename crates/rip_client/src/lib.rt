@@ -20,8 +20,10 @@
 
 mod actor;
 mod client;
+pub mod cutting;
 mod list;
 mod tale;
+pub mod whole;
 
 pub use actor::{Actor, Over, WaitingCall};
 pub use client::{Client, HowTold, Told};

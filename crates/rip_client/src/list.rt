@@ -4,8 +4,8 @@ ghost use Rattle.rip_wire.specs.Items.{Reported, reported_of};
 ghost use Rattle.rip_client.specs.Truth.{Fits};
 ghost use Rattle.rip_client.specs.Bytes.{HasBytes, batches_of, size_of};
 
-use rip_cutting::{empty_size, has_room, size_with};
-use rip_values::NoMemory;
+use crate::cutting::{empty_size, has_room, size_with};
+use rip_base::NoMemory;
 use rip_wire::{Batch, Item, ItemList, MOST_BATCHES};
 use std::alloc::Global;
 use std::mem;

@@ -5,7 +5,7 @@ ghost use Rattle.rip_client.specs.Bytes.{size_of};
 ghost use Rattle.rip_client.specs.Sizes.{IsTold, MayBeTold};
 
 use crate::actor::WaitingCall;
-use rip_values::{NoMemory, Report, Units};
+use rip_base::{NoMemory, Report, Units};
 use rip_wire::{Item, ItemList, WireError, read_call, write_item_list};
 use std::alloc::Global;
 

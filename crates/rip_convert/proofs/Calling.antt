@@ -7,12 +7,12 @@ use Rattle.json.specs.Print.{quoted}
 use Rattle.serde_json.specs.Data.{Data, Items, depth}
 use Rattle.serde_json.specs.Data as json
 use Rattle.serde_json.specs.Written.{compact_text}
-use Rattle.rip_values.specs.declared.value.Span.{Span}
-use Rattle.rip_values.specs.declared.value.Value.{Value}
-use Rattle.rip_values.specs.declared.value.Fault.{Fault}
-use Rattle.rip_values.specs.declared.value.Fault.TheVariants.{BadArgument}
+use Rattle.rip_base.specs.declared.value.Span.{Span}
+use Rattle.rip_base.specs.declared.value.Value.{Value}
+use Rattle.rip_base.specs.declared.value.Fault.{Fault}
+use Rattle.rip_base.specs.declared.value.Fault.TheVariants.{BadArgument}
 use Rattle.rip_values.specs.Pool.{text_at}
-use Rattle.rip_values.specs.declared.value.Value.TheVariants.{Object}
+use Rattle.rip_base.specs.declared.value.Value.TheVariants.{Object}
 use Rattle.rip_heap.specs.Arrays.{elements_at}
 use Rattle.rip_heap.specs.World.{World}
 use Rattle.rip_data.specs.Datum.{Tree, Elements, no_elements, element, elements_of, data_of, canonical_text, utf8_of}

@@ -5,15 +5,15 @@ use Rattle.std.specs.Prelude.{slice_get, option_and_then, is_some}
 use Rattle.std.proofs.lemmas.Option.{slice_get_cases}
 use Rattle.std.proofs.lemmas.Bool.{cases_eq, cases_lt, le-leb, lt-leb}
 use Rattle.std.proofs.lemmas.List.{at_drop_more}
-use Rattle.rip_values.specs.declared.value.Span.{Span}
-use Rattle.rip_values.specs.declared.value.Value.{Value}
-use Rattle.rip_values.specs.declared.value.Value.TheVariants.{Undefined, Null, Bool as Boolean, Num, NaN, Text, Object}
-use Rattle.rip_values.specs.declared.value.Fault.{Fault}
-use Rattle.rip_values.specs.declared.value.Fault.TheVariants.{BadArgument, LoneSurrogate}
+use Rattle.rip_base.specs.declared.value.Span.{Span}
+use Rattle.rip_base.specs.declared.value.Value.{Value}
+use Rattle.rip_base.specs.declared.value.Value.TheVariants.{Undefined, Null, Bool as Boolean, Num, NaN, Text, Object}
+use Rattle.rip_base.specs.declared.value.Fault.{Fault}
+use Rattle.rip_base.specs.declared.value.Fault.TheVariants.{BadArgument, LoneSurrogate}
 use Rattle.rip_values.specs.Pool.{Texts, text_at}
 use Rattle.rip_heap.specs.declared.holder.Holder.{Holder}
 use Rattle.rip_heap.specs.declared.holder.Holder.TheVariants.{PlainObject, ArrayObject, OtherObject}
-use Rattle.rip_pages.specs.declared.property.Property.{Property}
+use Rattle.rip_heap_region.specs.declared.pages.property.Property.{Property}
 use Rattle.rip_heap.specs.Arrays.{elements_at}
 use Rattle.rip_heap.specs.Holders.{holder_of}
 use Rattle.rip_heap.specs.World.{World, Object as HeapObject, object_at}
@@ -21,7 +21,7 @@ use Rattle.rip_convert.specs.Arguments.{are_units, properties_of, or_fault, text
 use Rattle.rip_convert.specs.Written.{then_left, spelled_left, whole_left, elements_left, fields_left, parts_left, value_left, piece_left, left_after, AreWalked, mark_of}
 use Rattle.rip_convert.proofs.Judging.{named}
 use Rattle.rip_convert.proofs.Telling.{is_whole_of}
-use Rattle.rip_values.specs.Whole.{IsWhole}
+use Rattle.rip_base.specs.Whole.{IsWhole}
 use Rattle.rip_convert.proofs.Judged.{then-ok, spelled-ok, whole-ok}
 
 -- BOTH

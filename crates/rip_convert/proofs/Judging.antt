@@ -3,14 +3,14 @@ use Rattle.std.proofs.Common.{◌≡◌, ℕ, ℤ, zero, suc, ◌+◌, ◌-◌, 
 use Rattle.std.specs.Char.Utf16.{has_unpaired_surrogate}
 use Rattle.std.proofs.lemmas.Bool.{le-leb}
 use Rattle.std.proofs.lemmas.List.{at_drop_more}
-use Rattle.rip_values.specs.declared.value.Span.{Span}
-use Rattle.rip_values.specs.declared.value.Value.{Value}
-use Rattle.rip_values.specs.declared.value.Value.TheVariants.{Undefined, Num, Text, Object}
-use Rattle.rip_values.specs.declared.value.Fault.{Fault}
-use Rattle.rip_values.specs.declared.value.Fault.TheVariants.{BadArgument, LoneSurrogate}
+use Rattle.rip_base.specs.declared.value.Span.{Span}
+use Rattle.rip_base.specs.declared.value.Value.{Value}
+use Rattle.rip_base.specs.declared.value.Value.TheVariants.{Undefined, Num, Text, Object}
+use Rattle.rip_base.specs.declared.value.Fault.{Fault}
+use Rattle.rip_base.specs.declared.value.Fault.TheVariants.{BadArgument, LoneSurrogate}
 use Rattle.rip_values.specs.Pool.{text_at}
-use Rattle.rip_values.specs.Whole.{IsWhole}
-use Rattle.rip_pages.specs.declared.property.Property.{Property}
+use Rattle.rip_base.specs.Whole.{IsWhole}
+use Rattle.rip_heap_region.specs.declared.pages.property.Property.{Property}
 use Rattle.rip_heap.specs.Holders.{holder_of}
 use Rattle.rip_heap.specs.World.{World, object_at}
 use Rattle.rip_convert.specs.Arguments.{are_units}

@@ -7,10 +7,10 @@ use Rattle.std.proofs.lemmas.List.{take-append-drop, take-append-le, drop-append
 use Rattle.std.proofs.lemmas.List.Elements.{All-head, All-tail, All-append, All-cons, All-nil}
 use Rattle.std.proofs.lemmas.Map.Lookups.{exact_bytes}
 use Rattle.serde_json.specs.Data.{Data, Members, no_members, member, put}
-use Rattle.rip_values.specs.declared.value.Value.{Value}
-use Rattle.rip_values.specs.declared.value.Value.TheVariants.{Undefined}
+use Rattle.rip_base.specs.declared.value.Value.{Value}
+use Rattle.rip_base.specs.declared.value.Value.TheVariants.{Undefined}
 use Rattle.rip_values.specs.Pool.{Texts}
-use Rattle.rip_pages.specs.declared.property.Property.{Property}
+use Rattle.rip_heap_region.specs.declared.pages.property.Property.{Property}
 use Rattle.serde_json.specs.Data.{null}
 use Rattle.rip_data.specs.Datum.{AreInOrder}
 use Rattle.rip_convert.specs.Written.{AreFrom, fields_data, field_at, name_at, members_before, members_at, IsOrdered}

@@ -5,7 +5,7 @@ use Rattle.std.specs.Cmp.Lexicographic.{slice_cmp}
 use Rattle.std.proofs.lemmas.Bool.{cases_lt}
 use Rattle.std.proofs.lemmas.Cmp.{nat_list_cmp_total}
 use Rattle.rip_values.specs.Pool.{Texts}
-use Rattle.rip_pages.specs.declared.property.Property.{Property}
+use Rattle.rip_heap_region.specs.declared.pages.property.Property.{Property}
 use Rattle.rip_data.specs.Datum.{IsBeforeAll}
 use Rattle.serde_json.specs.Data.{null}
 use Rattle.rip_convert.specs.Written.{name_at, members_at, order, IsBetween, IsOrdered}

@@ -5,8 +5,8 @@ use Rattle.std.specs.Ordering.{nat_cmp, match_ordering}
 use Rattle.std.specs.Cmp.Lexicographic.{slice_cmp}
 use Rattle.serde_json.specs.Data.{Data, Items, no_items, item, Members, no_members, member, put}
 use Rattle.serde_json.specs.Data as json
-use Rattle.rip_values.specs.Text.{IsUtf16}
-use Rattle.rip_values.specs.Whole.{IsWhole}
+use Rattle.rip_base.specs.Text.{IsUtf16}
+use Rattle.rip_base.specs.Whole.{IsWhole}
 use Rattle.std.proofs.lemmas.Int.{ints}
 use Rattle.rip_data.specs.Reading.{is_whole}
 use Rattle.rip_data.specs.Datum.{Tree, number, text, array, object, Elements, no_elements, element, Fields, no_fields, field, data_of, items_of, members_of, number_of_whole, utf8_of, IsDatum, AreData, HaveData, AreInOrder}

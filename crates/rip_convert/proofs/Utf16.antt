@@ -7,7 +7,7 @@ use Rattle.std.specs.Char.Utf16.{has_unpaired_surrogate, surrogate_pair_char, ut
 use Rattle.std.specs.Char.{IsScalar}
 use Rattle.std.proofs.lemmas.Bool.{cases_lt, lt-ltb, le-ltb, ltb-true}
 use Rattle.std.proofs.str.Utf16.{lone_unit_char_low, lone_unit_char_high, lone_unit_char_surrogate, utf16_chars_lone, utf16_chars_pair}
-use Rattle.rip_values.specs.Text.{IsUtf16}
+use Rattle.rip_base.specs.Text.{IsUtf16}
 use Rattle.rip_data.specs.Datum.{utf8_of}
 use Rattle.rip_data.specs.Written.{IsPair}
 use Rattle.rip_convert.specs.Arguments.{are_units}

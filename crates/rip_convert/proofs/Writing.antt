@@ -4,10 +4,10 @@ use Rattle.std.proofs.lemmas.List.{drop_more, drop_all, get_or-append_right}
 use Rattle.json.specs.Print.{quoted}
 use Rattle.serde_json.specs.Data.{Data}
 use Rattle.serde_json.specs.Written.{comma_if, compact_text, items_text, members_text}
-use Rattle.rip_values.specs.declared.value.Value.{Value}
-use Rattle.rip_values.specs.declared.value.Value.TheVariants.{Undefined}
+use Rattle.rip_base.specs.declared.value.Value.{Value}
+use Rattle.rip_base.specs.declared.value.Value.TheVariants.{Undefined}
 use Rattle.rip_values.specs.Pool.{Texts}
-use Rattle.rip_pages.specs.declared.property.Property.{Property}
+use Rattle.rip_heap_region.specs.declared.pages.property.Property.{Property}
 use Rattle.rip_heap.specs.World.{World}
 use Rattle.rip_convert.specs.Written.{added, elements_data, elements_pieces, fields_pieces, field_at, name_at, members_at, pieces}
 use Rattle.rip_convert.proofs.Adding.{added-added}

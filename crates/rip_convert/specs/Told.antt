@@ -1,8 +1,8 @@
 -- What a call tells is data that is well made, so that its text is read again as that data.
 use Rattle.std.specs.Prelude.{◌≡◌, ◌≤◌, ℕ, List, length, Ok}
-use Rattle.rip_values.specs.declared.value.Span.{Span}
-use Rattle.rip_values.specs.declared.value.Value.{Value}
-use Rattle.rip_values.specs.declared.value.Value.TheVariants.{Object}
+use Rattle.rip_base.specs.declared.value.Span.{Span}
+use Rattle.rip_base.specs.declared.value.Value.{Value}
+use Rattle.rip_base.specs.declared.value.Value.TheVariants.{Object}
 use Rattle.rip_values.specs.Pool.{text_at}
 use Rattle.rip_heap.specs.declared.holder.Holder.TheVariants.{ArrayObject}
 use Rattle.rip_heap.specs.Holders.{holder_of}

@@ -1,11 +1,11 @@
 -- Values made of data: the steps that make them, one behind the other, with what each costs.
 use Rattle.std.specs.Prelude.{◌≡◌, ℕ, ◌+◌, nat_le, if◌then◌else◌, List, [], Option, None, Some, Result, Ok, Err}
-use Rattle.rip_values.specs.declared.value.Value.{Value}
-use Rattle.rip_values.specs.declared.value.Value.TheVariants.{Null, Bool as Boolean, Num, Text, Object}
-use Rattle.rip_values.specs.declared.value.Limit.{Limit}
-use Rattle.rip_values.specs.declared.value.Limit.TheVariants.{Cells, Units}
-use Rattle.rip_values.specs.declared.value.Refused.{Refused}
-use Rattle.rip_values.specs.declared.value.Refused.TheVariants.{Limit as At, Memory}
+use Rattle.rip_base.specs.declared.value.Value.{Value}
+use Rattle.rip_base.specs.declared.value.Value.TheVariants.{Null, Bool as Boolean, Num, Text, Object}
+use Rattle.rip_base.specs.declared.value.Limit.{Limit}
+use Rattle.rip_base.specs.declared.value.Limit.TheVariants.{Cells, Units}
+use Rattle.rip_base.specs.declared.value.Refused.{Refused}
+use Rattle.rip_base.specs.declared.value.Refused.TheVariants.{Limit as At, Memory}
 use Rattle.rip_heap.specs.World.{World, cost_of_property}
 use Rattle.rip_heap.specs.Arrays.{new_array, push_item}
 use Rattle.rip_heap.specs.Objects.{new_object, put}

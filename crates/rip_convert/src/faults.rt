@@ -6,8 +6,8 @@ ghost use Rattle.rip_convert.specs.Written.{AreWalked};
 
 use crate::marks::Marks;
 use crate::units::has_unpaired_surrogate;
+use rip_base::{Fault, Value};
 use rip_heap::{Heap, Holder, holder_of};
-use rip_values::{Fault, Value};
 
 /// The first fault on the walk over a value, where so many levels are left, whatever its length. An object is walked once
 /// for each number of levels at most: where it was walked without a fault with as few levels left, it has none. It calls

@@ -4,8 +4,8 @@ ghost use Rattle.rip_heap.specs.World.{object_at};
 ghost use Rattle.rip_convert.specs.Written.{left_after, parts_left, spelled_left};
 
 use crate::units::has_unpaired_surrogate;
+use rip_base::{Fault, Value};
 use rip_heap::{Heap, Holder, holder_of};
-use rip_values::{Fault, Value};
 
 /// The pieces that are left behind a value, where so many levels and pieces are left before it; or the fault that ends the
 /// walk over it. It calls itself once for each level.

@@ -5,8 +5,8 @@ ghost use Rattle.rip_data.specs.Datum.{utf8_of};
 ghost use Rattle.rip_convert.specs.Written.{added};
 
 use crate::units::char_at;
+use rip_base::NoMemory;
 use rip_data::MAX_LENGTH;
-use rip_values::NoMemory;
 use std::alloc::Global;
 use std::marker::Model;
 

@@ -1,7 +1,8 @@
 ghost use Rattle.std.specs.Prelude.{◌≡◌, ◌≢◌, ℕ, IfOk, []};
 ghost use Rattle.rip_convert.specs.Written.{mark_of};
 
-use rip_values::{FIRST_HEAP_OBJECT, NoMemory};
+use rip_base::NoMemory;
+use rip_values::FIRST_HEAP_OBJECT;
 use std::alloc::Global;
 use std::marker::Model;
 

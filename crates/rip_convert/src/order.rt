@@ -2,16 +2,16 @@ ghost use Rattle.std.specs.Prelude.{◌≡◌, ◌+◌, ◌<◌, ◌≤◌, ◌�
 ghost use Rattle.std.specs.Ordering.{nat_cmp};
 ghost use Rattle.std.specs.Cmp.Lexicographic.{slice_cmp};
 ghost use Rattle.serde_json.specs.Data.{Data, no_members, put};
-ghost use Rattle.rip_values.specs.declared.value.Value.{Value as ScriptValue};
+ghost use Rattle.rip_base.specs.declared.value.Value.{Value as ScriptValue};
 ghost use Rattle.rip_heap.specs.World.{object_at};
 ghost use Rattle.rip_convert.specs.Arguments.{properties_of};
 ghost use Rattle.rip_convert.specs.Written.{AreFrom, HasRoom, IsBetween, IsOrdered, field_at, fields_data, members_at, name_at, none_placed};
 
 use crate::units::compare_texts;
+use rip_base::{NoMemory, Span, Value};
 use rip_data::MAX_LENGTH;
 use rip_heap::Heap;
-use rip_pages::Property;
-use rip_values::{NoMemory, Span, Value};
+use rip_heap_region::pages::Property;
 use std::alloc::Global;
 use std::cmp::Ordering;
 use std::marker::Model;

@@ -12,9 +12,9 @@ use crate::line::{Line, append};
 use crate::marks::Marks;
 use crate::order::Fields;
 use crate::write::write_value;
+use rip_base::{Fault, NoMemory, Span, Value};
 use rip_data::{MAX_DEPTH, MAX_LENGTH};
 use rip_heap::Heap;
-use rip_values::{Fault, NoMemory, Span, Value};
 use std::alloc::Global;
 use std::marker::Model;
 

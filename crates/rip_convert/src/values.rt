@@ -5,9 +5,9 @@ ghost use Rattle.rip_heap.specs.Step.{TakesNoMemory};
 ghost use Rattle.rip_convert.specs.Values.{changing, made_value, field_put, Does};
 ghost use Rattle.rip_convert.specs.Pieces.{elements_made, fields_made};
 
+use rip_base::{Limit, Refused, Units, Value};
 use rip_data::Datum;
 use rip_heap::Heap;
-use rip_values::{Limit, Refused, Units, Value};
 use std::alloc::Global;
 
 /// The value of a datum, in a heap. It calls itself once for each level of nesting, and for each field the heap looks

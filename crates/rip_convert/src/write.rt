@@ -8,8 +8,8 @@ ghost use Rattle.rip_convert.specs.Written.{HasRoom, added, field_at, name_at, p
 
 use crate::line::Line;
 use crate::order::{Fields, put_fields};
+use rip_base::{Value, Whole};
 use rip_heap::{Heap, Holder, holder_of};
-use rip_values::{Value, Whole};
 
 /// Writes the canonical text of a value that was judged. It calls itself once for each of so many levels.
 #[cycle(write)]

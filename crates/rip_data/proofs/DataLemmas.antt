@@ -12,8 +12,8 @@ use Rattle.serde_json.specs.View.{view, items_view, members_view}
 use Rattle.serde_json.specs.View as value
 use Rattle.serde_json.specs.declared.value.Value.{Value}
 use Rattle.serde_json.proofs.Views.{Entry}
-use Rattle.rip_values.specs.Text.{IsUtf16, IsSameText}
-use Rattle.rip_values.proofs.TextLemmas.{utf16_chars-encode_utf16_all}
+use Rattle.rip_base.specs.Text.{IsUtf16, IsSameText}
+use Rattle.rip_base.proofs.TextLemmas.{utf16_chars-encode_utf16_all}
 use Rattle.rip_data.specs.Datum.{tree_of, data_of, items_of, utf8_of, array, object, elements_of, fields_of, IsDatum, IsBeforeAll, AreInOrder}
 use Rattle.rip_data.specs.Reading.{all_whole, items_whole, members_whole}
 use Rattle.rip_data.specs.Written.{fields_data, AreElements, AreFields}

@@ -1,4 +1,4 @@
 pub mod DataLemmas
-pub mod SizeLemmas
 pub mod ReadLemmas
+pub mod SizeLemmas
 pub mod TextLaws

@@ -19,8 +19,8 @@ use Rattle.serde_json.specs.Read.{of_json, of_items, of_members, read}
 use Rattle.serde_json.specs.Written.{outline, items_outline, members_outline}
 use Rattle.serde_json.proofs.Numbers.{number_of-decimal, number_of-negative}
 use Rattle.serde_json.proofs.Texts.{print-outline}
-use Rattle.rip_values.specs.Text.{IsUtf16, encode_utf16_all}
-use Rattle.rip_values.proofs.TextLemmas.{IsSameText-units, IsSameText-chars}
+use Rattle.rip_base.specs.Text.{IsUtf16, encode_utf16_all}
+use Rattle.rip_base.proofs.TextLemmas.{IsSameText-units, IsSameText-chars}
 use Rattle.rip_data.specs.Datum.{Tree, tree_of, null, boolean, number, text, array, object, Elements, no_elements, element, Fields, no_fields, field, utf8_of, data_of, items_of, members_of, canonical_text, nesting, IsBeforeAll, AreInOrder, IsDatum, AreData, HaveData}
 use Rattle.rip_data.specs.Reading.{value_of, answer, answer_long}
 use Rattle.rip_data.specs.declared.datum.Datum.{Datum}

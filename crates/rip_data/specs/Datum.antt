@@ -5,8 +5,8 @@ use Rattle.std.specs.declared.cmp.Ordering.TheVariants.{Less}
 use Rattle.std.specs.Cmp.Lexicographic.{slice_cmp}
 use Rattle.std.specs.Str.{encode_utf8_all}
 use Rattle.std.specs.Char.Utf16.{utf16_lossy_chars}
-use Rattle.rip_values.specs.Whole.{IsWhole}
-use Rattle.rip_values.specs.Text.{IsUtf16}
+use Rattle.rip_base.specs.Whole.{IsWhole}
+use Rattle.rip_base.specs.Text.{IsUtf16}
 use Rattle.serde_json.specs.Data as json
 use Rattle.serde_json.specs.Written.{compact_text}
 use Rattle.rip_data.specs.declared.datum.Datum.{Datum, fold-Datum}

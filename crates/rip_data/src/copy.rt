@@ -2,7 +2,7 @@ ghost use Rattle.std.specs.Prelude.{◌≡◌, IfOk, map};
 ghost use Rattle.rip_data.specs.Datum.{field_of, tree_of, trees_in};
 
 use crate::datum::{Datum, DatumFields, DatumList};
-use rip_values::{NoMemory, Units};
+use rip_base::{NoMemory, Units};
 use std::alloc::Global;
 
 /// The same datum once more. It calls itself once for each level of nesting.

@@ -1,4 +1,4 @@
-use rip_values::{Units, Whole};
+use rip_base::{Units, Whole};
 
 /// A value of JSON (RFC 8259 section 3) whose numbers are whole.
 ///

@@ -1,10 +1,10 @@
 ghost use Rattle.std.specs.Prelude.{◌≡◌, false, IfSome, IfNone};
 ghost use Rattle.serde_json.specs.View.{number_view};
-ghost use Rattle.rip_values.specs.Whole.{IsWhole};
+ghost use Rattle.rip_base.specs.Whole.{IsWhole};
 ghost use Rattle.rip_data.specs.Datum.{number_of_whole};
 ghost use Rattle.rip_data.specs.Reading.{is_whole};
 
-use rip_values::Whole;
+use rip_base::Whole;
 use serde_json::Number;
 
 // The whole number that was spelled, if it was one in range.

@@ -1,6 +1,6 @@
 ghost use Rattle.std.specs.Prelude.{◌≡◌, ◌≢◌, false, map, IfOk, IfErr, Ok, Err, Some, None};
 ghost use Rattle.serde_json.specs.View.{view, items_view, members_view};
-ghost use Rattle.rip_values.specs.Text.{IsSameText};
+ghost use Rattle.rip_base.specs.Text.{IsSameText};
 ghost use Rattle.rip_data.specs.Datum.{tree_of, data_of, members_of, IsDatum, AreInOrder};
 ghost use Rattle.rip_data.specs.Reading.{all_whole, items_whole, members_whole, answer, answer_long, value_of};
 ghost use Rattle.rip_data.specs.Written.{AreElements, AreFields, fields_data};
@@ -9,7 +9,7 @@ use crate::datum::{Datum, DatumFields, DatumList};
 use crate::error::DataError;
 use crate::number::whole_of;
 use crate::size::datum_size;
-use rip_values::{TextError, Units};
+use rip_base::{TextError, Units};
 use serde_json::{Map, Value};
 use std::alloc::Global;
 

@@ -5,7 +5,7 @@ ghost use Rattle.rip_data.specs.Datum.{tree_of, canonical_text, nesting, utf8_of
 ghost use Rattle.rip_data.specs.Written.{escaped_length, IsPair, elements_length, fields_length, elements_nesting, fields_nesting};
 
 use crate::datum::Datum;
-use rip_values::{Units, Whole};
+use rip_base::{Units, Whole};
 
 /// How large a datum is: the bytes of its canonical text, and how deep its arrays and objects nest.
 ///

@@ -4,7 +4,7 @@ ghost use Rattle.rip_data.specs.Written.{tokens_of, element_tokens, field_tokens
 
 use crate::datum::{Datum, DatumList};
 use json::Writer;
-use rip_values::{Bytes, NoMemory, Units};
+use rip_base::{Bytes, NoMemory, Units};
 use std::alloc::{AllocError, Global};
 
 /// The canonical text of the datum: JSON with no space, and with no escape but those that RFC 8259 section 7 asks for.

@@ -3,10 +3,10 @@ use Rattle.std.proofs.Common.{◌≡◌, ℕ, zero, suc, ◌+◌, ◌<◌, ◌�
 use Rattle.std.specs.Prelude.{slice_range}
 use Rattle.std.proofs.Math.Seq.{take-append_seam}
 use Rattle.std.proofs.lemmas.List.{append_assoc, length-append, length-map}
-use Rattle.rip_values.specs.declared.value.Span.{Span}
+use Rattle.rip_base.specs.declared.value.Span.{Span}
 use Rattle.rip_values.specs.Pool.{Texts, IsSpan, text_at, with_text, span_behind, held as held_span}
 use Rattle.rip_values.proofs.FixedLemmas.{range_within}
-use Rattle.rip_values.specs.Units.{small_unit, small_text}
+use Rattle.rip_base.specs.Units.{small_unit, small_text}
 
 -- a span that lay in the old texts stands for the same text where more is behind them
 pub stands-still : (old now : Texts) (more : List ℕ) (s : Span) → now.units ≡ old.units ++ more → IsSpan old s → text_at now s ≡ text_at old s

@@ -5,7 +5,7 @@ use Rattle.std.specs.List.{list_any}
 use Rattle.std.proofs.lemmas.Bool.{cases_eq, or_parts, ne_eqb, cond-false, le-ltb}
 use Rattle.std.proofs.lemmas.Option.{same_Some, none-some}
 use Rattle.std.proofs.lemmas.List.{length-map, length_push}
-use Rattle.rip_values.specs.declared.value.Span.{Span}
+use Rattle.rip_base.specs.declared.value.Span.{Span}
 use Rattle.rip_dom.specs.declared.dom.NodeRecord.{NodeRecord}
 use Rattle.rip_dom.specs.Lists.{Lists, list_at, owner_at, without, with_item}
 use Rattle.rip_dom.specs.Tree.{Tree, new_node, with_node, taken_out, put_in, is_above, is_barred, parent_of, way_up, with_attribute}

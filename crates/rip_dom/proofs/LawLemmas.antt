@@ -4,8 +4,8 @@ use Rattle.std.specs.Prelude.{nat_lt}
 use Rattle.std.proofs.lemmas.Bool.{cases_Bool, cond-true, cond-false, eq-eqb, ne_eqb}
 use Rattle.std.proofs.lemmas.Option.{same_Some, none-some}
 use Rattle.std.proofs.lemmas.List.{length_push}
-use Rattle.rip_values.specs.declared.page.NodeKind.{NodeKind}
-use Rattle.rip_values.specs.declared.value.Span.{Span}
+use Rattle.rip_base.specs.declared.page.NodeKind.{NodeKind}
+use Rattle.rip_base.specs.declared.value.Span.{Span}
 use Rattle.rip_dom.specs.Laws.{NumbersAreNew, PutsLeaveOthers}
 use Rattle.rip_dom.specs.Lists.{without, with_item}
 use Rattle.rip_dom.specs.Tree.{Tree, Node, node_at, parent_of, children_of, new_node, with_node, bare_node, put_in}

@@ -1,7 +1,7 @@
 -- A text that is put behind all others unit by unit, each in other letters.
 use Rattle.std.proofs.Common.{◌≡◌, ℕ, suc, ◌+◌, ◌<◌, ◌≤◌, List, [], ◌∷◌, ◌++◌, length, map, take, get_or, refl, sym, ap, ap₂, ◌∙◌, arith}
 use Rattle.std.proofs.lemmas.List.{append_assoc, length-map}
-use Rattle.rip_values.specs.declared.value.Span.{Span}
+use Rattle.rip_base.specs.declared.value.Span.{Span}
 use Rattle.rip_values.specs.Pool.{Texts, IsSpan, text_at, with_text, span_behind, held as held_span}
 use Rattle.rip_dom.specs.declared.letters.Letters.{Letters}
 use Rattle.rip_dom.specs.Letters.{text_in, unit_in}

@@ -1,9 +1,9 @@
 -- What an answer says of the step that a call stands for, of the tree before and of the one after it. What is refused
 -- changes nothing.
 use Rattle.std.specs.Prelude.{◌≡◌, ℕ, Option, None, Some, Result, Ok, Err}
-use Rattle.rip_values.specs.declared.value.Limit.TheVariants.{Nodes}
-use Rattle.rip_values.specs.declared.value.Refused.{Refused}
-use Rattle.rip_values.specs.declared.value.Refused.TheVariants.{Limit as At, Memory}
+use Rattle.rip_base.specs.declared.value.Limit.TheVariants.{Nodes}
+use Rattle.rip_base.specs.declared.value.Refused.{Refused}
+use Rattle.rip_base.specs.declared.value.Refused.TheVariants.{Limit as At, Memory}
 use Rattle.rip_dom.specs.Tree.{Tree}
 
 -- the call makes something, and answers it; its only refusal is the limit of nodes, and want of memory never comes

@@ -1,9 +1,9 @@
 -- An attribute that is set (DOM Level 2 Core 1.2, setAttribute).
 use Rattle.std.specs.Prelude.{◌≡◌, ℕ, ◌+◌, ◌==◌, ◌&&◌, ◌||◌, not, nat_lt, is_some, Bool, false, if◌then◌else◌, Option, None, Some, List, [], ◌∷◌, Result, Ok, Err}
 use Rattle.std.specs.List.{list_all}
-use Rattle.rip_values.specs.declared.value.Limit.TheVariants.{Nodes, Units}
-use Rattle.rip_values.specs.declared.value.Refused.TheVariants.{Limit as At}
-use Rattle.rip_values.specs.declared.value.Span.{Span}
+use Rattle.rip_base.specs.declared.value.Limit.TheVariants.{Nodes, Units}
+use Rattle.rip_base.specs.declared.value.Refused.TheVariants.{Limit as At}
+use Rattle.rip_base.specs.declared.value.Span.{Span}
 use Rattle.rip_values.specs.Pool.{Texts, text_at}
 use Rattle.rip_dom.specs.declared.creation.DomRefused.{DomRefused}
 use Rattle.rip_dom.specs.declared.creation.DomRefused.TheVariants.{Code, Refused}

@@ -1,12 +1,12 @@
 -- Elements and attributes that are made, with names in small letters (DOM Level 2 Core 1.2).
 use Rattle.std.specs.Prelude.{◌≡◌, ℕ, ◌+◌, ◌==◌, ◌&&◌, ◌||◌, not, nat_le, nat_lt, Bool, false, if◌then◌else◌, Option, None, Some, List, [], ◌∷◌, length, Result, Ok, Err}
 use Rattle.std.specs.List.{list_all}
-use Rattle.rip_values.specs.declared.page.NodeKind.TheVariants.{Element}
-use Rattle.rip_values.specs.declared.value.Limit.TheVariants.{Nodes, Units}
-use Rattle.rip_values.specs.declared.value.Refused.TheVariants.{Limit as At}
-use Rattle.rip_values.specs.declared.value.Span.{Span}
+use Rattle.rip_base.specs.declared.page.NodeKind.TheVariants.{Element}
+use Rattle.rip_base.specs.declared.value.Limit.TheVariants.{Nodes, Units}
+use Rattle.rip_base.specs.declared.value.Refused.TheVariants.{Limit as At}
+use Rattle.rip_base.specs.declared.value.Span.{Span}
 use Rattle.rip_values.specs.Pool.{Texts, text_at, span_behind, with_text}
-use Rattle.rip_values.specs.Units.{small_unit, small_text}
+use Rattle.rip_base.specs.Units.{small_unit, small_text}
 use Rattle.rip_dom.specs.declared.creation.DomRefused.{DomRefused}
 use Rattle.rip_dom.specs.declared.creation.DomRefused.TheVariants.{Code, Refused}
 use Rattle.rip_dom.specs.Names.{is_small}

@@ -1,8 +1,8 @@
 -- How a document keeps its tree: records of nodes, and linked lists of children and of attributes.
 use Rattle.std.specs.Prelude.{◌≡◌, ℕ, zero, suc, ◌+◌, ◌^◌, ◌<◌, ◌≤◌, Option, None, Some, List, length, map, slice_index_or}
 use Rattle.std.specs.List.{range_with_len}
-use Rattle.rip_values.specs.declared.page.NodeKind.TheVariants.{Text}
-use Rattle.rip_values.specs.declared.value.Span.{Span}
+use Rattle.rip_base.specs.declared.page.NodeKind.TheVariants.{Text}
+use Rattle.rip_base.specs.declared.value.Span.{Span}
 use Rattle.rip_dom.specs.declared.dom.NodeRecord.{NodeRecord}
 use Rattle.rip_dom.specs.Lists.{Lists, list_at, owner_at}
 use Rattle.rip_dom.specs.Tree.{Node, Tree}

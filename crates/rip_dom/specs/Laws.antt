@@ -1,7 +1,7 @@
 -- Laws of trees, in words that no step uses.
 use Rattle.std.specs.Prelude.{◌≡◌, ◌↔◌, ℕ, ◌+◌, ◌<◌, false, Option, Some, List, length}
-use Rattle.rip_values.specs.declared.page.NodeKind.{NodeKind}
-use Rattle.rip_values.specs.declared.value.Span.{Span}
+use Rattle.rip_base.specs.declared.page.NodeKind.{NodeKind}
+use Rattle.rip_base.specs.declared.value.Span.{Span}
 use Rattle.rip_dom.specs.Linked.{Has, Differ}
 use Rattle.rip_dom.specs.Lists.{without, with_item, item_behind}
 use Rattle.rip_dom.specs.Tree.{Tree, parent_of, children_of, is_above, new_node, put_in, taken_out}

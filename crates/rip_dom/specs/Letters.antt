@@ -1,6 +1,6 @@
 -- Texts in small letters and in capitals, those of ASCII.
 use Rattle.std.specs.Prelude.{ℕ, ◌-◌, if◌then◌else◌, List, map}
-use Rattle.rip_values.specs.Units.{is_between, small_unit}
+use Rattle.rip_base.specs.Units.{is_between, small_unit}
 use Rattle.rip_dom.specs.declared.letters.Letters.{Letters}
 use Rattle.rip_dom.specs.declared.letters.Letters.TheVariants.{Small, Capital}
 

@@ -1,8 +1,8 @@
 -- Names of attributes, which are compared in small letters.
 use Rattle.std.specs.Prelude.{ℕ, Bool, true, false, ◌==◌, ◌&&◌, if◌then◌else◌, Option, List, [], ◌∷◌, option_map, find}
-use Rattle.rip_values.specs.declared.value.Span.{Span}
+use Rattle.rip_base.specs.declared.value.Span.{Span}
 use Rattle.rip_values.specs.Pool.{Texts, text_at}
-use Rattle.rip_values.specs.Units.{small_unit}
+use Rattle.rip_base.specs.Units.{small_unit}
 use Rattle.rip_dom.specs.Document.{pair_at}
 use Rattle.rip_dom.specs.Tree.{Tree, node_at, each}
 

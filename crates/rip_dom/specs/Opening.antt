@@ -1,13 +1,13 @@
 -- The document that a page is made into, node by node in document order.
 use Rattle.std.specs.Prelude.{ℕ, ◌+◌, ◌<◌, ◌≤◌, ◌≡◌, Option, None, Some, List, [], ◌∷◌, length, is_some, unwrap_or, nat_lt, if◌then◌else◌, Result, Ok, Err}
-use Rattle.rip_values.specs.declared.page.NodeKind.{NodeKind}
-use Rattle.rip_values.specs.declared.page.NodeKind.TheVariants.{Document, Element, Text, Comment}
-use Rattle.rip_values.specs.declared.page.PageNode.{PageNode}
-use Rattle.rip_values.specs.declared.page.Attribute.{Attribute}
-use Rattle.rip_values.specs.declared.value.Span.{Span}
-use Rattle.rip_values.specs.declared.value.Limit.TheVariants.{Fuel, Cells, Units, Nodes, Depth, Queue, Replies}
-use Rattle.rip_values.specs.declared.value.Refused.{Refused}
-use Rattle.rip_values.specs.declared.value.Refused.TheVariants.{Limit as At, Memory}
+use Rattle.rip_base.specs.declared.page.NodeKind.{NodeKind}
+use Rattle.rip_base.specs.declared.page.NodeKind.TheVariants.{Document, Element, Text, Comment}
+use Rattle.rip_base.specs.declared.page.PageNode.{PageNode}
+use Rattle.rip_base.specs.declared.page.Attribute.{Attribute}
+use Rattle.rip_base.specs.declared.value.Span.{Span}
+use Rattle.rip_base.specs.declared.value.Limit.TheVariants.{Fuel, Cells, Units, Nodes, Depth, Queue, Replies}
+use Rattle.rip_base.specs.declared.value.Refused.{Refused}
+use Rattle.rip_base.specs.declared.value.Refused.TheVariants.{Limit as At, Memory}
 use Rattle.rip_values.specs.FixedTexts.{fixed_span}
 use Rattle.rip_values.specs.Pool.{Texts, span_behind, with_text}
 use Rattle.rip_dom.specs.Tree.{Tree, with_node, put_in, with_attribute}

@@ -1,7 +1,7 @@
 -- Document order, in which a node comes before the nodes below it, and these in the order of their siblings.
 use Rattle.std.specs.Prelude.{ℕ, zero, suc, Bool, false, ◌&&◌, nat_eq, codes, Option, None, Some, List, [], ◌∷◌, length, flat_map, find}
 use Rattle.std.specs.Cmp.Lexicographic.{pointwise}
-use Rattle.rip_values.specs.declared.value.Span.{Span}
+use Rattle.rip_base.specs.declared.value.Span.{Span}
 use Rattle.rip_values.specs.Pool.{Texts, text_at}
 use Rattle.rip_dom.specs.Tree.{Tree, node_at, children_of, is_element}
 use Rattle.rip_dom.specs.Names.{attribute_of}

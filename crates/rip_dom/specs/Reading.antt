@@ -1,8 +1,8 @@
 -- Texts that are read: those of the text nodes below a node, joined in document order.
 use Rattle.std.specs.Prelude.{◌≡◌, ℕ, ◌+◌, ◌<◌, ◌≤◌, if◌then◌else◌, unwrap_or, List, length, flat_map, Result, Ok, Err}
-use Rattle.rip_values.specs.declared.value.Limit.TheVariants.{Fuel, Cells, Units, Nodes, Depth, Queue, Replies}
-use Rattle.rip_values.specs.declared.value.Refused.TheVariants.{Limit as At, Memory}
-use Rattle.rip_values.specs.declared.value.Span.{Span}
+use Rattle.rip_base.specs.declared.value.Limit.TheVariants.{Fuel, Cells, Units, Nodes, Depth, Queue, Replies}
+use Rattle.rip_base.specs.declared.value.Refused.TheVariants.{Limit as At, Memory}
+use Rattle.rip_base.specs.declared.value.Span.{Span}
 use Rattle.rip_values.specs.Pool.{Texts, text_at, span_behind, with_text}
 use Rattle.rip_dom.specs.declared.reading.TextRefused.{TextRefused}
 use Rattle.rip_dom.specs.declared.reading.TextRefused.TheVariants.{TooLong, Refused}

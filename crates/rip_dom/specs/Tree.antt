@@ -1,9 +1,9 @@
 -- The tree of a document (DOM Level 2 Core 1.1.1 and 1.2), as lists.
 use Rattle.std.specs.Prelude.{ℕ, zero, suc, Bool, true, false, not, ◌+◌, ◌==◌, ◌&&◌, ◌||◌, nat_lt, if◌then◌else◌, Option, None, Some, List, [], ◌∷◌, ◌++◌, length, map, slice_index_or}
 use Rattle.std.specs.List.{list_any, range_with_len}
-use Rattle.rip_values.specs.declared.page.NodeKind.{NodeKind}
-use Rattle.rip_values.specs.declared.page.NodeKind.TheVariants.{Document, Element, Text, Comment}
-use Rattle.rip_values.specs.declared.value.Span.{Span}
+use Rattle.rip_base.specs.declared.page.NodeKind.{NodeKind}
+use Rattle.rip_base.specs.declared.page.NodeKind.TheVariants.{Document, Element, Text, Comment}
+use Rattle.rip_base.specs.declared.value.Span.{Span}
 use Rattle.rip_dom.specs.Lists.{without, with_item, is_place, item_behind, item_in_front}
 
 -- a node: what it is; of an element its name, of a text or comment its text; the names and values of its attributes in

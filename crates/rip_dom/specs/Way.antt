@@ -1,6 +1,6 @@
 -- The way through a document by links, step by step: a node is entered before the nodes below it, and left behind them.
 use Rattle.std.specs.Prelude.{◌≡◌, ℕ, zero, suc, ◌+◌, ◌<◌, Bool, true, false, ◌==◌, if◌then◌else◌, Option, None, Some, List, [], ◌∷◌, length}
-use Rattle.rip_values.specs.declared.value.Span.{Span}
+use Rattle.rip_base.specs.declared.value.Span.{Span}
 use Rattle.rip_dom.specs.declared.order.Step.{Step}
 use Rattle.rip_dom.specs.declared.order.Step.TheVariants.{Enter, Leave, End}
 use Rattle.rip_dom.specs.Document.{IsRooted, no_span}

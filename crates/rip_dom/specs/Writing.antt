@@ -1,10 +1,10 @@
 -- Texts that are written (DOM Level 2 Core 1.2, nodeValue and its like for all that is below an element).
 use Rattle.std.specs.Prelude.{◌≡◌, ℕ, ◌==◌, ◌&&◌, not, nat_lt, Bool, true, false, if◌then◌else◌, None, Some, List, [], ◌∷◌, length, Result, Ok, Err}
-use Rattle.rip_values.specs.declared.page.NodeKind.TheVariants.{Text}
-use Rattle.rip_values.specs.declared.value.Limit.TheVariants.{Nodes}
-use Rattle.rip_values.specs.declared.value.Refused.{Refused}
-use Rattle.rip_values.specs.declared.value.Refused.TheVariants.{Limit as At, Memory}
-use Rattle.rip_values.specs.declared.value.Span.{Span}
+use Rattle.rip_base.specs.declared.page.NodeKind.TheVariants.{Text}
+use Rattle.rip_base.specs.declared.value.Limit.TheVariants.{Nodes}
+use Rattle.rip_base.specs.declared.value.Refused.{Refused}
+use Rattle.rip_base.specs.declared.value.Refused.TheVariants.{Limit as At, Memory}
+use Rattle.rip_base.specs.declared.value.Span.{Span}
 use Rattle.rip_dom.specs.Tree.{Tree, node_at, children_of, each, is_element, put_in, taken_out, with_node}
 
 -- the tree in which the node has this text

@@ -7,7 +7,8 @@ ghost use Rattle.rip_dom.specs.Names.{attribute_of};
 use crate::creation::{DomRefused, INVALID_CHARACTER, is_letter, is_name_unit, keep_name};
 use crate::dom::Dom;
 use crate::walks::pair_at;
-use rip_values::{Limit, Pool, Refused, Span};
+use rip_base::{Limit, Refused, Span};
+use rip_values::Pool;
 use std::alloc::Global;
 
 impl Dom {

@@ -5,7 +5,8 @@ ghost use Rattle.rip_dom.specs.Creation.{Creates, cost_of_name, element_made, el
 use crate::dom::{Dom, NodeRecord};
 use crate::letters::{Letters, push_in};
 use crate::names::is_small;
-use rip_values::{Limit, NodeKind, Pool, Refused, Span, small_unit};
+use rip_base::{Limit, NodeKind, Refused, Span, small_unit};
+use rip_values::Pool;
 use std::alloc::Global;
 
 /// The code of a refusal where a name is not legal (DOM Level 2 Core, INVALID_CHARACTER_ERR).

@@ -7,7 +7,7 @@ ghost use Rattle.rip_dom.specs.Answers.{Makes, Moves};
 use crate::kinds::{has_children, is_document, is_element, is_text};
 use crate::lists::LinkedLists;
 use crate::walks::{is_place, pair_at, record_at};
-use rip_values::{Limit, NoMemory, NodeKind, Refused, Span};
+use rip_base::{Limit, NoMemory, NodeKind, Refused, Span};
 use std::alloc::Global;
 use std::marker::Model;
 

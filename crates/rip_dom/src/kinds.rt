@@ -1,7 +1,7 @@
 ghost use Rattle.std.specs.Prelude.{◌≡◌};
 ghost use Rattle.rip_dom.specs.Tree.{is_document, is_element, is_text, has_children};
 
-use rip_values::NodeKind;
+use rip_base::NodeKind;
 
 pub(crate) fn is_document(kind: NodeKind) -> bool
     ensures { result ≡ is_document kind }

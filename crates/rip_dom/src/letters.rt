@@ -3,7 +3,8 @@ ghost use Rattle.rip_values.specs.Pool.{span_behind, text_at, with_text};
 ghost use Rattle.rip_dom.specs.Letters.{text_in, unit_in};
 
 use crate::units::{end_of, push_unit, unit_at};
-use rip_values::{Pool, Span, small_unit};
+use rip_base::{Span, small_unit};
+use rip_values::Pool;
 use std::alloc::Global;
 
 /// Letters that a text is put in.

@@ -2,7 +2,7 @@ ghost use Rattle.std.specs.Prelude.{◌≡◌, ◌<◌, ◌∷◌, ◌++◌, [],
 ghost use Rattle.rip_dom.specs.Lists.{list_at, owner_at, without, with_item, first_of, last_or, item_behind, item_in_front};
 ghost use Rattle.rip_dom.specs.Linked.{AreKnown, AreListed, ends_at, item_at, backward, ends_joined, items_joined};
 
-use rip_values::NoMemory;
+use rip_base::NoMemory;
 use std::alloc::Global;
 use std::marker::Model;
 

@@ -5,7 +5,8 @@ ghost use Rattle.rip_dom.specs.Names.{attribute_of, is_named, is_small, without_
 use crate::dom::Dom;
 use crate::lists::{LinkedLists, ends_at, item_at};
 use crate::walks::pair_at;
-use rip_values::{Pool, Span, small_unit};
+use rip_base::{Span, small_unit};
+use rip_values::Pool;
 
 impl Dom {
     /// The value of the node's attribute of this name, which counts in small letters.

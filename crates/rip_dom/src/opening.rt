@@ -4,9 +4,8 @@ ghost use Rattle.rip_dom.specs.Tree.{parent_of};
 ghost use Rattle.rip_dom.specs.Opening.{Opens, IsShort, attributes_in, count_of_nodes, count_of_units, count_of_values, name_of, name_span, node_step, placed, text_of, with_name};
 
 use crate::dom::{Dom, NodeRecord};
-use rip_values::{
-    Attribute, Limit, NoMemory, NodeKind, Page, PageNode, Pool, Refused, Span, Units,
-};
+use rip_base::{Attribute, Limit, NoMemory, NodeKind, Page, PageNode, Refused, Span, Units};
+use rip_values::Pool;
 use std::alloc::Global;
 
 impl Dom {

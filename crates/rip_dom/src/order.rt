@@ -4,7 +4,8 @@ ghost use Rattle.rip_dom.specs.Way.{Grows, StepsGoInOrder, behind, entered, foun
 
 use crate::dom::Dom;
 use crate::kinds::is_element;
-use rip_values::{Pool, Span};
+use rip_base::Span;
+use rip_values::Pool;
 
 /// The name of the attribute by which an element is found.
 const ID: [u16; 2] = [105, 100];

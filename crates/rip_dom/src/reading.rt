@@ -9,7 +9,8 @@ use crate::dom::Dom;
 use crate::kinds::is_text;
 use crate::order::{Step, is_end};
 use crate::units::end_of;
-use rip_values::{Limit, Pool, Refused, Span};
+use rip_base::{Limit, Refused, Span};
+use rip_values::Pool;
 use std::alloc::Global;
 
 /// Why a text is not read: it is longer than a run may make texts, or it is past the limit of units.

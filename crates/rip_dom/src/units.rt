@@ -1,7 +1,8 @@
 ghost use Rattle.std.specs.Prelude.{◌≡◌, ◌+◌, ◌≤◌, [], ◌∷◌, slice_index_or};
 ghost use Rattle.rip_values.specs.Pool.{span_behind, text_at, with_text};
 
-use rip_values::{Pool, Span};
+use rip_base::Span;
+use rip_values::Pool;
 use std::alloc::Global;
 
 /// The empty text behind all others.

@@ -7,7 +7,7 @@ ghost use Rattle.rip_dom.specs.Walks.{is_other_element};
 use crate::dom::NodeRecord;
 use crate::kinds::is_element;
 use crate::lists::{LinkedLists, ends_at, item_at};
-use rip_values::{NodeKind, Span};
+use rip_base::{NodeKind, Span};
 
 /// The record of this number; past the last it tells nothing.
 pub(crate) fn record_at(records: &Vec<NodeRecord>, n: u32) -> NodeRecord

@@ -6,7 +6,7 @@ ghost use Rattle.rip_dom.specs.Writing.{Writes, emptied, filled, is_empty, is_pa
 use crate::dom::{Dom, NodeRecord};
 use crate::kinds::is_element;
 use crate::walks::record_at;
-use rip_values::{Limit, NodeKind, Refused, Span};
+use rip_base::{Limit, NodeKind, Refused, Span};
 use std::alloc::Global;
 
 impl Dom {

@@ -5,18 +5,18 @@ use Rattle.std.proofs.Math.ListN.{drop_of_length-le}
 use Rattle.std.proofs.Math.Seq.{drop-cons}
 use Rattle.std.proofs.lemmas.Grind.{flat_map-append}
 use Rattle.std.proofs.lemmas.List.{append-nil}
-use Rattle.rip_runs.specs.declared.close.Close.{Close}
-use Rattle.rip_runs.specs.declared.close.Close.TheVariants.{Fine, Refused, Mismatch, Stopped}
-use Rattle.rip_runs.specs.declared.completion.Stop.{Stop}
+use Rattle.rip_eval_rows.specs.declared.close.Close.{Close}
+use Rattle.rip_eval_rows.specs.declared.close.Close.TheVariants.{Fine, Refused, Mismatch, Stopped}
+use Rattle.rip_eval_rows.specs.declared.completion.Stop.{Stop}
 use Rattle.rip_store.specs.declared.store.Store.{Store}
 use Rattle.rip_wire.specs.Batches.{Contents}
-use Rattle.rip_said.specs.Said.{batch_line}
+use Rattle.rip_trace.specs.Said.{batch_line}
 use Rattle.rip_client.specs.Sizes.{ToldSo, end_of}
 use Rattle.rip_client.specs.Truth.{Playing, TellsGesture}
 use Rattle.rip_client.specs.declared.client.HowTold.{HowTold}
 use Rattle.rip_client.specs.declared.client.HowTold.TheVariants as how
 use Rattle.rip_trace.specs.declared.gestures.LinedGesture.{LinedGesture}
-use Rattle.rip_whole.specs.declared.play.Over.{Over as Outcome}
+use Rattle.rip_client.specs.declared.whole.play.Over.{Over as Outcome}
 use Rattle.rip_drive.specs.Drivers.{DrivesFrom, EndsSo, IsDriven, IsOpenedAndRefused, IsRefused, Leads, Opening, RefusesFrom, RefusesSo, TellsSo}
 use Rattle.rip_drive.specs.Driving.{Drives, End, batch_lines, end_lines, refused, stopped, whole}
 use Rattle.rip_drive.specs.Driving as driving

@@ -1,7 +1,7 @@
 mod Drives
 pub mod Legal
 mod Lines
-pub mod Played
 mod NextCalls
+pub mod Played
 pub mod Simulation
 mod Traces

@@ -5,7 +5,7 @@ use Rattle.std.proofs.lemmas.Bool.{le-ltb, lt-ltb}
 use Rattle.rip_calls.specs.Calls.{front_callback, front_text, number_at}
 use Rattle.rip_host.specs.declared.browser.Browser.{Browser}
 use Rattle.rip_client.specs.Truth.{Waiting}
-use Rattle.rip_honest.specs.Honest.{next_in}
+use Rattle.rip_law_served.specs.Honest.{next_in}
 
 at_false : {A : Type 0} (b : Bool) (x y : A) → b ≡ false → (if b then x else y) ≡ y
 at_false true x y e = absurd (cc)

@@ -2,7 +2,7 @@
 use Rattle.std.proofs.Common.{◌≡◌, ℕ, ◌+◌, List, [], ◌∷◌, ◌++◌, length, map, refl, sym, ap, subst, ◌∙◌, arith}
 use Rattle.std.specs.Prelude.{Err, IfOk, Ok, Result, Some, slice_get}
 use Rattle.std.proofs.lemmas.List.{length-append}
-use Rattle.rip_values.specs.declared.memory.NoMemory.{NoMemory}
+use Rattle.rip_base.specs.declared.memory.NoMemory.{NoMemory}
 use Rattle.rip_app.specs.App.{Loaded}
 use Rattle.rip_heap.specs.World.{World}
 use Rattle.rip_host.specs.Answers.{answers}
@@ -10,8 +10,8 @@ use Rattle.rip_host.specs.declared.browser.Browser.{Browser}
 use Rattle.rip_machine.specs.Law.{Standing}
 use Rattle.rip_machine.specs.Plans.{evaluation}
 use Rattle.rip_tree.specs.Program.{Code}
-use Rattle.rip_course.specs.Parts.{Fact}
-use Rattle.rip_course.specs.Services.{Called, RepliesAs, Service}
+use Rattle.rip_history.specs.Parts.{Fact}
+use Rattle.rip_history.specs.Services.{Called, RepliesAs, Service}
 use Rattle.rip_replica.specs.Parts.{Doing}
 use Rattle.rip_session.specs.Application.{runs_of}
 use Rattle.rip_session.specs.Kept.{GoesWith}
@@ -19,13 +19,13 @@ use Rattle.rip_wire.specs.Batches.{IsBatch}
 use Rattle.rip_wire.specs.declared.item.Item.{Item}
 use Rattle.rip_store.specs.declared.store.Store.{Store}
 use Rattle.rip_wire.specs.Items.{IsItem, Reported, reported_of}
-use Rattle.rip_work.specs.Plans.{work_plan}
-use Rattle.rip_work.specs.Serving.{served}
-use Rattle.rip_work.specs.Tasks.{Task, fact_of, reports}
-use Rattle.rip_work.specs.declared.items.PageItems.{PageItems}
-use Rattle.rip_whole.specs.Wholes.{IsDoing, IsWhole, calls_behind, given_for}
-use Rattle.rip_whole.specs.declared.play.Over.{Over as Outcome}
-use Rattle.rip_honest.specs.Honest.{next_in}
+use Rattle.rip_session.specs.Plans.{work_plan}
+use Rattle.rip_session.specs.Serving.{served}
+use Rattle.rip_session.specs.Tasks.{Task, fact_of, reports}
+use Rattle.rip_session.specs.declared.work.items.PageItems.{PageItems}
+use Rattle.rip_client.specs.Wholes.{IsDoing, IsWhole, calls_behind, given_for}
+use Rattle.rip_client.specs.declared.whole.play.Over.{Over as Outcome}
+use Rattle.rip_law_served.specs.Honest.{next_in}
 use Rattle.rip_drive.specs.Actors.{Does, IsBegun, IsOpened, OpensPage, Replicas, Sits, page_session, seat_of}
 use Rattle.rip_drive.specs.Driving.{IsPlayed, driven}
 use Rattle.rip_drive.specs.declared.page_actor.PageActor.{PageActor}

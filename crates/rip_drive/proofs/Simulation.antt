@@ -1,7 +1,7 @@
 -- A session that does as another: what a client tells in the one it tells in the other.
 use Rattle.std.proofs.Common.{◌≡◌, ℕ, ◌+◌, List, [], ◌∷◌, refl, sym, ap, subst, ◌∙◌}
-use Rattle.rip_runs.specs.declared.close.Close.{Close}
-use Rattle.rip_runs.specs.declared.close.Close.TheVariants.{Fine, Refused, Mismatch, Stopped}
+use Rattle.rip_eval_rows.specs.declared.close.Close.{Close}
+use Rattle.rip_eval_rows.specs.declared.close.Close.TheVariants.{Fine, Refused, Mismatch, Stopped}
 use Rattle.rip_client.specs.declared.actor.Over.{Over}
 use Rattle.rip_wire.specs.Batches.{Contents}
 use Rattle.rip_wire.specs.Items.{Reported, event, reply}

@@ -1,21 +1,21 @@
 -- The trace of an application, by what its session comes to.
 use Rattle.std.proofs.Common.{◌≡◌, ℕ, List, [], ◌++◌, ap, refl, subst, ◌∙◌}
 use Rattle.std.specs.Prelude.{Err, IfErr, Ok, Result}
-use Rattle.rip_runs.specs.declared.close.Close.{Close}
-use Rattle.rip_runs.specs.declared.close.Close.TheVariants.{Fine, Stopped}
-use Rattle.rip_runs.specs.declared.completion.Stop.{Stop}
+use Rattle.rip_eval_rows.specs.declared.close.Close.{Close}
+use Rattle.rip_eval_rows.specs.declared.close.Close.TheVariants.{Fine, Stopped}
+use Rattle.rip_eval_rows.specs.declared.completion.Stop.{Stop}
 use Rattle.rip_app.specs.App.{Loaded}
 use Rattle.rip_wire.specs.Batches.{Contents}
-use Rattle.rip_course.specs.Services.{Called, RepliesAs, Service, service_of}
+use Rattle.rip_history.specs.Services.{Called, RepliesAs, Service, service_of}
 use Rattle.rip_host.specs.declared.browser.Browser.{Browser}
 use Rattle.rip_replica.specs.Parts.{Doing}
-use Rattle.rip_said.specs.Said.{opening_lines}
+use Rattle.rip_trace.specs.Said.{opening_lines}
 use Rattle.rip_session.specs.Application.{doing_of}
 use Rattle.rip_store.specs.declared.store.Store.{Store}
-use Rattle.rip_work.specs.Tasks.{Task, reports}
-use Rattle.rip_whole.specs.declared.play.Over.{Over as Outcome}
+use Rattle.rip_session.specs.Tasks.{Task, reports}
+use Rattle.rip_client.specs.declared.whole.play.Over.{Over as Outcome}
 use Rattle.rip_client.specs.Truth.{Playing}
-use Rattle.rip_honest.specs.Honest.{next_in}
+use Rattle.rip_law_served.specs.Honest.{next_in}
 use Rattle.rip_trace.specs.declared.gestures.LinedGesture.{LinedGesture}
 use Rattle.rip_drive.specs.Actors.{IsBegun, IsOpened, OpensPage, Replicas, Sits, page_session, seat_of}
 use Rattle.rip_drive.specs.Drivers.{IsDriven, IsOpenedAndDriven, IsOpenedAndRefused, IsRefused}

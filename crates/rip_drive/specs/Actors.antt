@@ -3,23 +3,23 @@ use Rattle.std.specs.Prelude.{◌≡◌, ℕ, List, [], ◌∷◌, length}
 use Rattle.rip_app.specs.App.{Loaded}
 use Rattle.rip_host.specs.declared.browser.Browser.{Browser}
 use Rattle.rip_machine.specs.Law.{Standing}
-use Rattle.rip_course.specs.Parts.{passes}
-use Rattle.rip_course.specs.Services.{Called, RepliesAs, Service}
+use Rattle.rip_history.specs.Parts.{passes}
+use Rattle.rip_history.specs.Services.{Called, RepliesAs, Service}
 use Rattle.rip_replica.specs.Parts.{Doing}
 use Rattle.rip_replica.specs.declared.replica.Replica.{Replica}
 use Rattle.rip_session.specs.Application.{runs_of}
 use Rattle.rip_store.specs.declared.store.Store.{Store}
 use Rattle.rip_wire.specs.Items.{Reported}
-use Rattle.rip_work.specs.Plans.{work_plan}
-use Rattle.rip_work.specs.Serving.{served}
-use Rattle.rip_work.specs.Tasks.{Task, fact_of, reports}
-use Rattle.rip_work.specs.declared.items.PageItems.{PageItems}
-use Rattle.rip_whole.specs.Wholes.{IsDoing}
-use Rattle.rip_whole.specs.declared.play.Over.{Over as Outcome}
+use Rattle.rip_session.specs.Plans.{work_plan}
+use Rattle.rip_session.specs.Serving.{served}
+use Rattle.rip_session.specs.Tasks.{Task, fact_of, reports}
+use Rattle.rip_session.specs.declared.work.items.PageItems.{PageItems}
+use Rattle.rip_client.specs.Wholes.{IsDoing}
+use Rattle.rip_client.specs.declared.whole.play.Over.{Over as Outcome}
 use Rattle.rip_client.specs.Truth.{Playing}
 use Rattle.rip_client.specs.declared.actor.Over.{Over}
-use Rattle.rip_truth.specs.Truthful.{Seat}
-use Rattle.rip_honest.specs.Honest.{next_in}
+use Rattle.rip_law_replica.specs.Truthful.{Seat}
+use Rattle.rip_law_served.specs.Honest.{next_in}
 use Rattle.rip_drive.specs.Driving.{IsPlayed, Opens}
 use Rattle.rip_drive.specs.declared.page_actor.PageActor.{PageActor}
 

@@ -1,16 +1,16 @@
 -- A client that is driven, with the store that gives it replies and the trace so far.
 use Rattle.std.specs.Prelude.{◌≡◌, ℕ, List, [], ◌∷◌, ◌++◌, Option, Some, None}
-use Rattle.rip_runs.specs.declared.close.Close.TheVariants.{Fine, Refused, Stopped}
-use Rattle.rip_runs.specs.declared.completion.Stop.{Stop}
+use Rattle.rip_eval_rows.specs.declared.close.Close.TheVariants.{Fine, Refused, Stopped}
+use Rattle.rip_eval_rows.specs.declared.completion.Stop.{Stop}
 use Rattle.rip_store.specs.declared.store.Store.{Store}
-use Rattle.rip_values.specs.declared.report.BadReport.{BadReport}
+use Rattle.rip_base.specs.declared.report.BadReport.{BadReport}
 use Rattle.rip_wire.specs.Batches.{Contents}
 use Rattle.rip_client.specs.Sizes.{ToldSo}
 use Rattle.rip_client.specs.Truth.{Playing}
 use Rattle.rip_client.specs.declared.client.HowTold.{HowTold}
 use Rattle.rip_trace.specs.declared.gestures.LinedGesture.{LinedGesture}
-use Rattle.rip_said.specs.Said.{opening_lines}
-use Rattle.rip_whole.specs.declared.play.Over.{Over as Outcome}
+use Rattle.rip_trace.specs.Said.{opening_lines}
+use Rattle.rip_client.specs.declared.whole.play.Over.{Over as Outcome}
 use Rattle.rip_drive.specs.Driving.{AreLegal, Drives, End, batch_lines, end_lines, refused, stopped}
 use Rattle.rip_drive.specs.declared.driver.DriveRefusal.{DriveRefusal}
 use Rattle.rip_drive.specs.declared.driver.DriveRefusal.TheVariants as refusal

@@ -2,27 +2,27 @@
 use Rattle.std.specs.Prelude.{◌≡◌, ℕ, ◌+◌, List, [], ◌∷◌, ◌++◌, Option}
 use Rattle.std.specs.List.{flat_map}
 use Rattle.rip_heap.specs.World.{World}
-use Rattle.rip_runs.specs.declared.close.Close.TheVariants.{Fine, Refused, Stopped}
-use Rattle.rip_runs.specs.declared.completion.Stop.{Stop}
-use Rattle.rip_runs.specs.declared.completion.Stop.TheVariants as stop
-use Rattle.rip_values.specs.declared.report.BadReport.{BadReport}
+use Rattle.rip_eval_rows.specs.declared.close.Close.TheVariants.{Fine, Refused, Stopped}
+use Rattle.rip_eval_rows.specs.declared.completion.Stop.{Stop}
+use Rattle.rip_eval_rows.specs.declared.completion.Stop.TheVariants as stop
+use Rattle.rip_base.specs.declared.report.BadReport.{BadReport}
 use Rattle.rip_app.specs.App.{Loaded}
 use Rattle.rip_wire.specs.Batches.{Contents}
 use Rattle.rip_wire.specs.Items.{Reported}
 use Rattle.rip_wire.specs.Reasons.{fault_reason, limit_reason}
 use Rattle.rip_wire.specs.declared.ending.Reason.{Reason}
-use Rattle.rip_course.specs.Services.{Called, Service, service_of}
+use Rattle.rip_history.specs.Services.{Called, Service, service_of}
 use Rattle.rip_replica.specs.Parts.{Doing, first_given}
-use Rattle.rip_whole.specs.Wholes.{IsWhole, calls_behind, given_for}
-use Rattle.rip_whole.specs.declared.play.Over.{Over as Outcome}
-use Rattle.rip_work.specs.Tasks.{reports}
+use Rattle.rip_client.specs.Wholes.{IsWhole, calls_behind, given_for}
+use Rattle.rip_client.specs.declared.whole.play.Over.{Over as Outcome}
+use Rattle.rip_session.specs.Tasks.{reports}
 use Rattle.rip_session.specs.Application.{doing_of}
 use Rattle.rip_client.specs.declared.actor.Over.{Over}
 use Rattle.rip_client.specs.Truth.{Playing, TellsGesture, Waiting}
-use Rattle.rip_truth.specs.Truthful.{Seat}
-use Rattle.rip_honest.specs.Honest.{next_in}
+use Rattle.rip_law_replica.specs.Truthful.{Seat}
+use Rattle.rip_law_served.specs.Honest.{next_in}
 use Rattle.rip_trace.specs.declared.gestures.LinedGesture.{LinedGesture}
-use Rattle.rip_said.specs.Said.{batch_line, ended_line, opening_lines}
+use Rattle.rip_trace.specs.Said.{batch_line, ended_line, opening_lines}
 use Rattle.rip_drive.specs.declared.driver.DriveRefusal.{DriveRefusal}
 use Rattle.rip_drive.specs.declared.driver.DriveRefusal.TheVariants as refusal
 

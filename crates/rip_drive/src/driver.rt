@@ -5,12 +5,12 @@ ghost use Rattle.rip_trace.specs.declared.gestures.LinedGesture.{LinedGesture as
 ghost use Rattle.rip_drive.specs.Drivers.{EndsSo, IsDriven, IsOpenedAndDriven, IsOpenedAndRefused, IsRefused, RefusesFrom, RefusesSo, TellsSo};
 ghost use Rattle.rip_drive.specs.Driving.{batch_lines, stop_reason};
 
+use rip_base::{Bytes, NoMemory, Writer};
 use rip_client::{Actor, Client, HowTold, ToldBatch};
-use rip_runs::{Close, Stop};
-use rip_said::{write_batch_line, write_ended, write_opening};
+use rip_eval_rows::{Close, Stop};
 use rip_store::Store;
 use rip_trace::LinedGesture;
-use rip_values::{Bytes, NoMemory, Writer};
+use rip_trace::lines::{write_batch_line, write_ended, write_opening};
 use rip_wire::Reason;
 use std::alloc::Global;
 use thiserror::Error;
@@ -41,7 +41,7 @@ impl From<NoMemory> for DriveRefusal {
 pub(crate) trait Openable {
     ghost use Rattle.std.specs.Prelude.{IfOk};
     ghost use Rattle.rip_store.specs.declared.store.Store.{Store as Kept};
-    ghost use Rattle.rip_whole.specs.declared.play.Over.{Over as Outcome};
+    ghost use Rattle.rip_client.specs.declared.whole.play.Over.{Over as Outcome};
 
     // Its opening is played so, with the store before and behind.
     ghost opens: { Self → Kept → Outcome → Self → Kept → Type 0 };
@@ -51,7 +51,7 @@ pub(crate) trait Openable {
         &mut self,
         alloc: Global,
         store: &mut Store,
-    ) -> Result<rip_whole::Over, NoMemory>
+    ) -> Result<rip_client::whole::Over, NoMemory>
         ensures { IfOk result (λ over. opens self.old store.old over self.new store.new) };
 }
 

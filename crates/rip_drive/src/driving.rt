@@ -1,14 +1,14 @@
 ghost use Rattle.std.specs.Prelude.{[], All, IfErr, IfOk};
 ghost use Rattle.rip_client.specs.Sizes.{IsGesture};
-ghost use Rattle.rip_course.specs.Services.{RepliesAs, service_of};
+ghost use Rattle.rip_history.specs.Services.{RepliesAs, service_of};
 ghost use Rattle.rip_drive.specs.Driving.{IsRefusal, IsTrace};
 
 use crate::driver::{DriveRefusal, open_and_tell};
 use crate::page_actor::PageActor;
 use rip_app::App;
+use rip_base::{Bytes, NoMemory};
 use rip_store::Store;
 use rip_trace::Gestures;
-use rip_values::{Bytes, NoMemory};
 use std::alloc::Global;
 
 /// The random seed of the session.

@@ -3,11 +3,11 @@ ghost use Rattle.rip_session.specs.Application.{doing_of};
 ghost use Rattle.rip_drive.specs.Actors.{IsBegun};
 
 use rip_app::App;
+use rip_base::NoMemory;
+use rip_replica::scheduler::Runner;
 use rip_replica::{AtItem, Place, Replica};
-use rip_runner::Runner;
+use rip_session::work::{PageItems, Work, moment_of};
 use rip_session::{Opened, Session, open};
-use rip_values::NoMemory;
-use rip_work::{PageItems, Work, moment_of};
 use std::alloc::Global;
 
 /// A session from this seed and at moment 0, before the one item of its opening.

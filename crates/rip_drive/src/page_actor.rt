@@ -1,22 +1,22 @@
 ghost use Rattle.std.specs.Prelude.{◌≡◌, ℕ, [], IfOk};
-ghost use Rattle.rip_course.specs.Services.{RepliesAs, Service as Meant};
+ghost use Rattle.rip_history.specs.Services.{RepliesAs, Service as Meant};
 ghost use Rattle.rip_host.specs.declared.browser.Browser.{Browser};
 ghost use Rattle.rip_replica.specs.Parts.{Doing};
 ghost use Rattle.rip_session.specs.Application.{doing_of};
 ghost use Rattle.rip_wire.specs.Items.{IsItem, reported_of};
-ghost use Rattle.rip_work.specs.Tasks.{Task, reports};
+ghost use Rattle.rip_session.specs.Tasks.{Task, reports};
 ghost use Rattle.rip_drive.specs.Actors.{IsBegun, IsOpened};
 
 use crate::driver::Openable;
 use crate::opening::open_session;
 use rip_app::App;
+use rip_base::NoMemory;
+use rip_client::whole::{open_batch, play_next, put_item};
 use rip_client::{Actor, Over, WaitingCall};
 use rip_session::Session;
+use rip_session::work::{Work, works_of};
 use rip_store::Store;
-use rip_values::NoMemory;
-use rip_whole::{open_batch, play_next, put_item};
 use rip_wire::{Batch, Item, ItemList, MOST_ITEMS};
-use rip_work::{Work, works_of};
 use std::alloc::Global;
 
 /// A session of an application, of which items are played whole at moment 0.
@@ -37,7 +37,11 @@ impl PageActor {
     }
 
     /// Plays the one item of the opening.
-    pub fn open(&mut self, alloc: Global, store: &mut Store) -> Result<rip_whole::Over, NoMemory>
+    pub fn open(
+        &mut self,
+        alloc: Global,
+        store: &mut Store,
+    ) -> Result<rip_client::whole::Over, NoMemory>
         ensures { (d : Doing Task Browser) (service : Meant)
             → IsBegun self.old.app d self.old.session.replica → RepliesAs store.old service []
             → IfOk result (λ over. IsOpened self.new.app d over self.new.session.replica store.new
@@ -57,7 +61,7 @@ impl Openable for PageActor {
         &mut self,
         alloc: Global,
         store: &mut Store,
-    ) -> Result<rip_whole::Over, NoMemory> {
+    ) -> Result<rip_client::whole::Over, NoMemory> {
         self.open(alloc, store)
     }
 }

@@ -5,7 +5,7 @@ use Rattle.std.specs.List.{All, flat_map}
 use Rattle.std.proofs.lemmas.Grind.{flat_map-append}
 use Rattle.std.proofs.lemmas.List.{take_more}
 use Rattle.std.proofs.lemmas.List.Elements.{All-append, All-cons, All-head, All-nil, All-tail}
-use Rattle.rip_values.specs.declared.memory.NoMemory.{NoMemory}
+use Rattle.rip_base.specs.declared.memory.NoMemory.{NoMemory}
 use Rattle.rip_tree.specs.Branches.{Plant, AreBetween, ChildrenFollow, links_of}
 use Rattle.rip_early.specs.Around.{children_of, in_text, in_text_within, present}
 use Rattle.rip_early.proofs.Gathering.{present-append}

@@ -3,8 +3,8 @@ use Rattle.std.specs.Prelude.{◌≡◌, ℕ, ◌+◌, ◌<◌, ◌≤◌, ◌==
 use Rattle.std.specs.List.{flat_map}
 use Rattle.std.specs.Fmt.{signed_decimal}
 use Rattle.std.specs.Str.{bytes_eq}
-use Rattle.rip_values.specs.declared.operator.UnaryOperator.{UnaryOperator}
-use Rattle.rip_values.specs.declared.operator.UnaryOperator.TheVariants.{Delete}
+use Rattle.rip_base.specs.declared.operator.UnaryOperator.{UnaryOperator}
+use Rattle.rip_base.specs.declared.operator.UnaryOperator.TheVariants.{Delete}
 use Rattle.rip_tree.specs.declared.form.Form.{Form}
 use Rattle.rip_tree.specs.declared.form.Form.TheVariants as F
 use Rattle.rip_tree.specs.declared.form.Key.{Key}

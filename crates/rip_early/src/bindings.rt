@@ -14,8 +14,8 @@ use crate::mistake::Mistake;
 use crate::names::Names;
 use crate::refusal::EarlyKind;
 use crate::uses::{first_child, mistake_if};
+use rip_base::NoMemory;
 use rip_tree::{Form, Node, Piece, Resolved, Tree};
-use rip_values::NoMemory;
 use std::alloc::Global;
 
 /// The early error of the name that a node binds.

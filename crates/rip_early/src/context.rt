@@ -5,8 +5,8 @@ ghost use Rattle.rip_early.specs.Mistakes.{is_left_by_break, is_loop};
 ghost use Rattle.rip_early.specs.Contexts.{AreParents, AreContexts, context_of, context_within, makes_scope};
 ghost use Rattle.rip_tree.specs.Branches.{ChildrenFollow};
 
+use rip_base::NoMemory;
 use rip_tree::{Form, Tree};
-use rip_values::NoMemory;
 use std::alloc::Global;
 
 /// What stands around a node.

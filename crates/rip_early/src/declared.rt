@@ -9,8 +9,8 @@ ghost use Rattle.rip_early.specs.Program.{declared_places};
 
 use crate::context::Context;
 use crate::names::Names;
+use rip_base::NoMemory;
 use rip_tree::{Form, Piece, Tree};
-use rip_values::NoMemory;
 use std::alloc::Global;
 
 /// The form of a node, or past the last that of the empty statement.

@@ -10,8 +10,8 @@ use crate::mistake::{Mistake, earlier};
 use crate::names::Names;
 use crate::refusal::EarlyKind;
 use crate::uses::mistake_if;
+use rip_base::{NoMemory, Units, Whole, text_of_whole};
 use rip_tree::{Form, Key, Node, Tree};
-use rip_values::{NoMemory, Units, Whole, text_of_whole};
 use std::alloc::Global;
 
 /// A name and its place.

@@ -12,8 +12,8 @@ use crate::context::Context;
 use crate::declared::form_of;
 use crate::globals::global_meaning;
 use crate::names::Names;
+use rip_base::NoMemory;
 use rip_tree::{Form, Piece, Resolved, Tree};
-use rip_values::NoMemory;
 
 /// What a name means where it stands.
 #[derive(Clone, Copy, Debug)]

@@ -2,7 +2,7 @@ ghost use Rattle.std.specs.Prelude.{◌≡◌, [], ◌∷◌, ◌++◌, length, 
 ghost use Rattle.rip_early.specs.Names.{place_in, with_name};
 ghost use Rattle.rip_early.specs.Indexed.{names_of, with_any, IsIndexed};
 
-use rip_values::{NoMemory, Units};
+use rip_base::{NoMemory, Units};
 use std::alloc::Global;
 use std::collections::BTreeMap;
 

@@ -12,8 +12,8 @@ use crate::duplicates::duplicate;
 use crate::mistake::{Mistake, earlier};
 use crate::names::Names;
 use crate::uses::bad_use;
+use rip_base::NoMemory;
 use rip_tree::Tree;
-use rip_values::NoMemory;
 use std::alloc::Global;
 
 /// The first early error of a node.

@@ -2,8 +2,8 @@ ghost use Rattle.std.specs.Prelude.{◌≡◌, ◌++◌, ◌<◌, length, IfOk, 
 ghost use Rattle.std.specs.List.{All, flat_map};
 ghost use Rattle.rip_early.specs.Around.{children_of, in_text, in_text_within};
 
+use rip_base::NoMemory;
 use rip_tree::Tree;
-use rip_values::NoMemory;
 use std::alloc::Global;
 
 /// The numbers of the nodes of a script in the order of its text.

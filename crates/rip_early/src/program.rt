@@ -21,8 +21,8 @@ use crate::order::text_order;
 use crate::refusal::EarlyRefusal;
 use crate::scopes::{scopes_of, top_names};
 use crate::script::script_mistake;
+use rip_base::{List, NoMemory};
 use rip_tree::{Form, Piece, Program, Resolved, Scoping, Tree, Trees};
-use rip_values::{List, NoMemory};
 use std::alloc::Global;
 
 /// What the rules of scope say of scripts: of each node, and of each script the places in the top scope of the names that

@@ -11,8 +11,8 @@ use crate::context::{Context, contexts_of, parents_of};
 use crate::declared::{add_functions, add_parameters, add_vars, form_of, name_of, var_piece};
 use crate::names::Names;
 use crate::order::text_order;
+use rip_base::NoMemory;
 use rip_tree::Tree;
-use rip_values::NoMemory;
 use std::alloc::Global;
 
 /// The names that the one top scope of all scripts binds.

@@ -10,8 +10,8 @@ use crate::mistake::{Mistake, earlier};
 use crate::names::Names;
 use crate::node::node_mistake;
 use crate::strict::directive_mistake;
+use rip_base::NoMemory;
 use rip_tree::Tree;
-use rip_values::NoMemory;
 use std::alloc::Global;
 
 /// The early error of a script that counts first, if it has one.

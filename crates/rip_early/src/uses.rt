@@ -13,8 +13,8 @@ use crate::meaning::meaning_of;
 use crate::mistake::Mistake;
 use crate::names::Names;
 use crate::refusal::EarlyKind;
+use rip_base::{NoMemory, UnaryOperator};
 use rip_tree::{Form, Node, Piece, Tree};
-use rip_values::{NoMemory, UnaryOperator};
 
 /// The early error of what a node is by itself: of `delete`, a name, `this` or a jump.
 pub(crate) fn bad_use(

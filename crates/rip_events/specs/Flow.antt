@@ -1,7 +1,7 @@
 -- The flow of an event along the document (DOM Level 2 Events 1.2): the stations that it passes, fixed before it begins,
 -- and at each the listeners that it calls.
 use Rattle.std.specs.Prelude.{ℕ, suc, Bool, true, false, if◌then◌else◌, Option, None, Some, List, [], ◌∷◌, ◌++◌, length, map, reverse}
-use Rattle.rip_values.specs.declared.value.Span.{Span}
+use Rattle.rip_base.specs.declared.value.Span.{Span}
 use Rattle.rip_values.specs.Pool.{Texts}
 use Rattle.rip_dom.specs.Tree.{Tree, parent_of, way_up}
 use Rattle.rip_events.specs.declared.station.Phase.{Phase}

@@ -1,7 +1,7 @@
 -- Laws of flows, in words that no step uses: what the calls of a whole flow are, whatever is done to the document and to
 -- the listeners between them.
 use Rattle.std.specs.Prelude.{◌≡◌, ℕ, ◌<◌, ◌≤◌, ◌⊎◌, Bool, true, false, Option, None, Some, List, [], ◌∷◌, ◌++◌, length, All, AllPairs}
-use Rattle.rip_values.specs.declared.value.Span.{Span}
+use Rattle.rip_base.specs.declared.value.Span.{Span}
 use Rattle.rip_values.specs.Pool.{Texts}
 use Rattle.rip_dom.specs.Tree.{Tree}
 use Rattle.rip_events.specs.declared.station.Station.{Station}

@@ -1,6 +1,6 @@
 -- How a flow is kept: its stations, and how many of them were reached, of which the last is at hand.
 use Rattle.std.specs.Prelude.{◌≡◌, ℕ, suc, ◌-◌, nat_le, if◌then◌else◌, Option, None, Some, List, drop, slice_get}
-use Rattle.rip_values.specs.declared.value.Span.{Span}
+use Rattle.rip_base.specs.declared.value.Span.{Span}
 use Rattle.rip_values.specs.Pool.{Texts}
 use Rattle.rip_events.specs.declared.station.Station.{Station}
 use Rattle.rip_events.specs.Listed.{Listed}

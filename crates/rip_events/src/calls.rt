@@ -6,8 +6,9 @@ use crate::cursor::Cursor;
 use crate::listener::Wanted;
 use crate::listeners::Listeners;
 use crate::station::{Phase, Place, Station};
+use rip_base::Span;
 use rip_heap::Heap;
-use rip_values::{Pool, Span};
+use rip_values::Pool;
 
 impl Cursor {
     /// The next call of the flow, or none where no place is left. A station that is reached now takes the listeners

@@ -2,8 +2,8 @@ ghost use Rattle.std.specs.Prelude.{◌≡◌, ◌+◌, ◌≤◌, ◌++◌, [],
 ghost use Rattle.rip_events.specs.Flow.{above, in_phase, begun};
 
 use crate::station::{Phase, Station};
+use rip_base::{NoMemory, Span};
 use rip_dom::Dom;
-use rip_values::{NoMemory, Span};
 use std::alloc::Global;
 use std::marker::Model;
 

@@ -1,7 +1,8 @@
 ghost use Rattle.std.specs.Prelude.{◌≡◌};
 ghost use Rattle.rip_events.specs.Listed.{is_alike, may_be, is_typed, same_as};
 
-use rip_values::{Pool, Span};
+use rip_base::Span;
+use rip_values::Pool;
 
 /// A listener: the node on which it is, the text of its type, its function, and whether it is for the capturing phase
 /// or for the two others.

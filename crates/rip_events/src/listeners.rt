@@ -4,8 +4,9 @@ ghost use Rattle.rip_events.specs.Listed.{fits_typed, found, first_between, firs
 ghost use Rattle.rip_events.specs.Chained.{ends_at, ends_with, link_at, with_link, first_on, AreSameEnds};
 
 use crate::listener::{Listener, Wanted, is_typed, same_as};
+use rip_base::{Limit, NoMemory, Refused, Span};
 use rip_heap::Heap;
-use rip_values::{Limit, NoMemory, Pool, Refused, Span};
+use rip_values::Pool;
 use std::alloc::Global;
 use std::marker::Model;
 

@@ -2,9 +2,9 @@
 use Rattle.std.specs.Prelude.{ℕ, Bool, true, false, ◌||◌, is_some, if◌then◌else◌, Option, None, Some, List, [], ◌∷◌, codes, option_map}
 use Rattle.std.specs.List.{list_any}
 use Rattle.std.specs.Str.{bytes_eq}
-use Rattle.rip_values.specs.declared.value.Span.{Span}
+use Rattle.rip_base.specs.declared.value.Span.{Span}
 use Rattle.rip_values.specs.Pool.{Texts, text_at}
-use Rattle.rip_values.specs.Units.{small_text}
+use Rattle.rip_base.specs.Units.{small_text}
 use Rattle.rip_dom.specs.Names.{attribute_of}
 use Rattle.rip_dom.specs.Tree.{Tree, node_at}
 use Rattle.rip_forms.specs.declared.control.FormPart.{FormPart}

@@ -2,8 +2,8 @@ pub mod Choices
 pub mod Controls
 pub mod Kept
 pub mod Laws
-pub mod Options
 pub mod OptionSteps
+pub mod Options
 pub mod Reports
 pub mod States
 pub mod Values

@@ -1,14 +1,14 @@
 -- Reports of events: which is legal, and what it does to the states of controls.
 use Rattle.std.specs.Prelude.{◌≡◌, ℕ, pos, ◌+◌, ◌-◌, ◌*◌, Bool, true, false, not, ◌&&◌, ◌||◌, nat_le, nat_lt, if◌then◌else◌, Option, None, Some, List, [], ◌∷◌, length, codes, unwrap_or, Result, Ok, Err}
 use Rattle.std.specs.List.{list_all}
-use Rattle.rip_values.specs.declared.report.BadReport.{BadReport}
-use Rattle.rip_values.specs.declared.report.BadReport.TheVariants.{Node, Control, Disabled, Long, Option as NoOption}
-use Rattle.rip_values.specs.declared.report.EventKind.{EventKind}
-use Rattle.rip_values.specs.declared.report.EventKind.TheVariants.{Click, Focus, Blur, Submit, Change, Input}
-use Rattle.rip_values.specs.declared.report.Report.{Report}
-use Rattle.rip_values.specs.declared.value.Limit.TheVariants.{Units}
-use Rattle.rip_values.specs.declared.value.Refused.{Refused}
-use Rattle.rip_values.specs.declared.value.Refused.TheVariants.{Limit as At, Memory}
+use Rattle.rip_base.specs.declared.report.BadReport.{BadReport}
+use Rattle.rip_base.specs.declared.report.BadReport.TheVariants.{Node, Control, Disabled, Long, Option as NoOption}
+use Rattle.rip_base.specs.declared.report.EventKind.{EventKind}
+use Rattle.rip_base.specs.declared.report.EventKind.TheVariants.{Click, Focus, Blur, Submit, Change, Input}
+use Rattle.rip_base.specs.declared.report.Report.{Report}
+use Rattle.rip_base.specs.declared.value.Limit.TheVariants.{Units}
+use Rattle.rip_base.specs.declared.value.Refused.{Refused}
+use Rattle.rip_base.specs.declared.value.Refused.TheVariants.{Limit as At, Memory}
 use Rattle.rip_values.specs.Pool.{Texts, span_behind, with_text}
 use Rattle.rip_dom.specs.Tree.{Tree, is_above, is_element, node_at}
 use Rattle.rip_forms.specs.declared.control.FormPart.{FormPart}

@@ -1,7 +1,7 @@
 -- How `value` and `checked` of controls read (DOM Level 2 HTML, HTMLInputElement, HTMLSelectElement, HTMLOptionElement
 -- and HTMLTextAreaElement).
 use Rattle.std.specs.Prelude.{◌≡◌, ℕ, Bool, Option, None, Some, Result, Ok, codes, unwrap_or}
-use Rattle.rip_values.specs.declared.value.Span.{Span}
+use Rattle.rip_base.specs.declared.value.Span.{Span}
 use Rattle.rip_values.specs.FixedTexts.{fixed_span}
 use Rattle.rip_values.specs.Pool.{Texts}
 use Rattle.rip_dom.specs.declared.reading.TextRefused.{TextRefused}

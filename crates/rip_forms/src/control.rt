@@ -1,10 +1,11 @@
 ghost use Rattle.std.specs.Prelude.{◌≡◌};
-ghost use Rattle.rip_values.specs.Units.{small_text};
+ghost use Rattle.rip_base.specs.Units.{small_text};
 ghost use Rattle.rip_forms.specs.Controls.{has_attribute, input_at, input_of_type, is_control, is_text_control, is_text_type, part_named, part_of};
 
 use crate::words::TYPE;
+use rip_base::{Span, is_ascii, is_ascii_in_small};
 use rip_dom::Dom;
-use rip_values::{Pool, Span, is_ascii, is_ascii_in_small};
+use rip_values::Pool;
 
 /// What a node is to a form: one of the controls (HTML 4.01 17.2.1), or what else the rules of forms speak of.
 #[derive(Clone, Copy, Debug, PartialEq, Eq)]

@@ -7,8 +7,9 @@ use crate::control::{FormPart, has_attribute, part_of};
 use crate::options::option_numbered;
 use crate::state::{FormState, Forms};
 use crate::words::{DISABLED, MAXLENGTH};
+use rip_base::{BadReport, EventKind, LONGEST_INPUT, NodeKind, Refused, Report};
 use rip_dom::Dom;
-use rip_values::{BadReport, EventKind, LONGEST_INPUT, NodeKind, Pool, Refused, Report};
+use rip_values::Pool;
 use std::alloc::Global;
 
 /// Whether the report is legal where document and states stand so: the first refusal in the order of [`BadReport`].

@@ -2,7 +2,7 @@ ghost use Rattle.std.specs.Prelude.{◌≡◌, ◌+◌, ◌<◌, IfOk, length, n
 ghost use Rattle.rip_forms.specs.Kept.{filled, record_at};
 ghost use Rattle.rip_forms.specs.States.{no_states, state_at, state_with, states_with};
 
-use rip_values::{NoMemory, Span};
+use rip_base::{NoMemory, Span};
 use std::alloc::Global;
 use std::marker::Model;
 

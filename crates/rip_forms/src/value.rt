@@ -5,8 +5,9 @@ ghost use Rattle.rip_forms.specs.Values.{ReadsValue, checked_of, option_value, v
 use crate::control::{FormPart, has_attribute, part_of};
 use crate::state::Forms;
 use crate::words::{CHECKED, VALUE};
+use rip_base::Span;
 use rip_dom::{Dom, TextRefused};
-use rip_values::{FixedText, Pool, Span};
+use rip_values::{FixedText, Pool};
 use std::alloc::Global;
 
 /// A value that is read: a text that stands in the pool, or the texts below a node, which are to be joined.

@@ -3,8 +3,8 @@ use Rattle.std.proofs.Common.{◌≡◌, ℕ, zero, suc, ◌+◌, ◌-◌, ◌*�
 use Rattle.std.specs.Char.{is_ascii_digit}
 use Rattle.std.specs.List.{list_all, AllByRecursion}
 use Rattle.std.proofs.Math.Nat.{div-lt_iff_lt-mul, mul_comm, mul-le-mul_right, mul-lt-mul_of_pos_left}
-use Rattle.rip_numerals.proofs.Numerals.{decimal_passes}
-use Rattle.rip_values.specs.Text.{IsUtf16}
+use Rattle.rip_words.proofs.NumeralsLemmas.{decimal_passes}
+use Rattle.rip_base.specs.Text.{IsUtf16}
 use Rattle.rip_wire.specs.declared.gesture.Gesture.{Gesture}
 use Rattle.rip_wire.proofs.TextLemmas.{AreAscii, IsUtf16-ascii}
 use Rattle.rip_gen.specs.Plans.{next_random, drawn, input, change, gesture_of, gesture_drawn, gestures_drawn, IsInRange, PlansAreInRange}

@@ -1,1 +1,11 @@
+pub mod Counts
+pub mod Form
+pub mod Forms
+pub mod Generated
+pub mod Lies
+pub mod Pace
 pub mod Plans
+pub mod Served
+pub mod Trace
+pub mod Work
+pub mod Working

@@ -1,7 +1,7 @@
 -- The plan of a number: how many sessions there are, which of them lies, and what their users do.
 use Rattle.std.specs.Prelude.{◌≡◌, ℕ, zero, suc, ◌+◌, ◌-◌, ◌*◌, ◌/◌, ◌%◌, ◌^◌, ◌≤◌, ◌==◌, if◌then◌else◌, List, [], ◌∷◌, ◌++◌, length, codes, decimal, Some, None, ⊤}
 use Rattle.std.specs.List.{AllByRecursion}
-use Rattle.rip_values.specs.declared.report.EventKind.TheVariants.{Click, Change, Input}
+use Rattle.rip_base.specs.declared.report.EventKind.TheVariants.{Click, Change, Input}
 use Rattle.rip_wire.specs.Items.{event, IsItem}
 use Rattle.rip_wire.specs.declared.gesture.Gesture.{Gesture}
 use Rattle.rip_wire.specs.declared.gesture.Gesture.TheVariants.{Event, Flush}

@@ -2,7 +2,7 @@ ghost use Rattle.std.specs.Prelude.{◌≡◌, ◌++◌, ◌<◌, decimal, IfOk}
 ghost use Rattle.rip_gen.specs.Plans.{input, change, click, gesture_drawn, gestures_drawn};
 
 use crate::draws::Draws;
-use rip_values::{EventKind, NoMemory, Report, Units, Writer};
+use rip_base::{EventKind, NoMemory, Report, Units, Writer};
 use rip_wire::Gesture;
 use std::alloc::Global;
 

@@ -15,6 +15,7 @@
 #![tactic(auto)]
 
 mod draws;
+pub mod generate;
 mod gesture;
 mod laws;
 mod plans;

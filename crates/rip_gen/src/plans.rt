@@ -3,7 +3,7 @@ ghost use Rattle.rip_gen.specs.Plans.{plan_of};
 
 use crate::draws::Draws;
 use crate::gesture::next_gestures;
-use rip_values::NoMemory;
+use rip_base::NoMemory;
 use rip_wire::Gesture;
 use std::alloc::Global;
 use std::marker::Model;

@@ -1,7 +1,7 @@
 -- Which words go on behind a postfix operator, and which begin a statement.
 use Rattle.std.proofs.Common.{◌≡◌, ◌<◌, ◌≤◌, Bool, true, false, List, [], ◌∷◌, refl, sym, ap, ◌∙◌, subst, ◌⊎◌, inl, inr, arith, le-leb}
-use Rattle.rip_values.specs.declared.operator.BinaryOperator.TheVariants as B
-use Rattle.rip_values.specs.declared.operator.LogicalOperator.TheVariants as L
+use Rattle.rip_base.specs.declared.operator.BinaryOperator.TheVariants as B
+use Rattle.rip_base.specs.declared.operator.LogicalOperator.TheVariants as L
 use Rattle.rip_grammar.specs.declared.word.Word.{Word}
 use Rattle.rip_grammar.specs.declared.word.Word.TheVariants as W
 use Rattle.rip_grammar.specs.declared.word.Lexeme.{Lexeme}

@@ -1,6 +1,6 @@
 -- Derivations that the rules do not make, whatever follows.
 use Rattle.std.proofs.Common.{◌≡◌, ◌<◌, true, false, List, ◌∷◌, arith}
-use Rattle.rip_values.specs.declared.operator.BinaryOperator.TheVariants as B
+use Rattle.rip_base.specs.declared.operator.BinaryOperator.TheVariants as B
 use Rattle.rip_grammar.specs.declared.word.Word.TheVariants as W
 use Rattle.rip_grammar.specs.declared.word.Lexeme.{Lexeme}
 use Rattle.rip_grammar.specs.Phrases.{Inserted, Phrase, Nothing, Single, NewCall, Call, Infix, Assignment, Block, Initialised, Expression, If, For, Bindings, Return, Declaration}

@@ -1,8 +1,8 @@
 -- How tightly phrases hold: the precedence of operators (ECMA-262 11).
 use Rattle.std.specs.Prelude.{ℕ, min, Bool, true, false}
-use Rattle.rip_values.specs.declared.operator.BinaryOperator.{BinaryOperator}
-use Rattle.rip_values.specs.declared.operator.BinaryOperator.TheVariants as B
-use Rattle.rip_values.specs.declared.operator.LogicalOperator.TheVariants as L
+use Rattle.rip_base.specs.declared.operator.BinaryOperator.{BinaryOperator}
+use Rattle.rip_base.specs.declared.operator.BinaryOperator.TheVariants as B
+use Rattle.rip_base.specs.declared.operator.LogicalOperator.TheVariants as L
 use Rattle.rip_grammar.specs.declared.word.Word.{Word}
 use Rattle.rip_grammar.specs.declared.word.Word.TheVariants as W
 use Rattle.rip_grammar.specs.Words.{is_name}

@@ -1,7 +1,7 @@
 -- What the rules ask of a word (ECMA-262 7.6, 11, 12).
 use Rattle.std.specs.Prelude.{Bool, true, false}
-use Rattle.rip_values.specs.declared.operator.BinaryOperator.TheVariants as B
-use Rattle.rip_values.specs.declared.operator.UnaryOperator.TheVariants as U
+use Rattle.rip_base.specs.declared.operator.BinaryOperator.TheVariants as B
+use Rattle.rip_base.specs.declared.operator.UnaryOperator.TheVariants as U
 use Rattle.rip_grammar.specs.declared.word.Word.{Word}
 use Rattle.rip_grammar.specs.declared.word.Word.TheVariants as W
 

@@ -1,4 +1,4 @@
-use rip_values::{BinaryOperator, LogicalOperator, StepOperator, UnaryOperator};
+use rip_base::{BinaryOperator, LogicalOperator, StepOperator, UnaryOperator};
 
 /// What a token is to the grammar.
 #[derive(Clone, Copy, Debug, PartialEq, Eq)]

@@ -1,7 +1,7 @@
 -- Along prototypes that are older than their objects, no bound on how many are looked at is ever met.
 use Rattle.std.proofs.Common.{◌≡◌, ℕ, zero, suc, ◌+◌, ◌-◌, ◌<◌, ◌≤◌, cond, Option, None, Some, refl, ap, ◌∙◌, arith, IfSome}
 use Rattle.std.specs.Prelude.{is_some}
-use Rattle.rip_values.specs.declared.value.Span.{Span}
+use Rattle.rip_base.specs.declared.value.Span.{Span}
 use Rattle.rip_heap.specs.Objects.{own}
 use Rattle.rip_heap.specs.Sound.{HaveOlderProtos}
 use Rattle.rip_heap.specs.World.{World, object_at, class_of, proto_of, first_object}

@@ -5,16 +5,16 @@ use Rattle.std.proofs.lemmas.Bool.{both_ways}
 use Rattle.std.proofs.lemmas.Int.{ints}
 use lib.Pointwise.{pointwise, bytes_decides}
 use Rattle.std.specs.Str.Parse.{digits_value, starts_with_minus, without_leading_sign}
-use Rattle.rip_values.specs.declared.value.Numeral.{Numeral}
-use Rattle.rip_values.specs.declared.value.Numeral.TheVariants.{Num, NaN}
-use Rattle.rip_values.specs.declared.value.Fault.{Fault}
-use Rattle.rip_values.specs.declared.value.Fault.TheVariants.{NotWhole, Infinite, OutOfRange}
-use Rattle.rip_values.specs.Blank.{trimmed}
-use Rattle.rip_values.specs.Numbers.{IsNumberOf}
-use Rattle.rip_values.specs.NumberScan.{IsRanged, signed_value, is_numeral, is_hexadecimal, is_fraction}
-use Rattle.rip_values.specs.Whole.{IsWhole}
-use Rattle.rip_values.proofs.NumberLaws.{IsNumberOf-one}
-use Rattle.rip_values.proofs.NumberLemmas.{IsNumberOf-hexadecimal, IsNumberOf-decimal, SpellsFraction-true, SpellsNothing-tests}
+use Rattle.rip_base.specs.declared.value.Numeral.{Numeral}
+use Rattle.rip_base.specs.declared.value.Numeral.TheVariants.{Num, NaN}
+use Rattle.rip_base.specs.declared.value.Fault.{Fault}
+use Rattle.rip_base.specs.declared.value.Fault.TheVariants.{NotWhole, Infinite, OutOfRange}
+use Rattle.rip_base.specs.Blank.{trimmed}
+use Rattle.rip_base.specs.Numbers.{IsNumberOf}
+use Rattle.rip_base.specs.NumberScan.{IsRanged, signed_value, is_numeral, is_hexadecimal, is_fraction}
+use Rattle.rip_base.specs.Whole.{IsWhole}
+use Rattle.rip_base.proofs.NumberLaws.{IsNumberOf-one}
+use Rattle.rip_base.proofs.NumberLemmas.{IsNumberOf-hexadecimal, IsNumberOf-decimal, SpellsFraction-true, SpellsNothing-tests}
 use Rattle.rip_heap.specs.Conversions.{ranged, number_of_literal, number_of_trimmed, number_of_text}
 
 IsWhole-within : (z : ℤ) → unsigned_abs z ≤ 9007199254740991 → IsWhole z

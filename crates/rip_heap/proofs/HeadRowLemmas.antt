@@ -3,10 +3,10 @@ use Rattle.std.proofs.Common.{◌≡◌, ℕ, List, [], ◌∷◌, ◌++◌, ap,
 use Rattle.std.specs.Prelude.{map, slice_set}
 use Rattle.std.proofs.Math.Seq.{map-set_same}
 use Rattle.std.proofs.lemmas.List.{map-set, map_push}
-use Rattle.rip_pages.specs.declared.slot.Slot.{Slot}
-use Rattle.rip_pages.specs.Pages.{no_slot, slot_at}
-use Rattle.rip_chains.specs.declared.chain.Chain.{Chain}
-use Rattle.rip_segments.specs.declared.array.Array.{Array}
+use Rattle.rip_heap_region.specs.declared.pages.slot.Slot.{Slot}
+use Rattle.rip_heap_region.specs.Pages.{no_slot, slot_at}
+use Rattle.rip_heap_region.specs.declared.chains.chain.Chain.{Chain}
+use Rattle.rip_heap_region.specs.declared.segments.array.Array.{Array}
 use Rattle.rip_heap.specs.declared.class.Class.TheVariants.{Array as ArrayClass}
 use Rattle.rip_heap.specs.declared.stored.StoredObject.{StoredObject}
 use Rattle.rip_heap.specs.HeadSlots.{IsStorable, array_in, chain_in, head_in, index_in, slot_of, with_array, with_chain}

@@ -1,8 +1,8 @@
 -- One step of a look-up along prototypes, with what it hands back.
 use Rattle.std.proofs.Common.{◌≡◌, ℕ, Bool, true, false, cond, Option, None, Some, refl, ap, ◌∙◌}
 use Rattle.std.specs.Prelude.{is_some}
-use Rattle.rip_values.specs.declared.value.Span.{Span}
-use Rattle.rip_values.specs.declared.value.Value.{Value}
+use Rattle.rip_base.specs.declared.value.Span.{Span}
+use Rattle.rip_base.specs.declared.value.Value.{Value}
 use Rattle.rip_heap.specs.Objects.{own, or_up, find}
 use Rattle.rip_heap.specs.Sound.{HaveOlderProtos}
 use Rattle.rip_heap.specs.World.{World, object_at, class_of, proto_of}

@@ -2,14 +2,14 @@
 use Rattle.std.proofs.Common.{◌≡◌, ℕ, zero, suc, ◌+◌, ◌-◌, ◌<◌, ◌≤◌, List, [], ◌∷◌, length, refl, sym, ap, ◌∙◌, subst, arith, drop, slice_range, take}
 use Rattle.std.specs.Prelude.{slice_index}
 use Rattle.std.proofs.lemmas.List.{take-append-drop, take-take, take_all}
-use Rattle.rip_values.specs.declared.value.Span.{Span}
+use Rattle.rip_base.specs.declared.value.Span.{Span}
 use Rattle.rip_values.specs.Pool.{Texts, IsSpan, KeepsTexts, cut_pool, text_at}
-use Rattle.rip_pages.specs.declared.property.Property.{Property}
-use Rattle.rip_pages.specs.declared.slot.Slot.{Slot}
-use Rattle.rip_pages.specs.Pages.{Paged, slot_at}
-use Rattle.rip_chains.specs.Chains.{chain_at, places_of, properties_of}
-use Rattle.rip_buckets.specs.Blocks.{ListedBlocks, buckets_at}
-use Rattle.rip_buckets.specs.NameIndex.{bucket_of, bucket_at, name_at, IsIndex, IsIndexOf, IsLast}
+use Rattle.rip_heap_region.specs.declared.pages.property.Property.{Property}
+use Rattle.rip_heap_region.specs.declared.pages.slot.Slot.{Slot}
+use Rattle.rip_heap_region.specs.Pages.{Paged, slot_at}
+use Rattle.rip_heap_region.specs.Chains.{chain_at, places_of, properties_of}
+use Rattle.rip_heap_region.specs.Blocks.{ListedBlocks, buckets_at}
+use Rattle.rip_heap_region.specs.NameIndex.{bucket_of, bucket_at, name_at, IsIndex, IsIndexOf, IsLast}
 use Rattle.rip_heap.specs.HeadSlots.{index_in}
 use Rattle.rip_heap.specs.NamedObjects.{first_texts}
 use Rattle.rip_heap.specs.Region.{AreIndexes, chains_in}

@@ -4,10 +4,10 @@ use Rattle.std.specs.List.{position_or_len}
 use Rattle.std.specs.Prelude.{is_some, option_and_then, option_map, remove, slice_set}
 use Rattle.std.proofs.lemmas.Bool.{cases_lt}
 use Rattle.std.proofs.lemmas.Bool.Decides.{nat_tests}
-use Rattle.rip_values.specs.declared.value.Span.{Span}
-use Rattle.rip_values.specs.declared.value.Value.{Value}
+use Rattle.rip_base.specs.declared.value.Span.{Span}
+use Rattle.rip_base.specs.declared.value.Value.{Value}
 use Rattle.rip_values.specs.Pool.{Texts}
-use Rattle.rip_pages.specs.declared.property.Property.{Property}
+use Rattle.rip_heap_region.specs.declared.pages.property.Property.{Property}
 use Rattle.rip_heap.specs.NamedObjects.{Named, edited, place_at, with_edit}
 use Rattle.rip_heap.specs.Names.{named, place_of, same_text}
 use Rattle.rip_heap.specs.Objects.{own, put, put_at, put_in, removed, removed_at, removed_in}

@@ -4,10 +4,10 @@ use Rattle.std.specs.Prelude.{option_and_then, option_map, slice_set}
 use Rattle.std.specs.List.{position, position_or_len}
 use lib.Pointwise.{pointwise, bytes_decides}
 use Rattle.std.proofs.lemmas.Bool.Decides.{nat_tests}
-use Rattle.rip_values.specs.declared.value.Span.{Span}
-use Rattle.rip_values.specs.declared.value.Value.{Value}
+use Rattle.rip_base.specs.declared.value.Span.{Span}
+use Rattle.rip_base.specs.declared.value.Value.{Value}
 use Rattle.rip_values.specs.Pool.{Texts, text_at}
-use Rattle.rip_pages.specs.declared.property.Property.{Property}
+use Rattle.rip_heap_region.specs.declared.pages.property.Property.{Property}
 use Rattle.rip_heap.specs.Laws.{PutsAreRead, PutsLeaveOthers}
 use Rattle.rip_heap.specs.Names.{same_text, place_of, named}
 use Rattle.rip_heap.specs.Objects.{own, put, put_in, put_at, with_value}

@@ -3,14 +3,14 @@ use Rattle.std.proofs.Common.{◌≡◌, ℕ, zero, suc, ◌+◌, ◌-◌, ◌%�
 use Rattle.std.specs.Prelude.{map, option_map, slice_set}
 use Rattle.std.proofs.lemmas.List.{length-map, length-set, take_all}
 use Rattle.std.proofs.lemmas.Option.{get_or_from_slice_get, same_Some, slice_get_past}
-use Rattle.rip_values.specs.declared.value.Value.{Value}
-use Rattle.rip_pages.specs.declared.slot.Slot.{Slot}
-use Rattle.rip_pages.specs.declared.for_rows.Row.TheVariants.{Objects, Elements, Bindings}
-use Rattle.rip_pages.specs.Pages.{Paged, filled, no_slot, slot_at, with_row}
-use Rattle.rip_chains.specs.Chains.{AreChains, properties_of}
-use Rattle.rip_segments.specs.declared.array.Array.{Array}
-use Rattle.rip_segments.specs.Segments.{AreArrays, AreLaid, IsArray, elements_of, lists_from}
-use Rattle.rip_segments.proofs.ListLemmas.{array_of, arrays_fewer, elements_count, lists_get}
+use Rattle.rip_base.specs.declared.value.Value.{Value}
+use Rattle.rip_heap_region.specs.declared.pages.slot.Slot.{Slot}
+use Rattle.rip_heap_region.specs.declared.pages.for_rows.Row.TheVariants.{Objects, Elements, Bindings}
+use Rattle.rip_heap_region.specs.Pages.{Paged, filled, no_slot, slot_at, with_row}
+use Rattle.rip_heap_region.specs.Chains.{AreChains, properties_of}
+use Rattle.rip_heap_region.specs.declared.segments.array.Array.{Array}
+use Rattle.rip_heap_region.specs.Segments.{AreArrays, AreLaid, IsArray, elements_of, lists_from}
+use Rattle.rip_heap_region.proofs.ListLemmas.{array_of, arrays_fewer, elements_count, lists_get}
 use Rattle.rip_heap.specs.declared.class.Class.{Class}
 use Rattle.rip_heap.specs.declared.class.Class.TheVariants.{Array as ArrayClass}
 use Rattle.rip_heap.specs.declared.stored.StoredObject.{StoredObject}

@@ -7,18 +7,18 @@ use Rattle.std.proofs.lemmas.Bool.Decides.{nat_tests}
 use Rattle.std.proofs.lemmas.List.{get_or_append_left, get_or_past, get_or-set_other, get_or-set_same, length-append, length-map, length-set, map-append, take-append-le, take_all}
 use Rattle.std.proofs.lemmas.Option.{same_Some, slice_get-get_or, none-some, slice_get-map}
 use Rattle.rip_values.specs.Pool.{IsSpan, Texts}
-use Rattle.rip_pages.specs.declared.property.Property.{Property}
-use Rattle.rip_pages.specs.declared.slot.Slot.{Slot}
-use Rattle.rip_pages.specs.declared.for_rows.Row.TheVariants.{Objects, Properties}
-use Rattle.rip_pages.specs.Pages.{Paged, filled, no_slot, slot_at, with_row}
-use Rattle.rip_chains.specs.declared.chain.Chain.{Chain}
-use Rattle.rip_chains.specs.Chains.{AreChains, AreHung, IfOneOf, IsChain, OnlyLinks, SameLinks, chain_at, places_of, properties_of, property_in}
-use Rattle.rip_chains.specs.Chains.{with_value as chain_with_value}
-use Rattle.rip_chains.proofs.ChainLemmas.{chain_of, chains_more, hung_by_links, place_within, places_count, properties_count, properties_get}
-use Rattle.rip_segments.specs.Segments.{AreArrays, lists_from}
-use Rattle.rip_segments.proofs.ListLemmas.{arrays_more, lists_more}
-use Rattle.rip_buckets.specs.Blocks.{ListedBlocks, OthersStay, buckets_at}
-use Rattle.rip_buckets.specs.NameIndex.{IsIndex, IsIndexAt, IsIndexOf, IsLast, IsPlaced, OthersKeepLinks, bucket_at, name_at}
+use Rattle.rip_heap_region.specs.declared.pages.property.Property.{Property}
+use Rattle.rip_heap_region.specs.declared.pages.slot.Slot.{Slot}
+use Rattle.rip_heap_region.specs.declared.pages.for_rows.Row.TheVariants.{Objects, Properties}
+use Rattle.rip_heap_region.specs.Pages.{Paged, filled, no_slot, slot_at, with_row}
+use Rattle.rip_heap_region.specs.declared.chains.chain.Chain.{Chain}
+use Rattle.rip_heap_region.specs.Chains.{AreChains, AreHung, IfOneOf, IsChain, OnlyLinks, SameLinks, chain_at, places_of, properties_of, property_in}
+use Rattle.rip_heap_region.specs.Chains.{with_value as chain_with_value}
+use Rattle.rip_heap_region.proofs.ChainLemmas.{chain_of, chains_more, hung_by_links, place_within, places_count, properties_count, properties_get}
+use Rattle.rip_heap_region.specs.Segments.{AreArrays, lists_from}
+use Rattle.rip_heap_region.proofs.ListLemmas.{arrays_more, lists_more}
+use Rattle.rip_heap_region.specs.Blocks.{ListedBlocks, OthersStay, buckets_at}
+use Rattle.rip_heap_region.specs.NameIndex.{IsIndex, IsIndexAt, IsIndexOf, IsLast, IsPlaced, OthersKeepLinks, bucket_at, name_at}
 use Rattle.rip_heap.specs.declared.stored.StoredObject.{StoredObject}
 use Rattle.rip_heap.specs.HeadSlots.{IsStorable, array_in, chain_in, head_in, index_in, slot_of, with_chain}
 use Rattle.rip_heap.specs.Names.{place_of, same_text}
@@ -96,7 +96,7 @@ index_named pool ps qs buckets before long same h = record {
 }
   where
     alike : (k : ℕ) → bucket_at pool (length buckets) qs k ≡ bucket_at pool (length buckets) ps k
-    alike k = ap (λ n. Rattle.rip_buckets.specs.NameIndex.bucket_of (length buckets) (Rattle.rip_values.specs.Pool.text_at pool n)) (same k)
+    alike k = ap (λ n. Rattle.rip_heap_region.specs.NameIndex.bucket_of (length buckets) (Rattle.rip_values.specs.Pool.text_at pool n)) (same k)
 
 pub placed_named : (pool : Texts) (slots : List Slot) (places : List ℕ) (ps qs : List Property) (buckets : List ℕ) → length qs ≡ length ps → ((k : ℕ) → name_at qs k ≡ name_at ps k)
     → IsIndexOf pool slots places ps buckets → IsIndexOf pool slots places qs buckets
@@ -323,7 +323,7 @@ pub properties_are : (pages : Paged) (at : ℕ) → at < length pages.objects
 properties_are pages at lt = at_map (properties_of pages.properties) (chains_in pages) at (record { first = 0; last = 0; count = 0 }) [] (omega (arith, lt, length-map pages.objects chain_in))
 
 -- where a property is found by its chain, it is found by the object
-pub found_here : (pool : Texts) (pages : Paged) (at : ℕ) (chain : Chain) (name : Rattle.rip_values.specs.declared.value.Span.Span) → at < length pages.objects → chain ≡ chain_in (slot_at pages.objects at)
+pub found_here : (pool : Texts) (pages : Paged) (at : ℕ) (chain : Chain) (name : Rattle.rip_base.specs.declared.value.Span.Span) → at < length pages.objects → chain ≡ chain_in (slot_at pages.objects at)
     → option_and_then (slice_get (places_of pages.properties chain)) (place_of pool name (properties_of pages.properties chain))
     ≡ option_and_then (slice_get (places_of pages.properties (chain_at (chains_in pages) at)))
     (place_of pool name (slice_index_or (map (properties_of pages.properties) (chains_in pages)) at []))
@@ -348,12 +348,12 @@ named_none slots chain (Some k) is = ap (option_map (λ (p : Property). p.value)
 
 -- A VALUE
 
-pub values_alike : (ps : List Property) (k : ℕ) (v : Rattle.rip_values.specs.declared.value.Value.Value) → chain_with_value ps k v ≡ with_value ps k v
+pub values_alike : (ps : List Property) (k : ℕ) (v : Rattle.rip_base.specs.declared.value.Value.Value) → chain_with_value ps k v ≡ with_value ps k v
 values_alike [] k v = refl
 values_alike (p ∷ ps) zero v = refl
 values_alike (p ∷ ps) (suc k) v = ap (λ qs. p ∷ qs) (values_alike ps k v)
 
-names_alike : (ps : List Property) (k : ℕ) (v : Rattle.rip_values.specs.declared.value.Value.Value) (j : ℕ) → name_at (with_value ps k v) j ≡ name_at ps j
+names_alike : (ps : List Property) (k : ℕ) (v : Rattle.rip_base.specs.declared.value.Value.Value) (j : ℕ) → name_at (with_value ps k v) j ≡ name_at ps j
 names_alike [] k v j = refl
 names_alike (p ∷ ps) zero v zero = refl
 names_alike (p ∷ ps) zero v (suc j) = refl
@@ -378,7 +378,7 @@ pub listed_valued : (old new : Paged) (rooms : Rooms) (at : ℕ) (places : List 
 listed_valued old new rooms at places ps is hung =
     ap (λ n. listed (record { pages = n; rooms = rooms })) is ∙ (λ t. record (listed (record { pages = old; rooms = rooms })) { properties = hung.hold t })
 
-pub indexes_valued : (old new : Paged) (at number : ℕ) (v : Rattle.rip_values.specs.declared.value.Value.Value) → new ≡ with_row Properties new.properties old → length new.properties ≡ length old.properties
+pub indexes_valued : (old new : Paged) (at number : ℕ) (v : Rattle.rip_base.specs.declared.value.Value.Value) → new ≡ with_row Properties new.properties old → length new.properties ≡ length old.properties
     → at < length old.objects → SameLinks old.properties new.properties → AreChains (chains_in old) old.properties
     → AreHung (chains_in old) new.properties (map (places_of old.properties) (chains_in old))
     (slice_set (map (properties_of old.properties) (chains_in old)) at (with_value (properties_of old.properties (chain_at (chains_in old) at)) number v))
@@ -500,7 +500,7 @@ pub value_read : (pages : Paged) (at : ℕ) (o : Option ℕ) (place : ℕ) → a
 value_read pages at o place lt found =
     ap (λ ps. option_map (λ (p : Property). p.value) (option_and_then (slice_get ps) o)) (properties_are pages at lt) ∙ named_found pages.properties (chain_at (chains_in pages) at) o place found
 
-place-inside : (pool : Texts) (name : Rattle.rip_values.specs.declared.value.Span.Span) (properties : List Property) → IfSome (place_of pool name properties) (λ place. place < length properties)
+place-inside : (pool : Texts) (name : Rattle.rip_base.specs.declared.value.Span.Span) (properties : List Property) → IfSome (place_of pool name properties) (λ place. place < length properties)
 place-inside pool name properties = by (position_or_len (λ property. same_text pool property.name name) properties) (length properties)
   where
     tested : (n m : ℕ) → (n < m) ⊎ (m ≤ n) → IfSome (cond (nat_lt n m) (Some n) None) (λ place. place < m)
@@ -515,7 +515,7 @@ place-inside pool name properties = by (position_or_len (λ property. same_text 
     by n m = tested n m (cases_lt n m)
 
 -- where none is found, none has the name
-pub found_none : (pool : Texts) (name : Rattle.rip_values.specs.declared.value.Span.Span) (pages : Paged) (at : ℕ) → at < length pages.objects
+pub found_none : (pool : Texts) (name : Rattle.rip_base.specs.declared.value.Span.Span) (pages : Paged) (at : ℕ) → at < length pages.objects
     → found_at pages at (place_of pool name (slice_index_or (map (properties_of pages.properties) (chains_in pages)) at [])) ≡ None
     → place_of pool name (slice_index_or (map (properties_of pages.properties) (chains_in pages)) at []) ≡ None
 found_none pool name pages at lt found =
@@ -535,7 +535,7 @@ pub hung_held : (chains : List Chain) (slots : List Slot) (places places' : List
 hung_held chains slots places places' lists at ps qs same is h = record { hang = h.hang; stand = h.stand ∙ same; hold = h.hold ∙ ap (slice_set lists at) is }
 
 -- the properties with another value of the one that is found
-pub value_set : (pages : Paged) (at : ℕ) (o : Option ℕ) (n : ℕ) (v : Rattle.rip_values.specs.declared.value.Value.Value) → at < length pages.objects → o ≡ Some n
+pub value_set : (pages : Paged) (at : ℕ) (o : Option ℕ) (n : ℕ) (v : Rattle.rip_base.specs.declared.value.Value.Value) → at < length pages.objects → o ≡ Some n
     → chain_with_value (properties_of pages.properties (chain_at (chains_in pages) at)) n v ≡ valued (slice_index_or (map (properties_of pages.properties) (chains_in pages)) at []) v o
 value_set pages at o n v lt is =
     values_alike (properties_of pages.properties (chain_at (chains_in pages) at)) n v ∙ ap (λ ps. with_value ps n v) (sym (properties_are pages at lt))

@@ -4,9 +4,9 @@ use Rattle.std.specs.Prelude.{map, option_and_then, option_map, slice_range, sli
 use Rattle.std.proofs.Math.Seq.{take-set-lt}
 use Rattle.std.proofs.lemmas.List.{drop-append-le, drop-set-add, drop-set-lt, drop_at, get_or-drop, get_or-take, get_or-map, length-append, length-drop, length-map, length-replicate, length-take-le, map-append, map-set, map_push, set-get_or, set_past, take-append-le, take-set-le, take_all}
 use Rattle.std.proofs.lemmas.Option.{get_or_from_slice_get, same_Some, slice_get-get_or, slice_get-map, slice_get_past}
-use Rattle.rip_values.specs.declared.value.Value.{Value}
-use Rattle.rip_pages.specs.declared.slot.Slot.{Slot}
-use Rattle.rip_pages.specs.Pages.{Paged, no_slot, slot_at}
+use Rattle.rip_base.specs.declared.value.Value.{Value}
+use Rattle.rip_heap_region.specs.declared.pages.slot.Slot.{Slot}
+use Rattle.rip_heap_region.specs.Pages.{Paged, no_slot, slot_at}
 use Rattle.rip_heap.specs.declared.scope_slots.ScopeHead.{ScopeHead}
 use Rattle.rip_heap.specs.ScopeSlots.{AreScopes, LieWithin, binding_in, binding_of, bound, parent_in, scope_head_in, scope_in, scopes_in, scopes_of, slot_of_scope, slot_of_value, value_of_parent}
 use Rattle.rip_heap.specs.Scopes.{bindings_of, parent_of}

@@ -5,14 +5,14 @@ use Rattle.std.specs.Prelude.{option_and_then, option_map, slice_set}
 use Rattle.std.proofs.lemmas.Bool.{cases_eq}
 use Rattle.std.proofs.lemmas.List.{append-nil, get_or-set_other, get_or-set_same, length-map, length-set}
 use Rattle.std.proofs.lemmas.Option.{get_or_from_slice_get, none-some, slice_get-get_or}
-use Rattle.rip_values.specs.declared.value.Value.{Value}
-use Rattle.rip_values.specs.declared.value.Span.{Span}
+use Rattle.rip_base.specs.declared.value.Value.{Value}
+use Rattle.rip_base.specs.declared.value.Span.{Span}
 use Rattle.rip_values.specs.Pool.{Texts}
-use Rattle.rip_pages.specs.declared.property.Property.{Property}
-use Rattle.rip_pages.specs.declared.slot.Slot.{Slot}
-use Rattle.rip_chains.specs.Chains.{properties_of as properties_in_chain}
-use Rattle.rip_segments.specs.declared.array.Array.{Array}
-use Rattle.rip_segments.specs.Segments.{lists_from}
+use Rattle.rip_heap_region.specs.declared.pages.property.Property.{Property}
+use Rattle.rip_heap_region.specs.declared.pages.slot.Slot.{Slot}
+use Rattle.rip_heap_region.specs.Chains.{properties_of as properties_in_chain}
+use Rattle.rip_heap_region.specs.declared.segments.array.Array.{Array}
+use Rattle.rip_heap_region.specs.Segments.{lists_from}
 use Rattle.rip_heap.specs.declared.class.Class.TheVariants.{Array as ArrayClass, Plain}
 use Rattle.rip_heap.specs.declared.stored.StoredObject.{StoredObject}
 use Rattle.rip_heap.specs.Arrays.{elements_of}

@@ -1,5 +1,5 @@
 use Rattle.std.specs.Prelude.{ℕ, Option, None, Some, List, [], ◌∷◌, ◌++◌, length, ◌-◌, ◌*◌, take, slice_get, slice_range, slice_set}
-use Rattle.rip_values.specs.declared.value.Value.{Value}
+use Rattle.rip_base.specs.declared.value.Value.{Value}
 use Rattle.rip_heap.specs.declared.class.Class.TheVariants.{Array}
 use Rattle.rip_heap.specs.Objects.{adding}
 use Rattle.rip_heap.specs.World.{World, Object, object_at, as_array, with_object, charging, cost_of_array, cost_of_element}

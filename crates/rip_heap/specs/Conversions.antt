@@ -4,21 +4,21 @@ use Rattle.std.specs.Int.{int_rem_euclid}
 use Rattle.std.specs.Ordering.{int_eq}
 use Rattle.std.specs.Fmt.{signed_decimal}
 use Rattle.std.specs.Str.Parse.{digits_value, starts_with_minus, without_leading_sign}
-use Rattle.rip_values.specs.declared.value.Span.{Span}
-use Rattle.rip_values.specs.declared.value.Value.{Value}
-use Rattle.rip_values.specs.declared.value.Value.TheVariants.{Undefined, Null, Bool as Boolean, Num, NaN, Text, Object}
-use Rattle.rip_values.specs.declared.value.Numeral.{Numeral}
-use Rattle.rip_values.specs.declared.value.Numeral.TheVariants.{Num as Number, NaN as NotANumber}
-use Rattle.rip_values.specs.declared.value.Fault.{Fault}
-use Rattle.rip_values.specs.declared.value.Fault.TheVariants.{NotWhole, Infinite, OutOfRange, ObjectToPrimitive, TextTooLong}
-use Rattle.rip_values.specs.declared.value.Limit.TheVariants.{Units}
+use Rattle.rip_base.specs.declared.value.Span.{Span}
+use Rattle.rip_base.specs.declared.value.Value.{Value}
+use Rattle.rip_base.specs.declared.value.Value.TheVariants.{Undefined, Null, Bool as Boolean, Num, NaN, Text, Object}
+use Rattle.rip_base.specs.declared.value.Numeral.{Numeral}
+use Rattle.rip_base.specs.declared.value.Numeral.TheVariants.{Num as Number, NaN as NotANumber}
+use Rattle.rip_base.specs.declared.value.Fault.{Fault}
+use Rattle.rip_base.specs.declared.value.Fault.TheVariants.{NotWhole, Infinite, OutOfRange, ObjectToPrimitive, TextTooLong}
+use Rattle.rip_base.specs.declared.value.Limit.TheVariants.{Units}
 use Rattle.rip_values.specs.declared.fixed.FixedText.{FixedText}
 use Rattle.rip_values.specs.declared.fixed.FixedText.TheVariants.{Undefined as UndefinedText, Null as NullText, True as TrueText, False as FalseText, NaN as NaNText}
-use Rattle.rip_values.specs.Blank.{trimmed}
+use Rattle.rip_base.specs.Blank.{trimmed}
 use Rattle.rip_values.specs.FixedTable.{text_of}
 use Rattle.rip_values.specs.FixedTexts.{fixed_span}
-use Rattle.rip_values.specs.Numbers.{IsNumberOf}
-use Rattle.rip_values.specs.NumberScan.{signed_value, is_numeral, is_hexadecimal, is_fraction}
+use Rattle.rip_base.specs.Numbers.{IsNumberOf}
+use Rattle.rip_base.specs.NumberScan.{signed_value, is_numeral, is_hexadecimal, is_fraction}
 use Rattle.rip_values.specs.Pool.{Texts, text_at}
 use Rattle.rip_heap.specs.declared.outcome.Halt.{Halt}
 use Rattle.rip_heap.specs.declared.outcome.Halt.TheVariants.{Fault as HaltFault, Limit as HaltLimit}

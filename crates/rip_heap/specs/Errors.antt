@@ -1,10 +1,10 @@
 -- The makers of errors with a message (ECMA-262 15.11.1.1).
 use Rattle.std.specs.Prelude.{ℕ, [], ◌∷◌, Option, None, Some, ◌+◌, nat_le, if◌then◌else◌}
-use Rattle.rip_values.specs.declared.value.Span.{Span}
-use Rattle.rip_values.specs.declared.value.Value.{Value}
-use Rattle.rip_values.specs.declared.value.Value.TheVariants.{Text, Object as ObjectValue}
-use Rattle.rip_values.specs.declared.value.Fault.{Fault}
-use Rattle.rip_values.specs.declared.value.Limit.TheVariants.{Cells}
+use Rattle.rip_base.specs.declared.value.Span.{Span}
+use Rattle.rip_base.specs.declared.value.Value.{Value}
+use Rattle.rip_base.specs.declared.value.Value.TheVariants.{Text, Object as ObjectValue}
+use Rattle.rip_base.specs.declared.value.Fault.{Fault}
+use Rattle.rip_base.specs.declared.value.Limit.TheVariants.{Cells}
 use Rattle.rip_values.specs.declared.fixed.FixedText.TheVariants.{Message}
 use Rattle.rip_heap.specs.declared.class.Class.{Class}
 use Rattle.rip_heap.specs.Conversions.{span_of, text_of_value, text_fault}

@@ -1,6 +1,6 @@
 use Rattle.std.specs.Prelude.{◌≡◌, ℕ, None, length, ◌+◌, ◌<◌, ◌≤◌, ◌⊎◌, slice_index_or}
-use Rattle.rip_values.specs.declared.value.Value.{Value}
-use Rattle.rip_values.specs.declared.value.Value.TheVariants.{Undefined, Null, Bool, Num, NaN, Text, Object as ObjectValue}
+use Rattle.rip_base.specs.declared.value.Value.{Value}
+use Rattle.rip_base.specs.declared.value.Value.TheVariants.{Undefined, Null, Bool, Num, NaN, Text, Object as ObjectValue}
 use Rattle.rip_values.specs.Pool.{IsSpan, KeepsTexts}
 use Rattle.rip_heap.specs.World.{World, Object, Scope, first_object, first_node}
 

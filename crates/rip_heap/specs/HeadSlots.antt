@@ -1,11 +1,11 @@
 -- How the head of an object stands in its slot, with the places of its properties and of its elements. No public clause
 -- cites this.
 use Rattle.std.specs.Prelude.{◌≡◌, ℕ, ◌+◌, ◌*◌, ◌/◌, ◌%◌, ◌==◌, if◌then◌else◌, Option, None, Some}
-use Rattle.rip_values.specs.declared.value.Value.{Value}
-use Rattle.rip_values.specs.declared.value.Value.TheVariants.{Undefined, Text, Object}
-use Rattle.rip_pages.specs.declared.slot.Slot.{Slot}
-use Rattle.rip_chains.specs.declared.chain.Chain.{Chain}
-use Rattle.rip_segments.specs.declared.array.Array.{Array}
+use Rattle.rip_base.specs.declared.value.Value.{Value}
+use Rattle.rip_base.specs.declared.value.Value.TheVariants.{Undefined, Text, Object}
+use Rattle.rip_heap_region.specs.declared.pages.slot.Slot.{Slot}
+use Rattle.rip_heap_region.specs.declared.chains.chain.Chain.{Chain}
+use Rattle.rip_heap_region.specs.declared.segments.array.Array.{Array}
 use Rattle.rip_heap.specs.declared.class.Class.{Class}
 use Rattle.rip_heap.specs.declared.class.Class.TheVariants.{Plain, Prototype, Array as ArrayClass, Function, Error, TypeError, RangeError, ThrownTypeError, ThrownReferenceError, Code, Event}
 use Rattle.rip_heap.specs.declared.stored.StoredObject.{StoredObject}

@@ -1,7 +1,7 @@
 -- Laws of worlds, in words that no step of a world uses.
 use Rattle.std.specs.Prelude.{◌≡◌, ℕ, false, Some, is_some, if◌then◌else◌}
-use Rattle.rip_values.specs.declared.value.Span.{Span}
-use Rattle.rip_values.specs.declared.value.Value.{Value}
+use Rattle.rip_base.specs.declared.value.Span.{Span}
+use Rattle.rip_base.specs.declared.value.Value.{Value}
 use Rattle.rip_values.specs.declared.fixed.FixedText.{FixedText}
 use Rattle.rip_values.specs.FixedTable.{text_of}
 use Rattle.rip_values.specs.Pool.{text_at}

@@ -2,8 +2,8 @@
 use Rattle.std.specs.Prelude.{◌≡◌, ℕ, ◌+◌, ◌-◌, ◌*◌, ◌/◌, ◌<◌, ◌≤◌, ◌^◌, List}
 use Rattle.rip_values.specs.FixedTable.{fixed_size}
 use Rattle.rip_values.specs.FixedTexts.{fixed_units}
-use Rattle.rip_pages.specs.Memory.{Memory as PageMemory, bytes_of as page_bytes, memory_for as pages_for}
-use Rattle.rip_buckets.specs.Memory.{Memory as IndexMemory, bytes_of as index_bytes, memory_for as indexes_for}
+use Rattle.rip_heap_region.specs.PageMemory.{Memory as PageMemory, bytes_of as page_bytes, memory_for as pages_for}
+use Rattle.rip_heap_region.specs.IndexMemory.{Memory as IndexMemory, bytes_of as index_bytes, memory_for as indexes_for}
 use Rattle.rip_heap.specs.World.{first_node, first_object}
 use Rattle.rip_heap.specs.declared.limits.HeapLimits.{HeapLimits}
 

@@ -1,8 +1,8 @@
 -- What a heap keeps of texts, objects and scopes, beside which there are indexes that no contract sees. No public clause
 -- cites this.
 use Rattle.std.specs.Prelude.{◌≡◌, ℕ, [], ◌∷◌, ◌++◌, ◌<◌, ◌≤◌, Option, None, Some, List, length, slice_get, slice_index_or, slice_set, option_and_then, option_map, take}
-use Rattle.rip_values.specs.declared.value.Span.{Span}
-use Rattle.rip_values.specs.declared.value.Value.{Value}
+use Rattle.rip_base.specs.declared.value.Span.{Span}
+use Rattle.rip_base.specs.declared.value.Value.{Value}
 use Rattle.rip_values.specs.Pool.{Texts}
 use Rattle.rip_heap.specs.declared.class.Class.TheVariants.{Array}
 use Rattle.rip_heap.specs.Growth.{KeepsObject}

@@ -1,9 +1,9 @@
 use Rattle.std.specs.Prelude.{ℕ, Bool, Option, List, slice_get, option_map, option_and_then}
-use Rattle.rip_values.specs.declared.value.Span.{Span}
-use Rattle.rip_values.specs.declared.value.Value.{Value}
+use Rattle.rip_base.specs.declared.value.Span.{Span}
+use Rattle.rip_base.specs.declared.value.Value.{Value}
 use Rattle.rip_values.specs.Pool.{Texts}
-use Rattle.rip_pages.specs.declared.property.Property.{Property}
-use Rattle.rip_chains.specs.Names.{same_text as same_for_chains, place_of as place_for_chains}
+use Rattle.rip_heap_region.specs.declared.pages.property.Property.{Property}
+use Rattle.rip_heap_region.specs.Names.{same_text as same_for_chains, place_of as place_for_chains}
 
 -- the two spans stand for one text
 abbrev pub same_text : Texts → Span → Span → Bool

@@ -1,13 +1,13 @@
 use Rattle.std.specs.Prelude.{ℕ, zero, suc, Option, None, Some, List, [], ◌∷◌, ◌++◌, length, ◌+◌, if◌then◌else◌, is_some, unwrap_or, remove, slice_get, slice_set, slice_index_or, option_map, option_and_then}
-use Rattle.rip_values.specs.declared.value.Span.{Span}
-use Rattle.rip_values.specs.declared.value.Value.{Value}
-use Rattle.rip_values.specs.declared.value.Value.TheVariants.{Undefined, Object as ObjectValue}
+use Rattle.rip_base.specs.declared.value.Span.{Span}
+use Rattle.rip_base.specs.declared.value.Value.{Value}
+use Rattle.rip_base.specs.declared.value.Value.TheVariants.{Undefined, Object as ObjectValue}
 use Rattle.rip_values.specs.declared.fixed.FixedText.TheVariants.{Prototype as PrototypeText}
 use Rattle.rip_values.specs.FixedTable.{text_of}
 use Rattle.rip_values.specs.FixedTexts.{fixed_span}
 use Rattle.rip_heap.specs.declared.class.Class.{Class}
 use Rattle.rip_heap.specs.declared.class.Class.TheVariants.{Plain, Prototype, Function}
-use Rattle.rip_pages.specs.declared.property.Property.{Property}
+use Rattle.rip_heap_region.specs.declared.pages.property.Property.{Property}
 use Rattle.rip_heap.specs.Names.{place_of, named}
 use Rattle.rip_heap.specs.Stored.{properties_of}
 use Rattle.rip_heap.specs.World.{World, Object, object_at, with_object, proto_of, first_object, charging, cost_of_object, cost_of_property, cost_of_function}

@@ -1,16 +1,16 @@
 -- How a heap keeps its objects and its scopes in a region of slots: what lies in the rows, and what it stands for. No
 -- public clause cites this.
 use Rattle.std.specs.Prelude.{◌≡◌, ℕ, ◌+◌, ◌-◌, ◌^◌, ◌<◌, ◌≤◌, Option, None, Some, List, [], ◌∷◌, ◌++◌, length, map, option_map, remove, slice_get, slice_index_or, slice_set}
-use Rattle.rip_values.specs.declared.value.Value.{Value}
+use Rattle.rip_base.specs.declared.value.Value.{Value}
 use Rattle.rip_values.specs.Pool.{Texts}
-use Rattle.rip_pages.specs.declared.property.Property.{Property}
-use Rattle.rip_pages.specs.Pages.{Paged, filled, slot_at}
-use Rattle.rip_chains.specs.declared.chain.Chain.{Chain}
-use Rattle.rip_chains.specs.Chains.{AreChains, chain_at, places_of, properties_of}
-use Rattle.rip_segments.specs.declared.array.Array.{Array}
-use Rattle.rip_segments.specs.Segments.{AreArrays, lists_from}
-use Rattle.rip_buckets.specs.Blocks.{ListedBlocks}
-use Rattle.rip_buckets.specs.NameIndex.{IsIndexAt}
+use Rattle.rip_heap_region.specs.declared.pages.property.Property.{Property}
+use Rattle.rip_heap_region.specs.Pages.{Paged, filled, slot_at}
+use Rattle.rip_heap_region.specs.declared.chains.chain.Chain.{Chain}
+use Rattle.rip_heap_region.specs.Chains.{AreChains, chain_at, places_of, properties_of}
+use Rattle.rip_heap_region.specs.declared.segments.array.Array.{Array}
+use Rattle.rip_heap_region.specs.Segments.{AreArrays, lists_from}
+use Rattle.rip_heap_region.specs.Blocks.{ListedBlocks}
+use Rattle.rip_heap_region.specs.NameIndex.{IsIndexAt}
 use Rattle.rip_heap.specs.declared.class.Class.TheVariants.{Array as ArrayClass}
 use Rattle.rip_heap.specs.declared.stored.StoredObject.{StoredObject}
 use Rattle.rip_heap.specs.HeadSlots.{array_in, chain_in, head_in, index_in}

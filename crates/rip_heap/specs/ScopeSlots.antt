@@ -1,9 +1,9 @@
 -- How a heap keeps its scopes in two rows of slots: the head of each, and the bindings of all. No public clause cites this.
 use Rattle.std.specs.Prelude.{ℕ, Option, None, Some, List, [], ◌∷◌, ◌+◌, ◌≤◌, ◌==◌, if◌then◌else◌, length, map, option_and_then, slice_get, slice_range, slice_set}
-use Rattle.rip_values.specs.declared.value.Value.{Value}
-use Rattle.rip_values.specs.declared.value.Value.TheVariants.{Undefined, Object}
-use Rattle.rip_pages.specs.declared.slot.Slot.{Slot}
-use Rattle.rip_pages.specs.Pages.{Paged}
+use Rattle.rip_base.specs.declared.value.Value.{Value}
+use Rattle.rip_base.specs.declared.value.Value.TheVariants.{Undefined, Object}
+use Rattle.rip_heap_region.specs.declared.pages.slot.Slot.{Slot}
+use Rattle.rip_heap_region.specs.Pages.{Paged}
 use Rattle.rip_heap.specs.declared.scope_slots.ScopeHead.{ScopeHead}
 use Rattle.rip_heap.specs.Scopes.{bindings_of}
 use Rattle.rip_heap.specs.World.{Scope}

@@ -1,5 +1,5 @@
 use Rattle.std.specs.Prelude.{ℕ, Option, None, Some, List, [], ◌∷◌, ◌++◌, length, nat_lt, if◌then◌else◌, replicate, slice_get, slice_set, option_and_then}
-use Rattle.rip_values.specs.declared.value.Value.{Value}
+use Rattle.rip_base.specs.declared.value.Value.{Value}
 use Rattle.rip_heap.specs.World.{World, Scope, scope_at, with_scope, charging, cost_of_scope}
 
 -- the scope around a new one: what is no scope of the world counts as none

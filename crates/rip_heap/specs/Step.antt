@@ -1,8 +1,8 @@
 use Rattle.std.specs.Prelude.{◌≡◌, Option, None, Some, Result, Ok, Err}
-use Rattle.rip_values.specs.declared.value.Limit.{Limit}
-use Rattle.rip_values.specs.declared.value.Limit.TheVariants.{Cells}
-use Rattle.rip_values.specs.declared.value.Refused.{Refused}
-use Rattle.rip_values.specs.declared.value.Refused.TheVariants.{Limit as At, Memory}
+use Rattle.rip_base.specs.declared.value.Limit.{Limit}
+use Rattle.rip_base.specs.declared.value.Limit.TheVariants.{Cells}
+use Rattle.rip_base.specs.declared.value.Refused.{Refused}
+use Rattle.rip_base.specs.declared.value.Refused.TheVariants.{Limit as At, Memory}
 use Rattle.rip_heap.specs.World.{World}
 
 -- What an answer says of the step `step` that a call stands for, of the world before and of the one after it. A limit

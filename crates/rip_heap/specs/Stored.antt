@@ -1,8 +1,8 @@
 -- How a heap keeps its objects: the head of each, and the properties and the elements of all of them beside. Of this
 -- public clauses cite the properties of an object alone.
 use Rattle.std.specs.Prelude.{Option, None, Some, List, [], ◌∷◌}
-use Rattle.rip_values.specs.declared.value.Value.{Value}
-use Rattle.rip_pages.specs.declared.property.Property.{Property}
+use Rattle.rip_base.specs.declared.value.Value.{Value}
+use Rattle.rip_heap_region.specs.declared.pages.property.Property.{Property}
 use Rattle.rip_heap.specs.declared.stored.StoredObject.{StoredObject}
 use Rattle.rip_heap.specs.World.{Object}
 

@@ -1,5 +1,5 @@
 use Rattle.std.specs.Prelude.{ℕ, Option, None, Some, List, length, ◌+◌, nat_le, if◌then◌else◌}
-use Rattle.rip_values.specs.declared.value.Span.{Span}
+use Rattle.rip_base.specs.declared.value.Span.{Span}
 use Rattle.rip_values.specs.Pool.{joined, span_behind, with_text}
 use Rattle.rip_heap.specs.World.{World}
 

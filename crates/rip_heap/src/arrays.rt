@@ -1,5 +1,5 @@
 ghost use Rattle.std.specs.Prelude.{◌≡◌, ◌+◌, ◌<◌, ⊤, IfOk, MatchOption, slice_get, length};
-ghost use Rattle.rip_values.specs.declared.value.Value.{Value};
+ghost use Rattle.rip_base.specs.declared.value.Value.{Value};
 ghost use Rattle.rip_heap.specs.Growth.{Grows};
 ghost use Rattle.rip_heap.specs.Arrays.{new_array, new_piece, cut, elements_at, last_of, with_item, popped, push_item, push_items};
 ghost use Rattle.rip_heap.specs.NamedObjects.{IsArrayAt};
@@ -7,7 +7,8 @@ ghost use Rattle.rip_heap.specs.Step.{Makes, Changes, TakesNoMemory};
 ghost use Rattle.rip_heap.specs.World.{object_at, as_array, first_object, IsObject};
 
 use crate::heap::Heap;
-use rip_values::{FIRST_HEAP_OBJECT, Limit, Refused, Value};
+use rip_base::{Limit, Refused, Value};
+use rip_values::FIRST_HEAP_OBJECT;
 use std::alloc::Global;
 
 impl Heap {

@@ -1,15 +1,14 @@
 ghost use Rattle.std.specs.Prelude.{◌≡◌, length};
 ghost use Rattle.std.specs.Fmt.{signed_decimal};
-ghost use Rattle.rip_values.specs.Whole.{IsWhole};
+ghost use Rattle.rip_base.specs.Whole.{IsWhole};
 ghost use Rattle.rip_heap.specs.Growth.{Grows};
 ghost use Rattle.rip_heap.specs.Conversions.{boolean_of, number_of, IsSpelled, integer_of, uint32_of, int32_of, text_of_value, room_for_text, strictly_equal, span_of};
 
 use crate::heap::Heap;
 use crate::outcome::Halt;
-use rip_chains::same_text;
-use rip_values::{
-    Fault, FixedText, Limit, Numeral, Span, Value, Whole, number_of_text, text_of_whole,
-};
+use rip_base::{Fault, Limit, Numeral, Span, Value, Whole, number_of_text, text_of_whole};
+use rip_heap_region::chains::same_text;
+use rip_values::FixedText;
 use std::alloc::Global;
 
 /// ToBoolean (ECMA-262 9.2).

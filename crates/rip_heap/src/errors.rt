@@ -1,6 +1,6 @@
 ghost use Rattle.std.specs.Prelude.{◌≡◌, ◌+◌, nat_le, if◌then◌else◌};
-ghost use Rattle.rip_values.specs.declared.value.Limit.TheVariants.{Cells};
-ghost use Rattle.rip_values.specs.declared.value.Value.TheVariants.{Num};
+ghost use Rattle.rip_base.specs.declared.value.Limit.TheVariants.{Cells};
+ghost use Rattle.rip_base.specs.declared.value.Value.TheVariants.{Num};
 ghost use Rattle.rip_heap.specs.Errors.{new_error, error_made, cost_of_error};
 ghost use Rattle.rip_heap.specs.Growth.{Grows};
 ghost use Rattle.rip_heap.specs.Outcome.{Answers, Exceeds};
@@ -10,8 +10,9 @@ use crate::convert::to_text;
 use crate::heap::Heap;
 use crate::outcome::Abrupt;
 use crate::stored::StoredObject;
-use rip_pages::Property;
-use rip_values::{FIRST_HEAP_OBJECT, Fault, FixedText, Limit, Span, Value, Whole, text_of_whole};
+use rip_base::{Fault, Limit, Span, Value, Whole, text_of_whole};
+use rip_heap_region::pages::Property;
+use rip_values::{FIRST_HEAP_OBJECT, FixedText};
 use std::alloc::Global;
 
 /// Cells that an error with its message costs.

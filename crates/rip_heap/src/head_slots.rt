@@ -3,10 +3,10 @@ ghost use Rattle.rip_heap.specs.HeadSlots.{array_if, array_in, chain_in, class_i
 
 use crate::class::Class;
 use crate::stored::StoredObject;
-use rip_chains::Chain;
-use rip_pages::Slot;
-use rip_segments::Array;
-use rip_values::{Span, Value};
+use rip_base::{Span, Value};
+use rip_heap_region::chains::Chain;
+use rip_heap_region::pages::Slot;
+use rip_heap_region::segments::Array;
 
 /// The head of the object whose slot this is.
 pub(crate) fn head_in(slot: &Slot) -> StoredObject

@@ -8,7 +8,8 @@ use crate::limits::HeapLimits;
 use crate::memory::HeapMemory;
 use crate::named_objects::NamedObjects;
 use crate::search::SearchTable;
-use rip_values::{Limit, NoMemory, Pool};
+use rip_base::{Limit, NoMemory};
+use rip_values::Pool;
 use std::alloc::Global;
 use std::marker::Model;
 

@@ -8,7 +8,7 @@ use crate::class::Class;
 use crate::convert::{room_for_numeral, to_text};
 use crate::heap::Heap;
 use crate::outcome::Abrupt;
-use rip_values::{Fault, Span, Value, Whole};
+use rip_base::{Fault, Span, Value, Whole};
 use std::alloc::Global;
 
 /// What an object is to a call that asks whether it has a property.

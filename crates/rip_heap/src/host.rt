@@ -2,7 +2,7 @@ ghost use Rattle.std.specs.Prelude.{◌≡◌};
 
 use crate::heap::Heap;
 use crate::outcome::Abrupt;
-use rip_values::{Fault, Limit, Span, Value};
+use rip_base::{Fault, Limit, Span, Value};
 
 /// What a call of a host answers.
 #[derive(Clone, Copy, Debug, PartialEq, Eq)]
@@ -96,7 +96,7 @@ pub struct EmptyHost;
 
 impl Host for EmptyHost {
     ghost use Rattle.std.specs.Prelude.{⊤, false};
-    ghost use Rattle.rip_values.specs.declared.value.Fault.TheVariants.{NotInProfile};
+    ghost use Rattle.rip_base.specs.declared.value.Fault.TheVariants.{NotInProfile};
     ghost use Rattle.rip_heap.specs.declared.host.HostDone.TheVariants.{Fault};
 
     ghost fits = { λ _ _. ⊤ };

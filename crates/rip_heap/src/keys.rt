@@ -6,8 +6,9 @@ ghost use Rattle.rip_heap.specs.Keys.{look_up, looked_up, is_barred, is_undersco
 use crate::class::Class;
 use crate::convert::to_number;
 use crate::heap::Heap;
-use rip_chains::same_text;
-use rip_values::{FixedText, Numeral, Span, Value, Whole, text_of_whole};
+use rip_base::{Numeral, Span, Value, Whole, text_of_whole};
+use rip_heap_region::chains::same_text;
+use rip_values::FixedText;
 
 /// Where the look-up of a name along prototypes ends.
 #[derive(Clone, Copy, Debug, PartialEq, Eq)]

@@ -12,7 +12,7 @@
 //! | the charge of each step | `World.charging`, and the table `World.cost_of_object` and those behind it |
 //! | [`Heap::new_object`], [`Heap::new_of`], [`Heap::new_function`] | `Objects.new_object`, `Objects.new_of`, `Objects.new_function` |
 //! | [`Heap::own`], [`Heap::find`], [`Heap::own_at`], [`Heap::own_properties`] | `Objects.own`, `Objects.find`, `Objects.own_at`, `Objects.own_properties` |
-//! | [`Heap::put`], [`Heap::remove`] | `Objects.put`, `Objects.removed`; the indexes beside them are private, in `rip_buckets` |
+//! | [`Heap::put`], [`Heap::remove`] | `Objects.put`, `Objects.removed`; the indexes beside them are private, in `rip_heap_region::buckets` |
 //! | arrays and scopes | `Arrays`, `Scopes`; how objects, properties, elements and scopes lie in one region is private, by `Region` |
 //! | [`Heap::new_error`] | `Errors.new_error` |
 //! | [`Heap::concat`], [`same_text`] | `Texts.concat`, `Names.same_text` |
@@ -77,5 +77,5 @@ pub use limits::{HeapLimits, Used};
 pub use mark::Mark;
 pub use memory::HeapMemory;
 pub use outcome::{Abrupt, Halt, number_done, truth_done};
-pub use rip_chains::{OwnProperties, same_text};
-pub use rip_pages::Property;
+pub use rip_heap_region::chains::{OwnProperties, same_text};
+pub use rip_heap_region::pages::Property;

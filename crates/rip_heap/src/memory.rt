@@ -2,9 +2,10 @@ ghost use Rattle.std.specs.Prelude.{◌≡◌, ◌+◌, ◌*◌, ◌≤◌, IfOk
 ghost use Rattle.rip_heap.specs.Memory.{bytes_of, memory_for};
 
 use crate::limits::HeapLimits;
-use rip_buckets::IndexMemory;
-use rip_pages::PageMemory;
-use rip_values::{FIRST_HEAP_OBJECT, FIRST_NODE, NoMemory, Pool};
+use rip_base::NoMemory;
+use rip_heap_region::buckets::IndexMemory;
+use rip_heap_region::pages::PageMemory;
+use rip_values::{FIRST_HEAP_OBJECT, FIRST_NODE, Pool};
 use std::alloc::Global;
 use std::marker::Model;
 use std::mem::size_of;

@@ -3,7 +3,7 @@ ghost use Rattle.std.specs.Borrow.{MutBor, sem};
 ghost use Rattle.std.specs.Fn.{CalledAtMut};
 ghost use Rattle.rip_values.specs.FixedTexts.{fixed_units};
 ghost use Rattle.rip_values.specs.Pool.{Texts, cut_pool, joined, span_behind, with_text};
-ghost use Rattle.rip_pages.specs.Memory.{memory_for};
+ghost use Rattle.rip_heap_region.specs.PageMemory.{memory_for};
 ghost use Rattle.rip_heap.specs.Arrays.{array_object, last_of, elements_of, without_last};
 ghost use Rattle.rip_heap.specs.Errors.{error_object};
 ghost use Rattle.rip_heap.specs.HeadSlots.{IsStorable};
@@ -20,10 +20,11 @@ ghost use Rattle.rip_heap.specs.Stored.{head_of, object_of, properties_of, store
 use crate::class::Class;
 use crate::region::Region;
 use crate::stored::StoredObject;
-use rip_buckets::{IndexMemory, NameIndexes};
-use rip_chains::OwnProperties;
-use rip_pages::{PageMemory, Property};
-use rip_values::{FixedText, Limit, NoMemory, Pool, Refused, Span, Value};
+use rip_base::{Limit, NoMemory, Refused, Span, Value};
+use rip_heap_region::buckets::{IndexMemory, NameIndexes};
+use rip_heap_region::chains::OwnProperties;
+use rip_heap_region::pages::{PageMemory, Property};
+use rip_values::{FixedText, Pool};
 use std::alloc::Global;
 use std::marker::Model;
 

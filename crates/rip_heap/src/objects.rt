@@ -9,8 +9,9 @@ ghost use Rattle.rip_heap.specs.World.{object_at, IsObject, class_of, proto_of, 
 use crate::class::Class;
 use crate::heap::Heap;
 use crate::stored::StoredObject;
-use rip_pages::Property;
-use rip_values::{FIRST_HEAP_OBJECT, FixedText, Limit, Refused, Value};
+use rip_base::{Limit, Refused, Value};
+use rip_heap_region::pages::Property;
+use rip_values::{FIRST_HEAP_OBJECT, FixedText};
 use std::alloc::Global;
 
 /// Cells that a function costs.

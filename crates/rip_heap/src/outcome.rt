@@ -2,7 +2,7 @@ ghost use Rattle.std.specs.Prelude.{◌≡◌};
 ghost use Rattle.rip_heap.specs.Outcome.{Answers, number_or_fault, truth_or_fault};
 
 use crate::heap::Heap;
-use rip_values::{Fault, Limit, NoMemory, Numeral, Refused, Value};
+use rip_base::{Fault, Limit, NoMemory, Numeral, Refused, Value};
 use std::alloc::AllocError;
 
 /// Why an operation has no value: an operator, a built-in function or an access to a member. The heap is then as it

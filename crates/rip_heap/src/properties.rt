@@ -5,8 +5,8 @@ ghost use Rattle.rip_heap.specs.Step.{Changes, TakesNoMemory};
 ghost use Rattle.rip_heap.specs.World.{object_at, proto_of};
 
 use crate::heap::Heap;
-use rip_chains::OwnProperties;
-use rip_values::{Refused, Span, Value};
+use rip_base::{Refused, Span, Value};
+use rip_heap_region::chains::OwnProperties;
 use std::alloc::Global;
 
 impl Heap {

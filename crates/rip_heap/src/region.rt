@@ -1,7 +1,7 @@
 ghost use Rattle.std.specs.Prelude.{◌≡◌, ◌+◌, ◌<◌, ◌≤◌, ◌∷◌, ◌++◌, ℕ, [], None, false, is_some, length, option_and_then, replicate, slice_get, slice_set, take, true};
 ghost use Rattle.rip_values.specs.Pool.{Texts};
-ghost use Rattle.rip_pages.specs.Memory.{memory_for};
-ghost use Rattle.rip_buckets.specs.Blocks.{ListedBlocks};
+ghost use Rattle.rip_heap_region.specs.PageMemory.{memory_for};
+ghost use Rattle.rip_heap_region.specs.Blocks.{ListedBlocks};
 ghost use Rattle.rip_heap.specs.Arrays.{last_of, without_last};
 ghost use Rattle.rip_heap.specs.HeadSlots.{IsStorable};
 ghost use Rattle.rip_heap.specs.Memory.{slots_for};
@@ -13,10 +13,11 @@ ghost use Rattle.rip_heap.specs.Scopes.{bindings_of, parent_of};
 
 use crate::stored::StoredObject;
 use crate::{head_slots, scope_slots};
-use rip_buckets::NameIndexes;
-use rip_chains::OwnProperties;
-use rip_pages::{PageMemory, Pages, Property, Row};
-use rip_values::{Pool, Span, Value};
+use rip_base::{Span, Value};
+use rip_heap_region::buckets::NameIndexes;
+use rip_heap_region::chains::OwnProperties;
+use rip_heap_region::pages::{PageMemory, Pages, Property, Row};
+use rip_values::Pool;
 use std::marker::Model;
 
 /// The objects and the scopes of a heap as they lie in its region. Its memory was reserved before, so that no call
@@ -88,7 +89,7 @@ impl Region {
             return None;
         }
         let chain = head_slots::chain_in(self.pages.get(Row::Objects, at));
-        let place = rip_chains::nth(&self.pages, chain, number)?;
+        let place = rip_heap_region::chains::nth(&self.pages, chain, number)?;
         let slot = self.pages.get(Row::Properties, place);
         Some(Property {
             name: slot.name,
@@ -135,7 +136,7 @@ impl Region {
     {
         match self.find(pool, indexes, at, name) {
             Some(place) => {
-                rip_chains::set_value(&mut self.pages, place, v);
+                rip_heap_region::chains::set_value(&mut self.pages, place, v);
                 true
             }
             None => false,
@@ -159,7 +160,11 @@ impl Region {
     {
         let slot = *self.pages.get(Row::Objects, at);
         let index = head_slots::index_in(&slot);
-        let chain = rip_chains::push(&mut self.pages, head_slots::chain_in(&slot), property);
+        let chain = rip_heap_region::chains::push(
+            &mut self.pages,
+            head_slots::chain_in(&slot),
+            property,
+        );
         let index = indexes.renew(pool, &mut self.pages, chain, index, at);
         self.pages.set(
             Row::Objects,
@@ -193,7 +198,7 @@ impl Region {
         let chain = head_slots::chain_in(&slot);
         let index = head_slots::index_in(&slot);
         indexes.drop_name(&mut self.pages, chain, index, at, place);
-        let left = rip_chains::unlink(&mut self.pages, chain, place);
+        let left = rip_heap_region::chains::unlink(&mut self.pages, chain, place);
         self.pages.set(Row::Objects, at, head_slots::with_chain(&slot, left, index));
         true
     }
@@ -231,7 +236,7 @@ impl Region {
             return None;
         }
         let array = head_slots::array_in(self.pages.get(Row::Objects, at));
-        rip_segments::get(&self.pages, at, array, place)
+        rip_heap_region::segments::get(&self.pages, at, array, place)
     }
 
     /// Gives the element at this place of an object the value. Past the end nothing is changed.
@@ -242,7 +247,7 @@ impl Region {
         ensures indexes { IndexesStay self.old.pages self.new.pages }
     {
         let array = head_slots::array_in(self.pages.get(Row::Objects, at));
-        rip_segments::set(&mut self.pages, at, array, place, v);
+        rip_heap_region::segments::set(&mut self.pages, at, array, place, v);
     }
 
     /// Puts an element behind the others of an array.
@@ -255,7 +260,13 @@ impl Region {
     {
         let slot = *self.pages.get(Row::Objects, at);
         let spare = self.pages.room() - self.pages.filled() - (self.room - self.spent);
-        let array = rip_segments::push(&mut self.pages, at, head_slots::array_in(&slot), v, spare);
+        let array = rip_heap_region::segments::push(
+            &mut self.pages,
+            at,
+            head_slots::array_in(&slot),
+            v,
+            spare,
+        );
         self.pages
             .set(Row::Objects, at, head_slots::with_array(&slot, array));
         self.spent += 1;
@@ -271,7 +282,7 @@ impl Region {
         let slot = *self.pages.get(Row::Objects, at);
         let array = head_slots::array_in(&slot);
         if count < array.count {
-            let cut = rip_segments::Array {
+            let cut = rip_heap_region::segments::Array {
                 top: array.top,
                 count,
             };
@@ -358,7 +369,7 @@ impl Region {
         if indexes.has(index, at) {
             indexes.find(pool, &self.pages, chain, index, at, name)
         } else {
-            rip_chains::find(pool, &self.pages, chain, name)
+            rip_heap_region::chains::find(pool, &self.pages, chain, name)
         }
     }
 }

@@ -1,11 +1,11 @@
 ghost use Rattle.std.specs.Prelude.{◌≡◌, ◌+◌, ◌≤◌, ◌∷◌, ◌++◌, [], None, false, is_some, length, replicate, slice_get, true};
-ghost use Rattle.rip_pages.specs.declared.for_rows.Row.TheVariants.{Bindings};
-ghost use Rattle.rip_pages.specs.Pages.{filled, no_slot, with_row};
+ghost use Rattle.rip_heap_region.specs.declared.pages.for_rows.Row.TheVariants.{Bindings};
+ghost use Rattle.rip_heap_region.specs.Pages.{filled, no_slot, with_row};
 ghost use Rattle.rip_heap.specs.ScopeSlots.{AreScopes, binding_in, binding_of, bound, parent_in, scope_head_in, scopes_of, slot_of_scope, slot_of_value};
 ghost use Rattle.rip_heap.specs.Scopes.{bindings_of, parent_of};
 
-use rip_pages::{Pages, Row, Slot};
-use rip_values::{Span, Value};
+use rip_base::{Span, Value};
+use rip_heap_region::pages::{Pages, Row, Slot};
 
 /// The scope around a scope, and which part of the row of bindings are its own.
 #[derive(Clone, Copy, Debug)]

@@ -5,7 +5,7 @@ ghost use Rattle.rip_heap.specs.Step.{Makes, TakesNoMemory};
 ghost use Rattle.rip_heap.specs.World.{scope_at, IsScope};
 
 use crate::heap::Heap;
-use rip_values::{Limit, Refused, Value};
+use rip_base::{Limit, Refused, Value};
 use std::alloc::Global;
 
 impl Heap {

@@ -4,7 +4,7 @@ ghost use Rattle.rip_heap.specs.Borders.{IsLongest, IsTable};
 ghost use Rattle.rip_heap.specs.Search.{first_place, first_place_from};
 
 use crate::heap::Heap;
-use rip_values::Span;
+use rip_base::Span;
 use std::marker::Model;
 
 /// The row in which the table of a pattern is written when the pattern is looked for. It is reserved when it is made,

@@ -11,7 +11,8 @@ ghost use Rattle.rip_heap.specs.Texts.{concat, name_added, new_text};
 
 use crate::heap::Heap;
 use crate::outcome::Halt;
-use rip_values::{Fault, Limit, NoMemory, Pool, Refused, Span, Whole, text_of_whole};
+use rip_base::{Fault, Limit, NoMemory, Refused, Span, Whole, text_of_whole};
+use rip_values::Pool;
 use std::alloc::Global;
 
 impl Heap {

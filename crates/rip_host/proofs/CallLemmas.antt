@@ -10,7 +10,7 @@ use Rattle.rip_values.specs.declared.builtin.Builtin.{Builtin}
 use Rattle.rip_values.specs.Builtins.{builtins}
 use Rattle.rip_data.specs.Datum.{utf8_of}
 use Rattle.rip_heap.specs.World.{World, Object, code_of, first_object, object_at}
-use Rattle.rip_members.specs.Calls.{builtin_of}
+use Rattle.rip_ops.specs.Calls.{builtin_of}
 use Rattle.rip_wire.specs.Names.{is_name_letter, IsName}
 use Rattle.rip_wire.proofs.TextLemmas.{AreAscii, utf8_of-ascii}
 use Rattle.rip_host.specs.Listening.{is_built_in_function, is_function_object}

@@ -2,9 +2,9 @@
 use Rattle.std.proofs.Common.{◌≡◌, ℕ, ◌+◌, nat_le, Bool, true, false, cond, Option, List, length, refl, sym, ap, subst, arith}
 use Rattle.std.specs.Prelude.{All, IfSome}
 use Rattle.std.proofs.lemmas.List.Elements.{All-push}
-use Rattle.rip_values.specs.declared.value.Limit.TheVariants.{Cells, Queue}
-use Rattle.rip_values.specs.declared.value.Value.TheVariants.{Undefined, Object}
-use Rattle.rip_values.specs.declared.value.Value.{Value as ScriptValue}
+use Rattle.rip_base.specs.declared.value.Limit.TheVariants.{Cells, Queue}
+use Rattle.rip_base.specs.declared.value.Value.TheVariants.{Undefined, Object}
+use Rattle.rip_base.specs.declared.value.Value.{Value as ScriptValue}
 use Rattle.rip_values.specs.Pool.{Texts}
 use Rattle.rip_heap.specs.declared.host.HostDone.{HostDone}
 use Rattle.rip_heap.specs.declared.host.HostDone.TheVariants.{Value, TypeFault, Dom, Fault, Limit, Memory}

@@ -3,21 +3,21 @@ use Rattle.std.proofs.Common.{◌≡◌, ℕ, zero, suc, ◌+◌, ◌-◌, ◌<�
 use Rattle.std.specs.Prelude.{IfSome}
 use Rattle.std.proofs.lemmas.Bool.{cases_Bool, cond-true, cond-false}
 use Rattle.std.proofs.lemmas.Option.{none-some, same_Some}
-use Rattle.rip_values.specs.declared.value.Limit.TheVariants.{Cells}
-use Rattle.rip_values.specs.declared.value.Refused.{Refused}
-use Rattle.rip_values.specs.declared.value.Refused.TheVariants.{Limit as At, Memory}
-use Rattle.rip_values.specs.declared.value.Span.{Span}
-use Rattle.rip_values.specs.declared.value.Value.TheVariants.{Object}
+use Rattle.rip_base.specs.declared.value.Limit.TheVariants.{Cells}
+use Rattle.rip_base.specs.declared.value.Refused.{Refused}
+use Rattle.rip_base.specs.declared.value.Refused.TheVariants.{Limit as At, Memory}
+use Rattle.rip_base.specs.declared.value.Span.{Span}
+use Rattle.rip_base.specs.declared.value.Value.TheVariants.{Object}
 use Rattle.rip_values.specs.Pool.{Texts}
 use Rattle.rip_heap.specs.World.{World}
 use Rattle.rip_events.specs.declared.station.Station.{Station}
 use Rattle.rip_events.specs.declared.station.Place.{Place}
 use Rattle.rip_events.specs.Flow.{Arrival, Course, begun, stations, called_at, called_here, goes_on, here_or_ahead, here_or_behind, in_reach, next_arrival, next_call, wanted_at, with_station}
 use Rattle.rip_events.specs.Listed.{Listed, first_number, fits, listener_at}
-use Rattle.rip_runs.specs.declared.close.Close.TheVariants.{Stopped}
-use Rattle.rip_runs.specs.declared.completion.Stop.TheVariants.{Limit as AtLimit}
-use Rattle.rip_runs.specs.Plan.{Plan, Over, Runs}
-use Rattle.rip_runs.specs.Started.{CallOf}
+use Rattle.rip_eval_rows.specs.declared.close.Close.TheVariants.{Stopped}
+use Rattle.rip_eval_rows.specs.declared.completion.Stop.TheVariants.{Limit as AtLimit}
+use Rattle.rip_eval_rows.specs.Plan.{Plan, Over, Runs}
+use Rattle.rip_eval_rows.specs.Started.{CallOf}
 use Rattle.rip_nodes.specs.Answers.{node_value}
 use Rattle.rip_host.specs.declared.browser.Browser.{Browser}
 use Rattle.rip_host.specs.EventMembers.{bubbles}

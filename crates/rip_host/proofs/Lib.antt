@@ -1,9 +1,9 @@
 pub mod CallLemmas
-pub mod ReplyLemmas
-pub mod FlowLemmas
-pub mod FitsLemmas
-pub mod EventLemmas
 pub mod EventFits
+pub mod EventLemmas
+pub mod FitsLemmas
+pub mod FlowLemmas
 pub mod OpeningLemmas
-pub mod ReadingLemmas
 pub mod OwnerLemmas
+pub mod ReadingLemmas
+pub mod ReplyLemmas

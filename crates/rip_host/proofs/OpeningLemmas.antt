@@ -4,7 +4,7 @@ use Rattle.std.specs.Prelude.{slice_get}
 use Rattle.std.proofs.Math.Seq.{drop-cons, drop-length}
 use Rattle.std.proofs.lemmas.Bool.{cond-true, cond-false}
 use Rattle.std.proofs.lemmas.Option.{slice_get_within, get_or_from_slice_get}
-use Rattle.rip_values.specs.declared.page.PageNode.{PageNode}
+use Rattle.rip_base.specs.declared.page.PageNode.{PageNode}
 use Rattle.rip_host.specs.Opening.{body_from, is_body}
 
 rest-begins : (nodes : List PageNode) (i : ℕ) (x : PageNode) → slice_get nodes i ≡ Some x → drop i nodes ≡ x ∷ drop (suc i) nodes

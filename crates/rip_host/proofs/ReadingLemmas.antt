@@ -1,6 +1,6 @@
 -- A value that is read only adds texts to the pool.
 use Rattle.std.proofs.Common.{Result}
-use Rattle.rip_values.specs.declared.value.Span.{Span}
+use Rattle.rip_base.specs.declared.value.Span.{Span}
 use Rattle.rip_values.specs.Pool.{Texts}
 use Rattle.rip_heap.specs.Lending.{PoolGrows}
 use Rattle.rip_dom.specs.declared.reading.TextRefused.{TextRefused}

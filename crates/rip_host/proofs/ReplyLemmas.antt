@@ -4,7 +4,7 @@ use Rattle.std.specs.List.{position_from}
 use Rattle.std.specs.Prelude.{IfSome}
 use Rattle.std.proofs.lemmas.Iterator.Adapters.{position_from-zero}
 use Rattle.std.proofs.lemmas.List.Elements.{All-head, All-tail, All-cons}
-use Rattle.rip_values.specs.declared.value.Value.TheVariants.{Object}
+use Rattle.rip_base.specs.declared.value.Value.TheVariants.{Object}
 use Rattle.rip_heap.specs.Growth.{Belongs}
 use Rattle.rip_heap.specs.World.{World}
 use Rattle.rip_host.specs.declared.replies.WaitingReply.{WaitingReply}

@@ -2,10 +2,10 @@
 use Rattle.std.specs.Prelude.{ℕ, Option, None, Some, Result, Ok, Err, List, option_and_then}
 use Rattle.rip_values.specs.declared.builtin.Builtin.{Builtin}
 use Rattle.rip_values.specs.declared.fixed.FixedText.{FixedText}
-use Rattle.rip_values.specs.declared.value.Fault.TheVariants.{NotInProfile}
-use Rattle.rip_values.specs.declared.value.Span.{Span}
-use Rattle.rip_values.specs.declared.value.Value.{Value}
-use Rattle.rip_values.specs.declared.value.Value.TheVariants.{Undefined, Null, Bool as Boolean, Num, NaN, Text, Object}
+use Rattle.rip_base.specs.declared.value.Fault.TheVariants.{NotInProfile}
+use Rattle.rip_base.specs.declared.value.Span.{Span}
+use Rattle.rip_base.specs.declared.value.Value.{Value}
+use Rattle.rip_base.specs.declared.value.Value.TheVariants.{Undefined, Null, Bool as Boolean, Num, NaN, Text, Object}
 use Rattle.rip_values.specs.Builtins.{number_of}
 use Rattle.rip_values.specs.FixedSearch.{fixed_text}
 use Rattle.rip_values.specs.Pool.{text_at}
@@ -13,7 +13,7 @@ use Rattle.rip_heap.specs.declared.host.HostDone.{HostDone}
 use Rattle.rip_heap.specs.declared.host.HostDone.TheVariants as host
 use Rattle.rip_heap.specs.Host.{Request, Reads, Writes, Calls}
 use Rattle.rip_heap.specs.World.{World}
-use Rattle.rip_members.specs.Calls.{builtin_of}
+use Rattle.rip_ops.specs.Calls.{builtin_of}
 use Rattle.rip_nodes.specs.declared.member.NodeMember.{NodeMember}
 use Rattle.rip_nodes.specs.Calls.{argument, node_call, node_of_object}
 use Rattle.rip_nodes.specs.Members.{member_of}

@@ -3,9 +3,9 @@ use Rattle.std.specs.Prelude.{ℕ, pos, Bool, true, false, ◌||◌, Option, Non
 use Rattle.rip_values.specs.declared.builtin.Builtin.TheVariants.{StopPropagation as StopPropagationFunction, PreventDefault as PreventDefaultFunction}
 use Rattle.rip_values.specs.declared.fixed.FixedText.{FixedText}
 use Rattle.rip_values.specs.declared.fixed.FixedText.TheVariants.{EventType, Target, CurrentTarget, EventPhase, Bubbles, Cancelable, StopPropagation, PreventDefault, Click, Submit, Input, Change}
-use Rattle.rip_values.specs.declared.value.Span.{Span}
-use Rattle.rip_values.specs.declared.value.Value.{Value}
-use Rattle.rip_values.specs.declared.value.Value.TheVariants.{Num, Bool as Boolean, Object}
+use Rattle.rip_base.specs.declared.value.Span.{Span}
+use Rattle.rip_base.specs.declared.value.Value.{Value}
+use Rattle.rip_base.specs.declared.value.Value.TheVariants.{Num, Bool as Boolean, Object}
 use Rattle.rip_values.specs.Builtins.{number_of}
 use Rattle.rip_values.specs.FixedSearch.{fixed_text}
 use Rattle.rip_values.specs.Pool.{Texts, text_at}

@@ -2,9 +2,9 @@
 -- listeners that were registered when it was reached, each if it stands at its turn. A run is one listener, with the
 -- current node as `this` and the event as its argument; however it ends, the flow goes on, unless it was stopped.
 use Rattle.std.specs.Prelude.{ℕ, zero, suc, ◌+◌, ◌-◌, ◌^◌, Bool, false, if◌then◌else◌, Option, None, Some, List, [], ◌∷◌, ◌++◌, length}
-use Rattle.rip_values.specs.declared.value.Limit.TheVariants.{Cells}
-use Rattle.rip_values.specs.declared.value.Span.{Span}
-use Rattle.rip_values.specs.declared.value.Value.TheVariants.{Object}
+use Rattle.rip_base.specs.declared.value.Limit.TheVariants.{Cells}
+use Rattle.rip_base.specs.declared.value.Span.{Span}
+use Rattle.rip_base.specs.declared.value.Value.TheVariants.{Object}
 use Rattle.rip_values.specs.Pool.{Texts}
 use Rattle.rip_heap.specs.declared.class.Class.TheVariants.{Event as EventClass}
 use Rattle.rip_heap.specs.Objects.{new_of}
@@ -13,10 +13,10 @@ use Rattle.rip_events.specs.declared.station.Station.{Station}
 use Rattle.rip_events.specs.declared.station.Place.{Place}
 use Rattle.rip_events.specs.Flow.{Course, stations, wanted_at}
 use Rattle.rip_events.specs.Listed.{Listed, fits, listener_at}
-use Rattle.rip_runs.specs.declared.close.Close.TheVariants.{Stopped}
-use Rattle.rip_runs.specs.declared.completion.Stop.TheVariants.{Limit as AtLimit}
-use Rattle.rip_runs.specs.Plan.{Plan, Over, Runs}
-use Rattle.rip_runs.specs.Started.{CallOf}
+use Rattle.rip_eval_rows.specs.declared.close.Close.TheVariants.{Stopped}
+use Rattle.rip_eval_rows.specs.declared.completion.Stop.TheVariants.{Limit as AtLimit}
+use Rattle.rip_eval_rows.specs.Plan.{Plan, Over, Runs}
+use Rattle.rip_eval_rows.specs.Started.{CallOf}
 use Rattle.rip_nodes.specs.Answers.{node_value}
 use Rattle.rip_host.specs.declared.browser.Browser.{Browser}
 use Rattle.rip_host.specs.declared.events.Event.{Event}

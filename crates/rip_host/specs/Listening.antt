@@ -2,18 +2,18 @@
 use Rattle.std.specs.Prelude.{ℕ, Bool, true, false, ◌&&◌, nat_le, if◌then◌else◌, is_some, Option, None, Some}
 use Rattle.std.specs.Fmt.{signed_decimal}
 use Rattle.rip_values.specs.declared.builtin.Builtin.{Builtin}
-use Rattle.rip_values.specs.declared.value.Fault.{Fault}
-use Rattle.rip_values.specs.declared.value.Fault.TheVariants.{NotInProfile}
-use Rattle.rip_values.specs.declared.value.Limit.TheVariants.{Cells, Units}
-use Rattle.rip_values.specs.declared.value.Span.{Span}
-use Rattle.rip_values.specs.declared.value.Value.{Value}
-use Rattle.rip_values.specs.declared.value.Value.TheVariants.{Undefined, Null, Bool as Boolean, Num, NaN, Text, Object}
+use Rattle.rip_base.specs.declared.value.Fault.{Fault}
+use Rattle.rip_base.specs.declared.value.Fault.TheVariants.{NotInProfile}
+use Rattle.rip_base.specs.declared.value.Limit.TheVariants.{Cells, Units}
+use Rattle.rip_base.specs.declared.value.Span.{Span}
+use Rattle.rip_base.specs.declared.value.Value.{Value}
+use Rattle.rip_base.specs.declared.value.Value.TheVariants.{Undefined, Null, Bool as Boolean, Num, NaN, Text, Object}
 use Rattle.rip_values.specs.Builtins.{is_function}
 use Rattle.rip_heap.specs.declared.host.HostDone.{HostDone}
 use Rattle.rip_heap.specs.declared.host.HostDone.TheVariants as host
 use Rattle.rip_heap.specs.Conversions.{boolean_of, text_fault}
 use Rattle.rip_heap.specs.World.{World, code_of, object_at}
-use Rattle.rip_members.specs.Calls.{builtin_of}
+use Rattle.rip_ops.specs.Calls.{builtin_of}
 use Rattle.rip_events.specs.declared.listener.Listener.{Listener}
 use Rattle.rip_events.specs.Listed.{Listed, found, registered, same_as, typed, without_listener}
 use Rattle.rip_nodes.specs.Texts.{are_past, cost_of_text, text_span, world_with}

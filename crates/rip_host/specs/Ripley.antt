@@ -5,12 +5,12 @@ use Rattle.rip_values.specs.declared.builtin.Builtin.TheVariants.{RipleyCall, Ri
 use Rattle.rip_values.specs.declared.builtin.Builtin.{Builtin}
 use Rattle.rip_values.specs.declared.fixed.FixedText.{FixedText}
 use Rattle.rip_values.specs.declared.fixed.FixedText.TheVariants.{Call, Now, Random}
-use Rattle.rip_values.specs.declared.value.Fault.{Fault}
-use Rattle.rip_values.specs.declared.value.Fault.TheVariants.{BadArgument}
-use Rattle.rip_values.specs.declared.value.Limit.TheVariants.{Cells, Queue}
-use Rattle.rip_values.specs.declared.value.Span.{Span}
-use Rattle.rip_values.specs.declared.value.Value.{Value}
-use Rattle.rip_values.specs.declared.value.Value.TheVariants.{Undefined, Null, Bool as Boolean, Num, NaN, Text, Object}
+use Rattle.rip_base.specs.declared.value.Fault.{Fault}
+use Rattle.rip_base.specs.declared.value.Fault.TheVariants.{BadArgument}
+use Rattle.rip_base.specs.declared.value.Limit.TheVariants.{Cells, Queue}
+use Rattle.rip_base.specs.declared.value.Span.{Span}
+use Rattle.rip_base.specs.declared.value.Value.{Value}
+use Rattle.rip_base.specs.declared.value.Value.TheVariants.{Undefined, Null, Bool as Boolean, Num, NaN, Text, Object}
 use Rattle.rip_values.specs.Pool.{text_at}
 use Rattle.rip_heap.specs.declared.holder.Holder.{Holder}
 use Rattle.rip_heap.specs.declared.holder.Holder.TheVariants.{PlainObject, ArrayObject, OtherObject}
@@ -18,7 +18,7 @@ use Rattle.rip_heap.specs.declared.host.HostDone.{HostDone}
 use Rattle.rip_heap.specs.declared.host.HostDone.TheVariants as host
 use Rattle.rip_heap.specs.Holders.{holder_of}
 use Rattle.rip_heap.specs.World.{World, object_at, paid}
-use Rattle.rip_members.specs.Calls.{builtin_of}
+use Rattle.rip_ops.specs.Calls.{builtin_of}
 use Rattle.rip_wire.specs.Names.{is_name_letter}
 use Rattle.rip_calls.specs.Calls.{Calls, used, with_call}
 use Rattle.rip_convert.specs.Arguments.{call_text}

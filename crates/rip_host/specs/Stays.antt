@@ -2,7 +2,7 @@
 use Rattle.std.specs.Prelude.{◌≡◌, ℕ, ◌<◌, ◌≤◌, Option, None, Some, IfSome, slice_index_or}
 use Rattle.std.proofs.Common.{sym, ◌∙◌, subst, inl, inr}
 use Rattle.std.proofs.Math.Nat.{le_trans, le_refl, add-le-add}
-use Rattle.rip_values.specs.declared.value.Value.TheVariants.{Object}
+use Rattle.rip_base.specs.declared.value.Value.TheVariants.{Object}
 use Rattle.rip_heap.specs.Growth.{Belongs, Grows}
 use Rattle.rip_heap.specs.World.{World, first_object}
 use Rattle.rip_host.specs.declared.browser.Browser.{Browser}

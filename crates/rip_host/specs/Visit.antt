@@ -1,11 +1,11 @@
 -- What stands behind a page's objects, as one value; and the worlds that it goes with.
 use Rattle.std.specs.Prelude.{◌≡◌, ◌+◌, ◌<◌, ◌≤◌, codes, All, IfSome, length}
 use Rattle.rip_values.specs.Pool.{text_at}
-use Rattle.rip_values.specs.declared.value.Value.TheVariants.{Object}
+use Rattle.rip_base.specs.declared.value.Value.TheVariants.{Object}
 use Rattle.rip_heap.specs.Growth.{Belongs}
 use Rattle.rip_heap.specs.Host.{Keeps, LeavesOnRefusal}
 use Rattle.rip_heap.specs.World.{World, first_node, first_object}
-use Rattle.rip_values.specs.declared.value.Fault.TheVariants.{NotInProfile}
+use Rattle.rip_base.specs.declared.value.Fault.TheVariants.{NotInProfile}
 use Rattle.rip_heap.specs.declared.host.HostDone.{HostDone}
 use Rattle.rip_heap.specs.declared.host.HostDone.TheVariants as host
 use Rattle.rip_dom.specs.Tree.{Tree}

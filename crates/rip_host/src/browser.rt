@@ -1,11 +1,11 @@
 use crate::events::Events;
 use crate::replies::Undelivered;
+use rip_base::{Span, Whole};
 use rip_calls::Queue;
 use rip_convert::CallRow;
 use rip_dom::Dom;
 use rip_events::Listeners;
 use rip_forms::Forms;
-use rip_values::{Span, Whole};
 use std::alloc::Global;
 
 /// What stands behind the objects of a page that are not the heap's: the document, its listeners and events, and

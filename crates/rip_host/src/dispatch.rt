@@ -1,5 +1,5 @@
 ghost use Rattle.std.specs.Prelude.{◌≡◌, ◌<◌, ℕ, Option, Some, None, IfSome, IfOk, OnErr};
-ghost use Rattle.rip_values.specs.declared.value.Refused.TheVariants.{Limit as At};
+ghost use Rattle.rip_base.specs.declared.value.Refused.TheVariants.{Limit as At};
 ghost use Rattle.rip_heap.specs.Growth.{Grows};
 ghost use Rattle.rip_heap.specs.Step.{TakesNoMemory};
 ghost use Rattle.rip_heap.specs.World.{first_node};
@@ -9,9 +9,9 @@ ghost use Rattle.rip_host.specs.Visit.{Fits};
 
 use crate::browser::Browser;
 use crate::events::Event;
+use rip_base::{Refused, Span};
 use rip_events::Station;
 use rip_heap::{Class, Heap};
-use rip_values::{Refused, Span};
 use std::alloc::Global;
 
 impl Browser {

@@ -5,10 +5,11 @@ ghost use Rattle.rip_host.specs.EventMembers.{bubbles, can_be_cancelled, event_m
 ghost use Rattle.rip_host.specs.Visit.{AreNodes};
 
 use crate::events::Event;
+use rip_base::{Span, Value, Whole};
 use rip_events::Station;
 use rip_heap::Heap;
 use rip_nodes::{member_named, node_or_null, node_value, text_value};
-use rip_values::{Builtin, FixedText, Span, Value, Whole};
+use rip_values::{Builtin, FixedText};
 
 /// A member that events have (DOM Level 2 Events 1.4).
 #[derive(Clone, Copy, Debug, PartialEq, Eq)]

@@ -1,8 +1,8 @@
 ghost use Rattle.std.specs.Prelude.{◌≡◌, ◌<◌, ◌≤◌, ◌++◌, ◌∷◌, [], ℕ, All, IfOk, IfSome, length, vec_capacity};
 ghost use Rattle.rip_host.specs.Events.{IsAscending, IsSplitAt, event_at, event_of, replaced};
 
+use rip_base::{NoMemory, Span};
 use rip_events::Station;
-use rip_values::{NoMemory, Span};
 use std::alloc::Global;
 use std::marker::Model;
 

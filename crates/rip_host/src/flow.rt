@@ -1,6 +1,6 @@
 ghost use Rattle.std.specs.Prelude.{◌≡◌, ◌<◌, ℕ, IfSome};
 ghost use Rattle.rip_heap.specs.World.{World, first_node};
-ghost use Rattle.rip_runs.specs.Plan.{Plan};
+ghost use Rattle.rip_eval_rows.specs.Plan.{Plan};
 ghost use Rattle.rip_host.specs.declared.browser.Browser.{Browser as Page};
 ghost use Rattle.rip_host.specs.Flow.{flow_ahead, flow_left, flow_steps};
 ghost use Rattle.rip_host.specs.Visit.{Fits};

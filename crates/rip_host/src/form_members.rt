@@ -11,11 +11,12 @@ ghost use Rattle.rip_nodes.specs.Attributes.{attribute_given};
 ghost use Rattle.rip_host.specs.Visit.{Fits, KeepsBrowser, of_nodes};
 
 use crate::browser::Browser;
+use rip_base::{Fault, Refused, Span, Value, Whole};
 use rip_dom::TextRefused;
 use rip_forms::{FormPart, FormState, part_of, place_of_value};
 use rip_heap::{Heap, HostDone, to_boolean, to_integer, to_number};
 use rip_nodes::{give_attribute, outside, text_arg, text_value};
-use rip_values::{Fault, FixedText, Refused, Span, Value, Whole};
+use rip_values::FixedText;
 
 /// A member of controls (DOM Level 2 HTML 1.6.5).
 #[derive(Clone, Copy, Debug, PartialEq, Eq)]

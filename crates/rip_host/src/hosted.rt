@@ -1,7 +1,7 @@
 ghost use Rattle.std.specs.Prelude.{◌≡◌, ◌<◌, ◌+◌, IfErr, IfOk, length, option_and_then};
 ghost use Rattle.rip_heap.specs.World.{World, first_object};
 ghost use Rattle.rip_nodes.specs.Answers.{IsAnswered};
-ghost use Rattle.rip_members.specs.Calls.{builtin_of};
+ghost use Rattle.rip_ops.specs.Calls.{builtin_of};
 ghost use Rattle.rip_host.specs.Answers.{called, event_put, event_read, event_receiver, member_read, member_written, node_read, node_receiver, node_write, ripley_read, some_or_outside};
 ghost use Rattle.rip_host.specs.EventMembers.{event_member_of};
 ghost use Rattle.rip_host.specs.Events.{event_of};
@@ -18,13 +18,14 @@ use crate::events::Event;
 use crate::form_members::FormMember;
 use crate::owner::Owner;
 use crate::ripley::ripley_member;
+use rip_base::{Span, Value};
 use rip_heap::{Heap, Host, HostDone};
-use rip_members::builtin_of;
 use rip_nodes::{
     NodeMember, argument, call_node, member_named, node_of_object, outside, read_member,
     write_member,
 };
-use rip_values::{Builtin, FixedText, Span, Value};
+use rip_ops::access::builtin_of;
+use rip_values::{Builtin, FixedText};
 
 impl Browser {
     /// Whose members the object has.

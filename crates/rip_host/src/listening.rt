@@ -1,15 +1,16 @@
 ghost use Rattle.std.specs.Prelude.{◌≡◌, ◌<◌, None, length};
 ghost use Rattle.rip_heap.specs.Conversions.{text_fault};
-ghost use Rattle.rip_members.specs.Calls.{builtin_of};
+ghost use Rattle.rip_ops.specs.Calls.{builtin_of};
 ghost use Rattle.rip_host.specs.Listening.{added_by, handler_of, ignored, is_built_in_function, is_function_object, is_number, is_second, is_spent, listener_added, listener_removed, register, removed_by, unregister};
 ghost use Rattle.rip_host.specs.Visit.{Fits, KeepsBrowser};
 
 use crate::browser::Browser;
+use rip_base::{Limit, Refused, Value, text_of_whole};
 use rip_events::Listener;
 use rip_heap::{Heap, HostDone, to_boolean};
-use rip_members::builtin_of;
 use rip_nodes::{outside, text_arg, text_fault};
-use rip_values::{Builtin, Limit, Refused, Value, text_of_whole};
+use rip_ops::access::builtin_of;
+use rip_values::Builtin;
 
 /// What a value is as a handler of events.
 #[derive(Clone, Copy, Debug, PartialEq, Eq)]

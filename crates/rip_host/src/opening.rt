@@ -6,12 +6,13 @@ ghost use Rattle.rip_host.specs.Visit.{Fits};
 use crate::browser::Browser;
 use crate::events::Events;
 use crate::replies::Undelivered;
+use rip_base::{Limits, NodeKind, Page, PageNode, Refused, Whole};
 use rip_calls::Queue;
 use rip_convert::CallRow;
 use rip_dom::Dom;
 use rip_events::Listeners;
 use rip_forms::Forms;
-use rip_values::{FIRST_NODE, Limits, NodeKind, Page, PageNode, Pool, Refused, Whole};
+use rip_values::{FIRST_NODE, Pool};
 use std::alloc::Global;
 
 /// The names of attributes and elements that a browser knows from the start.

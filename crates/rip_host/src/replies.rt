@@ -1,5 +1,5 @@
 ghost use Rattle.std.specs.Prelude.{◌≡◌, ◌≢◌, ◌<◌, ◌≤◌, ◌^◌, ◌+◌, ◌++◌, ◌∷◌, [], All, IfOk, IfSome, length, position, MatchOption, None, Some};
-ghost use Rattle.rip_values.specs.declared.value.Value.TheVariants.{Object};
+ghost use Rattle.rip_base.specs.declared.value.Value.TheVariants.{Object};
 ghost use Rattle.rip_heap.specs.Growth.{Belongs};
 ghost use Rattle.rip_heap.specs.World.{World};
 ghost use Rattle.rip_calls.specs.Calls.{front_callback, waiting};
@@ -8,8 +8,8 @@ ghost use Rattle.rip_host.specs.Replies.{call_served, due, is_due, most_replies,
 ghost use Rattle.rip_host.specs.Visit.{Fits};
 
 use crate::browser::Browser;
+use rip_base::{MOST_REPLIES, NoMemory, Whole};
 use rip_data::Datum;
-use rip_values::{MOST_REPLIES, NoMemory, Whole};
 use std::alloc::Global;
 use std::marker::Model;
 

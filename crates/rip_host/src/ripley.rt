@@ -1,6 +1,6 @@
 ghost use Rattle.std.specs.Prelude.{◌≡◌, ◌≤◌, ◌^◌, true, IfSome, IsTrue, length};
 ghost use Rattle.rip_values.specs.Pool.{text_at};
-ghost use Rattle.rip_values.specs.declared.value.Value.TheVariants.{Object as ObjectValue};
+ghost use Rattle.rip_base.specs.declared.value.Value.TheVariants.{Object as ObjectValue};
 ghost use Rattle.rip_heap.specs.Growth.{Belongs};
 ghost use Rattle.rip_calls.specs.Calls.{IsOneLine, least_text};
 ghost use Rattle.rip_convert.specs.Arguments.{call_text};
@@ -9,9 +9,10 @@ ghost use Rattle.rip_host.specs.Visit.{Fits, KeepsBrowser};
 
 use crate::browser::Browser;
 use crate::listening::is_function_object;
+use rip_base::{Fault, Limit, Span, Value, Whole};
 use rip_calls::Queue;
 use rip_heap::{Heap, Holder, HostDone, holder_of};
-use rip_values::{Builtin, Fault, FixedText, Limit, Span, Value, Whole};
+use rip_values::{Builtin, FixedText};
 use rip_wire::is_name;
 
 /// The greatest argument of `random`.

@@ -3,8 +3,8 @@ use Rattle.std.proofs.Common.{◌≡◌, ℕ, suc, ◌+◌, ◌<◌, Bool, true,
 use Rattle.std.proofs.lemmas.Bool.{lt-leb}
 use Rattle.std.specs.Prelude.{codes}
 use Rattle.std.specs.List.{AllByRecursion}
-use Rattle.rip_values.specs.declared.page.PageKind.{PageKind}
-use Rattle.rip_values.specs.declared.page.PageKind.TheVariants as K
+use Rattle.rip_base.specs.declared.page.PageKind.{PageKind}
+use Rattle.rip_base.specs.declared.page.PageKind.TheVariants as K
 use Rattle.rip_markup.specs.Words.{is_among}
 use Rattle.rip_markup.specs.Fault.{shifted}
 use Rattle.rip_markup.specs.declared.tag.StartTag.{StartTag}

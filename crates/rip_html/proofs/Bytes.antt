@@ -9,8 +9,8 @@ use Rattle.std.specs.Prelude.{encode_utf8}
 use Rattle.std.proofs.str.Utf16.{one_unit, two_units}
 use Rattle.std.proofs.str.Laws.{both}
 use Rattle.std.proofs.Math.Utf8.{scalar_cases}
-use Rattle.rip_values.specs.Text.{encode_utf16_all, IsSameText}
-use Rattle.rip_values.specs.Units.{is_between}
+use Rattle.rip_base.specs.Text.{encode_utf16_all, IsSameText}
+use Rattle.rip_base.specs.Units.{is_between}
 use Rattle.rip_markup.specs.Input.{mark_count, unmarked, lines, unit_width, bytes_before, IsTextOf}
 use Rattle.rip_markup.specs.declared.input.PageText.{PageText}
 

@@ -4,7 +4,7 @@ use Rattle.std.proofs.lemmas.List.{append-nil}
 use Rattle.std.proofs.lemmas.Bool.{lt-ltb}
 use Rattle.std.specs.Prelude.{codes}
 use Rattle.std.specs.List.{AllByRecursion}
-use Rattle.rip_values.specs.declared.page.PageNode.{PageNode}
+use Rattle.rip_base.specs.declared.page.PageNode.{PageNode}
 use Rattle.rip_markup.specs.declared.tag.StartTag.{StartTag}
 use Rattle.rip_markup.specs.declared.token.Token.{Token}
 use Rattle.rip_markup.specs.declared.token.Token.TheVariants as T

@@ -1,8 +1,8 @@
 -- Nodes that are made token by token are those of a page.
 use Rattle.std.proofs.Common.{◌≡◌, ℕ, suc, ◌+◌, ◌<◌, ◌≤◌, Bool, true, false, cond, ◌==◌, ◌&&◌, nat_lt, List, [], ◌∷◌, ◌++◌, length, drop, Option, Some, None, IfSome, refl, sym, ap, ◌∙◌, subst, arith, lit<, ◌^◌, length-append}
 use Rattle.std.specs.List.{AllByRecursion}
-use Rattle.rip_values.specs.Page.{ParentsPrecede, IsPage}
-use Rattle.rip_values.specs.declared.page.PageNode.{PageNode}
+use Rattle.rip_base.specs.Page.{ParentsPrecede, IsPage}
+use Rattle.rip_base.specs.declared.page.PageNode.{PageNode}
 use Rattle.rip_markup.specs.declared.tag.StartTag.{StartTag}
 use Rattle.rip_markup.specs.declared.token.Token.{Token}
 use Rattle.rip_markup.specs.declared.token.Token.TheVariants as T

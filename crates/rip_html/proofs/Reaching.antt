@@ -1,7 +1,7 @@
 -- What is refused of tokens stands before a place that the tokens stay before.
 use Rattle.std.proofs.Common.{◌≡◌, ℕ, zero, suc, ◌+◌, ◌<◌, ◌≤◌, length, get_or, sym, Bool, true, false, cond, List, [], ◌∷◌, drop, Option, Some, None, IfSome, option_map, refl, ap, subst, arith}
 use Rattle.std.specs.List.{AllByRecursion}
-use Rattle.rip_values.specs.declared.page.PageKind.{PageKind}
+use Rattle.rip_base.specs.declared.page.PageKind.{PageKind}
 use Rattle.rip_markup.specs.Fault.{fault}
 use Rattle.rip_markup.specs.Within.{FaultWithin, TokenWithin, PlacedWithin}
 use Rattle.rip_markup.specs.declared.fault.Fault.{Fault}

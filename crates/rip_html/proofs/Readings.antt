@@ -5,11 +5,11 @@ use Rattle.std.proofs.lemmas.Bool.{false≢true}
 use Rattle.std.proofs.lemmas.Str.{IsUtf8-from_is_utf8, is_utf8-from_IsUtf8}
 use Rattle.std.specs.Str.{is_utf8}
 use Rattle.std.specs.Str.Lossy.{utf8_valid_len}
-use Rattle.rip_values.specs.Page.{Contents}
-use Rattle.rip_values.specs.Text.{encode_utf16_all, IsSameText}
-use Rattle.rip_values.specs.declared.page.PageKind.TheVariants.{NotUtf8}
-use Rattle.rip_values.specs.declared.page.PageKind.{PageKind}
-use Rattle.rip_values.proofs.TextLemmas.{IsSameText-units}
+use Rattle.rip_base.specs.Page.{Contents}
+use Rattle.rip_base.specs.Text.{encode_utf16_all, IsSameText}
+use Rattle.rip_base.specs.declared.page.PageKind.TheVariants.{NotUtf8}
+use Rattle.rip_base.specs.declared.page.PageKind.{PageKind}
+use Rattle.rip_base.proofs.TextLemmas.{IsSameText-units}
 use Rattle.rip_markup.specs.Input.{mark_count, unmarked, lines, bytes_before, IsTextOf, IsTextRefusal}
 use Rattle.rip_markup.specs.Fault.{fault}
 use Rattle.rip_markup.specs.Tokens.{IsTokens}

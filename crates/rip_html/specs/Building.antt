@@ -1,7 +1,7 @@
 -- The nodes of a page made token by token, as functions. Those that read pages are stated by these; that they agree
 -- with the numbering of `Nodes` is proved, and no public clause cites them.
 use Rattle.std.specs.Prelude.{ℕ, nat_lt, if◌then◌else◌, List, [], ◌∷◌, ◌++◌, length, drop}
-use Rattle.rip_values.specs.declared.page.PageNode.{PageNode}
+use Rattle.rip_base.specs.declared.page.PageNode.{PageNode}
 use Rattle.rip_markup.specs.declared.token.Token.{Token}
 use Rattle.rip_markup.specs.declared.token.Token.TheVariants as T
 use Rattle.rip_markup.specs.declared.token.Placed.{Placed}

@@ -1,7 +1,7 @@
 -- Laws of pages: bytes are one page, or they are refused at one place as one kind, and never both.
 use Rattle.std.specs.Prelude.{◌≡◌, ◌⊎◌, ℕ, List}
-use Rattle.rip_values.specs.Page.{Contents}
-use Rattle.rip_values.specs.declared.page.PageKind.{PageKind}
+use Rattle.rip_base.specs.Page.{Contents}
+use Rattle.rip_base.specs.declared.page.PageKind.{PageKind}
 use Rattle.rip_html.specs.Pages.{PageOf, IsRefusedAt}
 
 -- bytes have a page, or they are refused

@@ -1,7 +1,7 @@
 -- The nodes of a page in document order (DOM Level 2 Core 1.2): the number of a node is its place in the list.
 use Rattle.std.specs.Prelude.{ℕ, suc, ◌+◌, List, [], ◌∷◌, ◌++◌, length, Some, None}
-use Rattle.rip_values.specs.declared.page.PageNode.{PageNode}
-use Rattle.rip_values.specs.declared.page.NodeKind.TheVariants.{Document, Element, Text, Comment}
+use Rattle.rip_base.specs.declared.page.PageNode.{PageNode}
+use Rattle.rip_base.specs.declared.page.NodeKind.TheVariants.{Document, Element, Text, Comment}
 use Rattle.rip_markup.specs.declared.tag.StartTag.{StartTag}
 use Rattle.rip_html.specs.Forests.{Forest, Nothing, Words, Remark, Void, Nested}
 use Rattle.rip_html.specs.Grammar.{Parts, page_forest}

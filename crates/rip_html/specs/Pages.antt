@@ -1,7 +1,7 @@
 -- What bytes are: a page, or refused at a place.
 use Rattle.std.specs.Prelude.{◌≡◌, ℕ, ◌+◌, ◌⊎◌, false, List, Some, map}
-use Rattle.rip_values.specs.Page.{Contents}
-use Rattle.rip_values.specs.declared.page.PageKind.{PageKind}
+use Rattle.rip_base.specs.Page.{Contents}
+use Rattle.rip_base.specs.declared.page.PageKind.{PageKind}
 use Rattle.rip_markup.specs.Input.{IsTextOf, IsTextRefusal, bytes_before}
 use Rattle.rip_markup.specs.Tokens.{IsTokens}
 use Rattle.rip_markup.specs.Fault.{fault}

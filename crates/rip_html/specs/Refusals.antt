@@ -1,8 +1,8 @@
 -- The refusals of the page subset: which token is refused where it stands, at which of its units, and as what.
 use Rattle.std.specs.Prelude.{ℕ, suc, ◌+◌, Bool, not, ◌||◌, ◌&&◌, ◌==◌, nat_lt, nat_le, if◌then◌else◌, List, [], ◌∷◌, length, Option, Some, None, option_map, codes}
 use Rattle.std.specs.Str.{bytes_eq}
-use Rattle.rip_values.specs.declared.page.PageKind.{PageKind}
-use Rattle.rip_values.specs.declared.page.PageKind.TheVariants as K
+use Rattle.rip_base.specs.declared.page.PageKind.{PageKind}
+use Rattle.rip_base.specs.declared.page.PageKind.TheVariants as K
 use Rattle.rip_markup.specs.Words.{is_among}
 use Rattle.rip_markup.specs.Fault.{fault, shifted, option_or}
 use Rattle.rip_markup.specs.declared.fault.Fault.{Fault}

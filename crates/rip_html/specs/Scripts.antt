@@ -1,8 +1,8 @@
 -- The scripts of a page (HTML 4.12.1).
 use Rattle.std.specs.Prelude.{ℕ, suc, Bool, true, false, ◌==◌, ◌&&◌, if◌then◌else◌, List, [], ◌∷◌, Option, Some, None}
-use Rattle.rip_values.specs.declared.page.NodeKind.{NodeKind}
-use Rattle.rip_values.specs.declared.page.NodeKind.TheVariants.{Document, Element, Text, Comment}
-use Rattle.rip_values.specs.declared.page.PageNode.{PageNode}
+use Rattle.rip_base.specs.declared.page.NodeKind.{NodeKind}
+use Rattle.rip_base.specs.declared.page.NodeKind.TheVariants.{Document, Element, Text, Comment}
+use Rattle.rip_base.specs.declared.page.PageNode.{PageNode}
 use Rattle.rip_html.specs.Tags.{is_script}
 
 -- the node is an element

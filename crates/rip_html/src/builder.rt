@@ -2,8 +2,8 @@ ghost use Rattle.std.specs.Prelude.{◌≡◌, ◌<◌, ◌+◌, ◌^◌, ◌++�
 ghost use Rattle.rip_html.specs.Building.{parent_of, if_kept, token_nodes, open_after, built};
 ghost use Rattle.rip_html.specs.Nodes.{document_node, element_node, text_nodes, comment_node};
 
+use rip_base::{List, NoMemory, NodeKind, PageNode, Units};
 use rip_markup::{Placed, StartTag, Token, is_void};
-use rip_values::{List, NoMemory, NodeKind, PageNode, Units};
 use std::alloc::Global;
 use std::collections::VecDeque;
 

@@ -2,8 +2,8 @@ ghost use Rattle.std.specs.Prelude.{◌≡◌, ◌<◌, ◌+◌, ◌^◌, if◌t
 ghost use Rattle.rip_markup.specs.Fault.{fault, shifted};
 ghost use Rattle.rip_html.specs.Refusals.{place_offset, own_fault, rank, is_before, least_fault};
 
+use rip_base::PageKind;
 use rip_markup::{Fault, Token};
-use rip_values::PageKind;
 
 /// A fault at the first unit of a token.
 fn fault_at_once(kind: PageKind) -> Option<Fault>

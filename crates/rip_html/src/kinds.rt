@@ -3,8 +3,8 @@ ghost use Rattle.rip_html.specs.Refusals.{text_kind, end_kind, content_kind, due
 
 use crate::part::Part;
 use crate::tags::{is_of_head, is_outside, is_script};
+use rip_base::{PageKind, Units, is_ascii};
 use rip_markup::{TextRun, Token, is_void};
-use rip_values::{PageKind, Units, is_ascii};
 
 /// How many elements may be open.
 const MOST_OPEN: usize = 200;

@@ -1,6 +1,6 @@
 ghost use Rattle.std.specs.Prelude.{◌≡◌, ◌<◌, ◌≤◌, ◌+◌, ◌^◌, ◌∷◌, [], ℕ, false, IfOk, IfErr, MatchResult};
-ghost use Rattle.rip_values.specs.Page.{Contents};
-ghost use Rattle.rip_values.specs.declared.page.PageKind.{PageKind};
+ghost use Rattle.rip_base.specs.Page.{Contents};
+ghost use Rattle.rip_base.specs.declared.page.PageKind.{PageKind};
 ghost use Rattle.rip_markup.specs.Input.{bytes_before};
 ghost use Rattle.rip_html.specs.Building.{built};
 ghost use Rattle.rip_html.specs.Laws.{HasReading, HasOnePage, HasOneRefusal, IsNeverBoth};
@@ -11,8 +11,8 @@ ghost use Rattle.rip_html.specs.Scripts.{script_numbers};
 use crate::builder::page_nodes;
 use crate::scripts::script_numbers;
 use crate::standing::first_refusal;
+use rip_base::{List, NoMemory, Page};
 use rip_markup::{Fault, PageRefusal, PageText, Placed, byte_place, read_text, tokens};
-use rip_values::{List, NoMemory, Page};
 use std::alloc::Global;
 
 /// The page that these bytes are, or the first construct of them that is refused, with the place in bytes. A page whose

@@ -3,7 +3,7 @@ ghost use Rattle.rip_html.specs.Scripts.{is_element, is_parent, text_number, scr
 ghost use Rattle.rip_html.specs.Tags.{is_script};
 
 use crate::tags::is_script;
-use rip_values::{List, NoMemory, NodeKind, PageNode};
+use rip_base::{List, NoMemory, NodeKind, PageNode};
 use std::alloc::Global;
 
 /// Of each script among the nodes of a page, the node that holds its text.

@@ -2,8 +2,8 @@ ghost use Rattle.std.specs.Prelude.{◌≡◌, codes};
 ghost use Rattle.rip_markup.specs.Words.{is_among};
 ghost use Rattle.rip_html.specs.Tags.{part_names, head_names, is_script, is_outside};
 
+use rip_base::is_ascii;
 use rip_markup::is_refused;
-use rip_values::is_ascii;
 
 /// Whether the element may stand in the head (HTML 4.2.1).
 #[tactic(auto, unfolding(crate::specs::Tags::head_names))]

@@ -3,7 +3,7 @@ ghost use Rattle.rip_http.specs.Answers.{field, line, status_line, content_type,
 
 use crate::request::Method;
 use itoa::Buffer;
-use rip_values::{Bytes, NoMemory};
+use rip_base::{Bytes, NoMemory};
 use std::alloc::Global;
 use uuid::Uuid;
 

@@ -7,7 +7,7 @@ use crate::head::Scan;
 use crate::request::{Message, Method};
 use crate::routes::Routes;
 use crate::stage::{Front, Stage, first_look};
-use rip_values::NoMemory;
+use rip_base::NoMemory;
 use std::alloc::{AllocError, Global};
 use std::marker::Model;
 use thiserror::Error;

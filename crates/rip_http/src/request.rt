@@ -2,7 +2,7 @@ ghost use Rattle.std.specs.Prelude.{◌≡◌};
 ghost use Rattle.rip_http.specs.Routes.{method_of, method_name};
 ghost use Rattle.rip_http.specs.Stream.{code_of, allowed_by};
 
-use rip_values::Bytes;
+use rip_base::Bytes;
 
 /// The methods that a route may take (RFC 9110 section 9.3).
 #[derive(Clone, Copy, Debug, PartialEq, Eq)]

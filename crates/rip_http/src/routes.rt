@@ -6,7 +6,7 @@ ghost use Rattle.rip_http.specs.Routing.{RoutesByPath};
 use crate::request::Route;
 use crate::target::path_of;
 use matchit::{InsertError, Router};
-use rip_values::NoMemory;
+use rip_base::NoMemory;
 use std::alloc::Global;
 use std::marker::Model;
 

@@ -11,7 +11,7 @@ use crate::routes::Routes;
 use crate::target::segment_of;
 use crate::verdict::{Judged, judge, judge_front};
 use httparse::spans::Span;
-use rip_values::{Bytes, NoMemory};
+use rip_base::{Bytes, NoMemory};
 use std::alloc::Global;
 
 /// The bytes of a message in which its head must end.

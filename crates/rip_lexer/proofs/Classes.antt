@@ -2,7 +2,7 @@
 use Rattle.std.proofs.Common.{◌≡◌, ℕ, Bool, true, false, ◌==◌, List, [], ◌∷◌, codes, ◌⊎◌, inl, inr, ⊎_elim, refl, ap, ◌∙◌, eqb-true, ne_eqb}
 use Rattle.std.specs.List.{list_all}
 use Rattle.std.proofs.lemmas.Bool.{and_parts, or_cases, false≢true}
-use Rattle.rip_values.specs.Units.{is_one_of, is_hex_digit}
+use Rattle.rip_base.specs.Units.{is_one_of, is_hex_digit}
 use Rattle.rip_lexer.specs.Units.{class_of, is_digit_class, is_name_start_class, is_line_end_class, is_quote_class, is_mark_class}
 use Rattle.rip_lexer.specs.declared.units.UnitClass.{UnitClass}
 use Rattle.rip_lexer.specs.declared.units.UnitClass.TheVariants.{NameStart, Digit, LineEnd, White, Quote, Mark, Other}

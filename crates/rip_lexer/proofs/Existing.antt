@@ -3,7 +3,7 @@ use Rattle.std.proofs.Common.{◌≡◌, ℕ, zero, suc, ◌+◌, ◌<◌, ◌�
 use Rattle.std.specs.List.{prefix_len}
 use Rattle.std.proofs.lemmas.Bool.{and_parts, false≢true}
 use Rattle.std.proofs.lemmas.List.Sums.{prefix_len-le-length}
-use Rattle.rip_values.specs.Units.{is_hex_digit, begins}
+use Rattle.rip_base.specs.Units.{is_hex_digit, begins}
 use Rattle.rip_grammar.specs.declared.word.Word.TheVariants as W
 use Rattle.rip_grammar.specs.Words.{is_name}
 use Rattle.rip_lexer.specs.Units.{class_of, is_digit, is_digit_class, is_name_start, is_name_start_class, is_name_unit, is_quote, is_mark, is_mark_class}

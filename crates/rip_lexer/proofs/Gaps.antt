@@ -4,7 +4,7 @@ use Rattle.std.specs.List.{prefix_len}
 use Rattle.std.proofs.lemmas.Bool.{and_parts, or_parts, or_from, cond-true, cond-false}
 use Rattle.std.proofs.lemmas.List.{append_cancel_left}
 use Rattle.std.proofs.lemmas.Option.{none-some, same_Some}
-use Rattle.rip_values.specs.Units.{begins}
+use Rattle.rip_base.specs.Units.{begins}
 use Rattle.rip_lexer.specs.Units.{class_of, is_line_end, is_blank}
 use Rattle.rip_lexer.specs.Gap.{Part, Blank, LineComment, BlockComment, holds_close, part_text, IsPart, line_in, gap_text, IsGap}
 use Rattle.rip_lexer.specs.View.{before_close, comment_of, first_part, part_count, shown, ReadsGap}

@@ -6,7 +6,7 @@ use Rattle.std.proofs.lemmas.Bool.{and_parts, and_from, and_left, or_left, or_ri
 use Rattle.std.proofs.lemmas.List.{take_at}
 use Rattle.std.proofs.lemmas.List.Sums.{prefix_len-le-length}
 use Rattle.std.proofs.lemmas.Option.{none-some}
-use Rattle.rip_values.specs.Units.{is_one_of, is_hex_digit, begins}
+use Rattle.rip_base.specs.Units.{is_one_of, is_hex_digit, begins}
 use Rattle.rip_grammar.specs.declared.word.Word.{Word}
 use Rattle.rip_grammar.specs.declared.word.Word.TheVariants as W
 use Rattle.rip_lexer.specs.Units.{class_of, is_digit, is_digit_class, is_name_unit, is_name_class, is_name_start, is_name_start_class, is_quote_class, is_mark, is_mark_class}

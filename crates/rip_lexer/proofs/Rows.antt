@@ -1,10 +1,10 @@
 -- Words of spellings, as a table of rows.
 use Rattle.std.proofs.Common.{◌≡◌, refl}
 use Rattle.std.specs.Prelude.{codes}
-use Rattle.rip_values.specs.declared.operator.BinaryOperator.TheVariants as B
-use Rattle.rip_values.specs.declared.operator.LogicalOperator.TheVariants as L
-use Rattle.rip_values.specs.declared.operator.StepOperator.TheVariants as S
-use Rattle.rip_values.specs.declared.operator.UnaryOperator.TheVariants as U
+use Rattle.rip_base.specs.declared.operator.BinaryOperator.TheVariants as B
+use Rattle.rip_base.specs.declared.operator.LogicalOperator.TheVariants as L
+use Rattle.rip_base.specs.declared.operator.StepOperator.TheVariants as S
+use Rattle.rip_base.specs.declared.operator.UnaryOperator.TheVariants as U
 use Rattle.rip_lexer.specs.declared.token.TokenKind.TheVariants as K
 use Rattle.rip_grammar.specs.declared.word.Word.TheVariants as W
 use Rattle.rip_lexer.specs.Words.{word_in, reserved_words, punctuators, long_punctuators, double_punctuators, single_punctuators}

@@ -3,10 +3,10 @@ use Rattle.std.proofs.Common.{◌≡◌, ℕ, Bool, true, false, not, ◌||◌, 
 use Rattle.std.specs.Prelude.{codes}
 use Rattle.std.proofs.lemmas.Bool.{or_cases}
 use Rattle.std.specs.Cmp.Lexicographic.{bytes_decides}
-use Rattle.rip_values.specs.declared.operator.BinaryOperator.TheVariants as B
-use Rattle.rip_values.specs.declared.operator.LogicalOperator.TheVariants as L
-use Rattle.rip_values.specs.declared.operator.StepOperator.TheVariants as S
-use Rattle.rip_values.specs.declared.operator.UnaryOperator.TheVariants as U
+use Rattle.rip_base.specs.declared.operator.BinaryOperator.TheVariants as B
+use Rattle.rip_base.specs.declared.operator.LogicalOperator.TheVariants as L
+use Rattle.rip_base.specs.declared.operator.StepOperator.TheVariants as S
+use Rattle.rip_base.specs.declared.operator.UnaryOperator.TheVariants as U
 use Rattle.rip_lexer.specs.declared.token.TokenKind.TheVariants as K
 use Rattle.rip_lexer.specs.Words.{is_among, look_up, punctuators, long_punctuators, double_punctuators, single_punctuators, reserved_words, word_in}
 use Rattle.rip_lexer.proofs.Spellings.{among_all}

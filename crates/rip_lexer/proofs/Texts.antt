@@ -2,7 +2,7 @@
 use Rattle.std.proofs.Common.{◌≡◌, ◌≢◌, get_or, ℕ, zero, suc, ◌+◌, Bool, true, false, not, ◌||◌, ◌&&◌, ◌==◌, cond, List, [], ◌∷◌, length, drop, Option, Some, None, refl, sym, ap, ◌∙◌, subst, ⊎_elim, arith, eqb-true}
 use Rattle.std.proofs.lemmas.Bool.{and_parts, and_left, or_parts, or_from, or_cases, not-true, cond-true, cond-false, cond_both, false≢true}
 use Rattle.std.proofs.lemmas.Option.{none-some, same_Some}
-use Rattle.rip_values.specs.Units.{is_hex_digit, begins}
+use Rattle.rip_base.specs.Units.{is_hex_digit, begins}
 use Rattle.rip_lexer.specs.Units.{class_of, is_quote, is_digit, is_digit_class, is_line_end, is_line_end_class}
 use Rattle.rip_lexer.specs.Text.{spell, begins_hex, is_refused, IsCharacter, width, fault_at, option_or, refused_in, spell_all, AreCharacters, ends_text}
 use Rattle.rip_lexer.specs.Fault.{fault}

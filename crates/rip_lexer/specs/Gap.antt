@@ -2,7 +2,7 @@
 -- is `/`, 42 is `*`.
 use Rattle.std.specs.Prelude.{◌≡◌, ℕ, Bool, true, false, not, ◌||◌, ◌&&◌, ◌==◌, List, [], ◌∷◌, ◌++◌}
 use Rattle.std.specs.List.{list_any, list_all}
-use Rattle.rip_values.specs.Units.{begins}
+use Rattle.rip_base.specs.Units.{begins}
 use Rattle.rip_lexer.specs.Units.{is_line_end, is_blank}
 
 -- a part of a gap: one unit, or a comment with the units of its body

@@ -3,7 +3,7 @@
 use Rattle.std.specs.Prelude.{ℕ, Bool, false, not, ◌||◌, ◌&&◌, ◌==◌, nat_lt, if◌then◌else◌, List, [], ◌∷◌, length, drop, Option, Some, None}
 use Rattle.std.specs.List.{list_all, prefix_len}
 use Rattle.std.specs.Str.Parse.{digits_value}
-use Rattle.rip_values.specs.Units.{is_one_of, is_hex_digit, begins}
+use Rattle.rip_base.specs.Units.{is_one_of, is_hex_digit, begins}
 use Rattle.rip_lexer.specs.Units.{is_digit, is_name_unit}
 use Rattle.rip_lexer.specs.Fault.{fault}
 use Rattle.rip_lexer.specs.declared.refusal.Fault.{Fault}

@@ -1,7 +1,7 @@
 -- Texts, character by character, and the units that they stand for (ECMA-262 7.8.4). Units by number: 92 is `\`,
 -- 48 `0`, 120 `x`, 117 `u`, 13 and 10 are CR and LF.
 use Rattle.std.specs.Prelude.{◌≡◌, ℕ, zero, suc, ◌+◌, ◌*◌, Bool, true, false, not, ◌||◌, ◌&&◌, ◌==◌, if◌then◌else◌, List, [], ◌∷◌, Option, Some, None, filter_map}
-use Rattle.rip_values.specs.Units.{is_between, is_hex_digit, hex_value, begins}
+use Rattle.rip_base.specs.Units.{is_between, is_hex_digit, hex_value, begins}
 use Rattle.rip_lexer.specs.Units.{class_of, is_digit, is_line_end}
 use Rattle.rip_lexer.specs.declared.units.UnitClass.TheVariants.{Quote}
 use Rattle.rip_lexer.specs.declared.character.Character.{Character}

@@ -2,7 +2,7 @@
 use Rattle.std.specs.Prelude.{◌≡◌, ℕ, ◌+◌, ◌<◌, ◌≤◌, true, false, ◌&&◌, if◌then◌else◌, List, [], ◌∷◌, ◌++◌, length, take, drop, Option, Some, None, Result, Ok, Err, ◌⊎◌, codes}
 use Rattle.std.specs.Str.{bytes_eq}
 use Rattle.std.specs.List.{list_any}
-use Rattle.rip_values.specs.Units.{begins}
+use Rattle.rip_base.specs.Units.{begins}
 use Rattle.rip_lexer.specs.Units.{class_of, is_digit}
 use Rattle.rip_lexer.specs.Words.{is_word, is_among, reserved_words, punctuators, word_in}
 use Rattle.rip_lexer.specs.Numeral.{is_numeral, numeral_fault, numeral_value}

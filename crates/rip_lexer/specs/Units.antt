@@ -1,8 +1,8 @@
 -- The units of a script, each of one class (ECMA-262 6, 7.2, 7.3, 7.6, 7.7, 7.8). Units by number: 48 to 57 are the
 -- decimal digits, 65 to 90 and 97 to 122 the letters.
 use Rattle.std.specs.Prelude.{ℕ, Bool, true, false, ◌||◌, if◌then◌else◌, [], ◌∷◌, codes}
-use Rattle.rip_values.specs.Blank as Blank
-use Rattle.rip_values.specs.Units.{is_between, is_one_of}
+use Rattle.rip_base.specs.Blank as Blank
+use Rattle.rip_base.specs.Units.{is_between, is_one_of}
 use Rattle.rip_lexer.specs.declared.units.UnitClass.{UnitClass}
 use Rattle.rip_lexer.specs.declared.units.UnitClass.TheVariants.{NameStart, Digit, LineEnd, White, Quote, Mark, Other}
 

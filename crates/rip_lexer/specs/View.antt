@@ -2,7 +2,7 @@
 -- the relations of the other files is proved, and no public clause cites them.
 use Rattle.std.specs.Prelude.{◌≡◌, ℕ, ◌+◌, ◌≤◌, Bool, true, false, not, ◌||◌, ◌&&◌, ◌==◌, if◌then◌else◌, List, [], ◌∷◌, ◌++◌, length, Option, Some, None, option_map, take_while}
 use Rattle.std.specs.List.{list_any, prefix_len}
-use Rattle.rip_values.specs.Units.{is_one_of, is_hex_digit, begins}
+use Rattle.rip_base.specs.Units.{is_one_of, is_hex_digit, begins}
 use Rattle.rip_grammar.specs.declared.word.Word.{Word}
 use Rattle.rip_grammar.specs.declared.word.Word.TheVariants as W
 use Rattle.rip_lexer.specs.Words.{Entry, word_in}

@@ -7,7 +7,7 @@ use crate::ascii::{
     SMALL_V, SMALL_X, ZERO,
 };
 use crate::units::{begins_with_digit, is_digit, is_line_end};
-use rip_values::{hex_value, is_hex_digit};
+use rip_base::{hex_value, is_hex_digit};
 
 /// A character of a text, as it is spelled between the quotes (ECMA-262 7.8.4).
 #[derive(Clone, Copy, Debug, PartialEq, Eq)]

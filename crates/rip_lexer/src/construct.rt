@@ -1,5 +1,5 @@
 ghost use Rattle.std.specs.Prelude.{◌≡◌, ◌≤◌, None, IsTrue, IfSome, bytes_eq, codes, length};
-ghost use Rattle.rip_values.specs.Units.{begins};
+ghost use Rattle.rip_base.specs.Units.{begins};
 ghost use Rattle.rip_grammar.specs.Words.{is_name};
 ghost use Rattle.rip_lexer.specs.Fault.{fault};
 ghost use Rattle.rip_lexer.specs.Gap.{begins_comment};

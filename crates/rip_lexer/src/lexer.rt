@@ -6,7 +6,7 @@ use crate::construct::{Construct, first_construct};
 use crate::gap::longest_gap;
 use crate::refusal::LexRefusal;
 use crate::token::{Token, Tokens};
-use rip_values::List;
+use rip_base::List;
 use std::alloc::Global;
 
 /// The tokens of a script, or the first construct of it that is refused (ECMA-262 7). A script whose places 32 bits

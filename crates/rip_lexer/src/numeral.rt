@@ -1,12 +1,12 @@
 ghost use Rattle.std.specs.Prelude.{◌≡◌, ◌≤◌, ◌↔◌, [], ◌∷◌, length, pos, IsSome, IfSome};
-ghost use Rattle.rip_values.specs.Units.{begins, is_one_of};
+ghost use Rattle.rip_base.specs.Units.{begins, is_one_of};
 ghost use Rattle.rip_lexer.specs.Numeral.{numeral_fault, numeral_value, has_prefix};
 ghost use Rattle.rip_lexer.specs.View.{numeral_count};
 
 use crate::ascii::{CAPITAL_E, CAPITAL_X, POINT, SMALL_E, SMALL_X, ZERO};
 use crate::refusal::{Fault, LexKind};
 use crate::units::{begins_with_digit, begins_with_name_unit, digit_count, hex_digit_count};
-use rip_values::{Whole, digits_value};
+use rip_base::{Whole, digits_value};
 
 /// How many units the longest numeral has that the units begin with (ECMA-262 7.8.3).
 pub(crate) fn numeral_count(units: &[u16]) -> usize

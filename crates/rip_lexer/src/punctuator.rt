@@ -12,8 +12,8 @@ use crate::ascii::{
     EXCLAMATION, GREATER, LESS, MINUS, OPEN_BRACE, OPEN_BRACKET, OPEN_PARENTHESIS, PERCENT, PLUS,
     POINT, QUESTION, SEMICOLON, SLASH, STAR, TILDE,
 };
+use rip_base::{BinaryOperator, LogicalOperator, StepOperator, UnaryOperator};
 use rip_grammar::Word;
-use rip_values::{BinaryOperator, LogicalOperator, StepOperator, UnaryOperator};
 
 /// How many units the longest punctuator has that the units begin with (ECMA-262 7.7), and its word; no units where there
 /// is none.

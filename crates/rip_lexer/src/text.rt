@@ -1,12 +1,12 @@
 ghost use Rattle.std.specs.Prelude.{◌≡◌, ◌==◌, ◌≤◌, ◌++◌, ℕ, List, IfSome, IsTrue, OnOk, OnErr, length, option_to_list};
-ghost use Rattle.rip_values.specs.Units.{begins};
+ghost use Rattle.rip_base.specs.Units.{begins};
 ghost use Rattle.rip_lexer.specs.Units.{is_quote};
 ghost use Rattle.rip_lexer.specs.Text.{refused_kind, fault_at, option_or, StandsFor};
 ghost use Rattle.rip_lexer.specs.View.{ReadsEnd};
 
 use crate::character::{Character, first_character};
 use crate::refusal::{Fault, LexKind};
-use rip_values::NoMemory;
+use rip_base::NoMemory;
 
 /// How a text ends.
 #[derive(Clone, Copy, Debug, PartialEq, Eq)]

@@ -1,5 +1,5 @@
+use rip_base::List;
 use rip_grammar::Word;
-use rip_values::List;
 
 /// The kinds of token of a script.
 #[derive(Clone, Copy, Debug, PartialEq, Eq, Hash)]

@@ -1,9 +1,9 @@
 ghost use Rattle.std.specs.Prelude.{◌≡◌, ◌≤◌, length, not};
 ghost use Rattle.std.specs.List.{prefix_len};
-ghost use Rattle.rip_values.specs.Units.{begins, is_hex_digit};
+ghost use Rattle.rip_base.specs.Units.{begins, is_hex_digit};
 ghost use Rattle.rip_lexer.specs.Units.{class_of, is_digit, is_name_unit, is_line_end, is_blank};
 
-use rip_values::{is_hex_digit, is_line_end as ends_line, is_white_space};
+use rip_base::{is_hex_digit, is_line_end as ends_line, is_white_space};
 
 /// What a unit of a script may begin.
 #[derive(Clone, Copy, Debug, PartialEq, Eq)]

@@ -3,8 +3,8 @@ ghost use Rattle.rip_grammar.specs.declared.word.Word.TheVariants as W;
 ghost use Rattle.rip_lexer.specs.Words.{look_up, reserved_words};
 ghost use Rattle.rip_lexer.specs.View.{of_length};
 
+use rip_base::{BinaryOperator, UnaryOperator, is_ascii};
 use rip_grammar::Word;
-use rip_values::{BinaryOperator, UnaryOperator, is_ascii};
 
 /// The word of a name or a reserved word (ECMA-262 7.6.1).
 pub(crate) fn name_word(spelling: &[u16]) -> Word

@@ -10,10 +10,10 @@ use Rattle.json.specs.Print.{escape_letter, escape_byte, escape, quoted, token_t
 use Rattle.json.specs.Token as token
 use Rattle.serde_json.specs.Written.{number_text, comma_if, compact_text, items_text, members_text}
 use Rattle.uuid.specs.Text.{by_index, hyphen, hex_digit, lower, nibble, digit_place, is_hyphen_place}
-use Rattle.rip_values.specs.Whole.{IsWhole}
+use Rattle.rip_base.specs.Whole.{IsWhole}
 use Rattle.rip_data.specs.Datum.{Tree, Elements, no_elements, element, Fields, no_fields, field, utf8_of, number_of_whole, data_of, items_of, members_of, IsDatum, AreData, HaveData}
 use Rattle.rip_data.specs.Datum as tree
-use Rattle.rip_numerals.proofs.Numerals.{decimal_passes}
+use Rattle.rip_words.proofs.NumeralsLemmas.{decimal_passes}
 use Rattle.rip_log.specs.Parts.{identifier_text}
 use Rattle.rip_log.specs.Words.{place_after, ends_word, with_first, words_from, words}
 use Rattle.rip_log.specs.declared.words.Place.{Place}

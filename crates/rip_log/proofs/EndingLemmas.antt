@@ -1,10 +1,10 @@
 -- How a batch ended, told by the words.
 use Rattle.std.proofs.Common.{◌≡◌, ◌≢◌, ℕ, ◌<◌, ◌^◌, List, [], ◌∷◌, cond, bytes_eq, codes, decimal, Option, Some, None, refl, sym, ap, subst, ◌∙◌, arith}
-use Rattle.rip_values.specs.declared.report.BadReport.{BadReport}
-use Rattle.rip_values.specs.declared.value.Limit.{Limit}
-use Rattle.rip_values.specs.declared.value.Limit.TheVariants as L
-use Rattle.rip_values.specs.declared.value.Fault.{Fault}
-use Rattle.rip_values.specs.declared.value.Fault.TheVariants as F
+use Rattle.rip_base.specs.declared.report.BadReport.{BadReport}
+use Rattle.rip_base.specs.declared.value.Limit.{Limit}
+use Rattle.rip_base.specs.declared.value.Limit.TheVariants as L
+use Rattle.rip_base.specs.declared.value.Fault.{Fault}
+use Rattle.rip_base.specs.declared.value.Fault.TheVariants as F
 use Rattle.rip_wire.specs.Calls.{IsCallText}
 use Rattle.rip_wire.specs.Reasons.{limit_reason, fault_reason, reason_word}
 use Rattle.rip_wire.specs.declared.ending.Ending.{Ending}

@@ -2,12 +2,12 @@
 use Rattle.std.proofs.Common.{◌≡◌, ◌≢◌, ℕ, suc, ◌<◌, ◌^◌, ◌==◌, ◌||◌, List, [], ◌∷◌, ◌++◌, Bool, true, false, cond, length, codes, decimal, Option, Some, None, inl, inr, refl, sym, ap, subst, ◌∙◌, arith, append_assoc, length-append}
 use Rattle.std.specs.List.{join_with_byte, AllByRecursion}
 use Rattle.serde_json.specs.Written.{compact_text}
-use Rattle.rip_values.specs.declared.report.BadReport.{BadReport}
-use Rattle.rip_values.specs.declared.report.BadReport.TheVariants as B
-use Rattle.rip_values.specs.declared.value.Limit.{Limit}
-use Rattle.rip_values.specs.declared.value.Limit.TheVariants as L
-use Rattle.rip_values.specs.declared.value.Fault.{Fault}
-use Rattle.rip_values.specs.declared.value.Fault.TheVariants as F
+use Rattle.rip_base.specs.declared.report.BadReport.{BadReport}
+use Rattle.rip_base.specs.declared.report.BadReport.TheVariants as B
+use Rattle.rip_base.specs.declared.value.Limit.{Limit}
+use Rattle.rip_base.specs.declared.value.Limit.TheVariants as L
+use Rattle.rip_base.specs.declared.value.Fault.{Fault}
+use Rattle.rip_base.specs.declared.value.Fault.TheVariants as F
 use Rattle.rip_data.specs.Datum as tree
 use Rattle.rip_wire.specs.Batches.{items_text, AreItems}
 use Rattle.rip_wire.specs.Calls.{IsCallText}

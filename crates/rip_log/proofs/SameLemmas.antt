@@ -1,11 +1,11 @@
 -- Two entries with the same words are equal.
 use Rattle.std.proofs.Common.{◌≡◌, ℕ, ◌<◌, ◌^◌, List, [], ◌∷◌, cond, bytes_eq, codes, decimal, get_or, Option, Some, None, refl, sym, ap, ◌∙◌, arith}
-use Rattle.rip_values.specs.declared.report.BadReport.{BadReport}
-use Rattle.rip_values.specs.declared.report.BadReport.TheVariants as B
-use Rattle.rip_values.specs.declared.value.Limit.{Limit}
-use Rattle.rip_values.specs.declared.value.Limit.TheVariants as L
-use Rattle.rip_values.specs.declared.value.Fault.{Fault}
-use Rattle.rip_values.specs.declared.value.Fault.TheVariants as F
+use Rattle.rip_base.specs.declared.report.BadReport.{BadReport}
+use Rattle.rip_base.specs.declared.report.BadReport.TheVariants as B
+use Rattle.rip_base.specs.declared.value.Limit.{Limit}
+use Rattle.rip_base.specs.declared.value.Limit.TheVariants as L
+use Rattle.rip_base.specs.declared.value.Fault.{Fault}
+use Rattle.rip_base.specs.declared.value.Fault.TheVariants as F
 use Rattle.rip_data.specs.Datum.{Tree, data_of}
 use Rattle.rip_data.specs.Datum as tree
 use Rattle.rip_data.proofs.TextLaws.{canonical_text-one}

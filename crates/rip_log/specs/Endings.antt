@@ -1,7 +1,7 @@
 -- How batches ended, as a log says it.
 use Rattle.std.specs.Prelude.{◌∷◌, ℕ, List, [], codes, decimal, Option, Some, None, ⊤}
-use Rattle.rip_values.specs.declared.report.BadReport.{BadReport}
-use Rattle.rip_values.specs.declared.report.BadReport.TheVariants as B
+use Rattle.rip_base.specs.declared.report.BadReport.{BadReport}
+use Rattle.rip_base.specs.declared.report.BadReport.TheVariants as B
 use Rattle.rip_wire.specs.Reasons.{limit_reason, fault_reason, reason_word}
 use Rattle.rip_wire.specs.declared.ending.Ending.{Ending}
 use Rattle.rip_wire.specs.declared.ending.Ending.TheVariants as E

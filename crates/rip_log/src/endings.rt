@@ -1,8 +1,8 @@
 //! How a batch ended, read of the words of its line.
 ghost use Rattle.std.specs.Prelude.{◌≡◌, ◌≢◌, ◌∷◌, [], ◌<◌, ◌^◌, ℕ, List as Sequence, Option as Maybe, Some, None, decimal, codes, IsNone, IsSome, IfSome, IfOk, IsErrOf};
-ghost use Rattle.rip_values.specs.declared.report.BadReport.{BadReport as Kind};
-ghost use Rattle.rip_values.specs.declared.value.Limit.{Limit as AnyLimit};
-ghost use Rattle.rip_values.specs.declared.value.Fault.{Fault as AnyFault};
+ghost use Rattle.rip_base.specs.declared.report.BadReport.{BadReport as Kind};
+ghost use Rattle.rip_base.specs.declared.value.Limit.{Limit as AnyLimit};
+ghost use Rattle.rip_base.specs.declared.value.Fault.{Fault as AnyFault};
 ghost use Rattle.rip_wire.specs.Calls.{IsCallText};
 ghost use Rattle.rip_wire.specs.Reasons.{limit_reason, fault_reason, reason_word};
 ghost use Rattle.rip_wire.specs.declared.ending.Ending.{Ending as How};
@@ -12,7 +12,7 @@ ghost use Rattle.rip_log.specs.Ranges.{IsEnding, IsNoneOrEnding};
 
 use crate::parts::call_text_in;
 use crate::words::{Words, is_word};
-use rip_values::{BadReport, Bytes, Fault, Limit};
+use rip_base::{BadReport, Bytes, Fault, Limit};
 use rip_wire::{Ending, LineError};
 use std::alloc::Global;
 

@@ -1,5 +1,5 @@
+use rip_base::{List, Units};
 use rip_data::{Datum, DatumList};
-use rip_values::{List, Units};
 use rip_wire::{Batch, Ending};
 
 /// One event of a run. Turns are numbered from 1, and so are sessions, in the order of their opening; moments are

@@ -10,11 +10,11 @@ ghost use Rattle.rip_wire.specs.Names.{IsName};
 ghost use Rattle.rip_log.specs.Parts.{identifier_text, name_text, args_text, IsReply};
 
 use crate::words::is_word;
+use rip_base::{Bytes, Units};
 use rip_data::{
     DataError, Datum, DatumList, MAX_DEPTH, MAX_LENGTH, datum_of, datum_size, read_value,
     write_datum,
 };
-use rip_values::{Bytes, Units};
 use rip_wire::{ItemList, LineError, WireError, is_name, read_call, read_item_list};
 use std::alloc::Global;
 use uuid::Uuid;

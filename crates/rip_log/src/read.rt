@@ -9,7 +9,7 @@ use crate::entry::{Entries, Entry};
 use crate::error::LogRefusal;
 use crate::kinds::entry_of;
 use crate::words::Words;
-use rip_values::List;
+use rip_base::List;
 use rip_wire::LineError;
 use std::alloc::Global;
 

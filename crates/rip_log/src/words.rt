@@ -3,7 +3,7 @@ ghost use Rattle.std.specs.Prelude.{◌≡◌, ◌≢◌, ◌↔◌, ◌<◌, �
 ghost use Rattle.std.specs.Bool.{OnTrue, OnFalse};
 ghost use Rattle.rip_log.specs.Words.{place_after, ends_word, words};
 
-use rip_numerals::read_number;
+use rip_words::numerals::read_number;
 use std::marker::Model;
 
 /// Where a reader of a line stands: outside of the texts of its JSON, in one, or behind a backslash in one.

@@ -9,8 +9,8 @@ ghost use Rattle.rip_log.specs.Endings.{report_word, made_word, ending_words};
 ghost use Rattle.rip_log.specs.Entries.{admitted, opened, served, done, closed, ended, recorded_of, entry_words, entry_text};
 
 use crate::entry::Entry;
+use rip_base::{BadReport, Bytes, NoMemory, Units, Writer};
 use rip_data::{Datum, DatumList, write_datum, write_list};
-use rip_values::{BadReport, Bytes, NoMemory, Units, Writer};
 use rip_wire::{Batch, Ending, write_item_list};
 use std::alloc::{AllocError, Global};
 use uuid::Uuid;

@@ -1,29 +1,29 @@
 -- What a start answers, once it is known what it comes to.
 use Rattle.std.proofs.Common.{◌≡◌, ℕ, ◌==◌, if◌then◌else◌, Bool, true, false, List, [], Some, Result, Ok, Err, refl, ap, sym, ◌∙◌, subst}
 use Rattle.std.proofs.lemmas.Bool.{ne_eqb}
-use Rattle.rip_values.specs.declared.value.Limit.TheVariants.{Depth}
-use Rattle.rip_values.specs.declared.value.Refused.{Refused}
-use Rattle.rip_values.specs.declared.value.Refused.TheVariants.{Limit as At, Memory as NoRoom}
-use Rattle.rip_values.specs.declared.value.Span.{Span}
-use Rattle.rip_values.specs.declared.value.Value.{Value}
+use Rattle.rip_base.specs.declared.value.Limit.TheVariants.{Depth}
+use Rattle.rip_base.specs.declared.value.Refused.{Refused}
+use Rattle.rip_base.specs.declared.value.Refused.TheVariants.{Limit as At, Memory as NoRoom}
+use Rattle.rip_base.specs.declared.value.Span.{Span}
+use Rattle.rip_base.specs.declared.value.Value.{Value}
 use Rattle.rip_heap.specs.World.{World}
-use Rattle.rip_runs.specs.declared.completion.Stop.TheVariants.{Limit as AtLimit}
-use Rattle.rip_runs.specs.declared.frame.Ending.TheVariants.{Call as CallEnding}
-use Rattle.rip_runs.specs.declared.next.Next.{Next}
-use Rattle.rip_runs.specs.declared.next.Next.TheVariants.{End, Halt, Ask, Keep, Turn, Call}
-use Rattle.rip_runs.specs.declared.part.Part.{Part}
-use Rattle.rip_runs.specs.Frame.{inner, inside, waiting}
-use Rattle.rip_runs.specs.Law.{Begins, Standing as Run}
-use Rattle.rip_runs.specs.Rest.{as_row}
-use Rattle.rip_runs.specs.Row.{Asks, Halts, Row, Table}
-use Rattle.rip_runs.specs.Run.{world_at}
-use Rattle.rip_runs.specs.Stack.{Open, framed}
-use Rattle.rip_language.specs.declared.callee.Invocable.{Invocable}
-use Rattle.rip_language.specs.declared.callee.Invocable.TheVariants.{OfScript}
+use Rattle.rip_eval_rows.specs.declared.completion.Stop.TheVariants.{Limit as AtLimit}
+use Rattle.rip_eval_rows.specs.declared.frame.Ending.TheVariants.{Call as CallEnding}
+use Rattle.rip_eval_rows.specs.declared.next.Next.{Next}
+use Rattle.rip_eval_rows.specs.declared.next.Next.TheVariants.{End, Halt, Ask, Keep, Turn, Call}
+use Rattle.rip_eval_rows.specs.declared.part.Part.{Part}
+use Rattle.rip_eval_rows.specs.Frame.{inner, inside, waiting}
+use Rattle.rip_eval_rows.specs.Law.{Begins, Standing as Run}
+use Rattle.rip_eval_rows.specs.Rest.{as_row}
+use Rattle.rip_eval_rows.specs.Row.{Asks, Halts, Row, Table}
+use Rattle.rip_eval_rows.specs.Run.{world_at}
+use Rattle.rip_eval_rows.specs.Stack.{Open, framed}
+use Rattle.rip_eval_language.specs.declared.callee.Invocable.{Invocable}
+use Rattle.rip_eval_language.specs.declared.callee.Invocable.TheVariants.{OfScript}
 use Rattle.rip_machine.specs.Law.{Starts, StartsRun, standing}
-use Rattle.rip_language.specs.Reading.{Loaded}
-use Rattle.rip_language.specs.Rows.Functions.{body, function_entered}
-use Rattle.rip_language.specs.Rows.Statements.{statements}
+use Rattle.rip_eval_language.specs.Reading.{Loaded}
+use Rattle.rip_eval_language.specs.Rows.Functions.{body, function_entered}
+use Rattle.rip_eval_language.specs.Rows.Statements.{statements}
 use Rattle.rip_machine.specs.Starting.{Beginning, Runs, call_begun, function_begun, function_part}
 
 -- the call of a function of the script runs its statements

@@ -4,7 +4,7 @@ use Rattle.std.proofs.lemmas.List.Sums.{sum_by-cons, sum_by-take-drop}
 use Rattle.std.proofs.lemmas.List.FromFn.{length-map-range_with_len, map-range_with_len_more}
 use Rattle.std.proofs.lemmas.Grind.{common_steps, flat_map-append}
 use Rattle.std.specs.List.{flat_map, range_with_len, sum_by}
-use Rattle.rip_values.specs.declared.value.Span.{Span}
+use Rattle.rip_base.specs.declared.value.Span.{Span}
 use Rattle.rip_heap.specs.World.{World}
 use Rattle.rip_values.specs.Pool.{KeepsTexts, Texts, with_text}
 use Rattle.rip_tree.specs.declared.form.Form.{Form}
@@ -13,7 +13,7 @@ use Rattle.rip_tree.specs.Branches.{Branch, links_of, node_of}
 use Rattle.rip_tree.specs.Firsts.{first_named, first_with, name_at, name_of}
 use Rattle.rip_tree.specs.Program.{Code, Grove}
 use Rattle.rip_machine.specs.Loading.{StandsIfAny, TextsStand, form_cost, form_text, name_span, node_cost, own_span, own_text, start_of_text, put_text, span_of, texts_before, with_form}
-use Rattle.rip_language.specs.Reading.{form_in}
+use Rattle.rip_eval_language.specs.Reading.{form_in}
 
 -- the branches from this one on
 pub branches_from : (bs : List Branch) (id : ℕ) (node : Node) → node_of bs id ≡ Some node → drop id bs ≡ record { node = node; children = links_of bs id } ∷ drop (id + 1) bs

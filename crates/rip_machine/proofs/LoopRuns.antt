@@ -2,16 +2,16 @@
 use Rattle.std.proofs.Common.{◌≡◌, ℕ, Bool, true, false, if◌then◌else◌, Option, None, Some, refl, sym, ◌∙◌}
 use Rattle.rip_heap.specs.Conversions.{boolean_of}
 use Rattle.rip_heap.specs.World.{World}
-use Rattle.rip_runs.specs.declared.completion.Completion.{Completion}
-use Rattle.rip_runs.specs.declared.completion.Completion.TheVariants.{Normal, Thrown, Returned, Broken, Continued, Referred, Method}
-use Rattle.rip_runs.specs.declared.part.Part.{Part}
-use Rattle.rip_runs.specs.Row.{Row, Asks, Again, Table}
-use Rattle.rip_runs.specs.Run.{Answer, Completes, Stops, Cuts, Calling, ev, follow, run}
-use Rattle.rip_runs.specs.Stack.{Open}
-use Rattle.rip_runs.proofs.Runs.{run-again, run-asks}
-use Rattle.rip_language.specs.Reading.{Loaded, child_at}
-use Rattle.rip_language.specs.Rows.Statements.{do_row, done, for_statement, for_turn_by, for_update_by, goes_on, tested, while_row}
-use Rattle.rip_language.specs.Table.{table}
+use Rattle.rip_eval_rows.specs.declared.completion.Completion.{Completion}
+use Rattle.rip_eval_rows.specs.declared.completion.Completion.TheVariants.{Normal, Thrown, Returned, Broken, Continued, Referred, Method}
+use Rattle.rip_eval_rows.specs.declared.part.Part.{Part}
+use Rattle.rip_eval_rows.specs.Row.{Row, Asks, Again, Table}
+use Rattle.rip_eval_rows.specs.Run.{Answer, Completes, Stops, Cuts, Calling, ev, follow, run}
+use Rattle.rip_eval_rows.specs.Stack.{Open}
+use Rattle.rip_eval_rows.proofs.Runs.{run-again, run-asks}
+use Rattle.rip_eval_language.specs.Reading.{Loaded, child_at}
+use Rattle.rip_eval_language.specs.Rows.Statements.{do_row, done, for_statement, for_turn_by, for_update_by, goes_on, tested, while_row}
+use Rattle.rip_eval_language.specs.Table.{table}
 use Rattle.rip_machine.specs.Turns.{LoopsAreTheirRows, do_loop, for_stated, for_tested, for_updated, while_loop}
 
 follow_same : {S : Type 0} (answer : Answer S) (f g : Completion → ℕ → World → S → Answer S) → ((c : Completion) (u : ℕ) (w : World) (s : S) → f c u w s ≡ g c u w s) → follow answer f ≡ follow answer g

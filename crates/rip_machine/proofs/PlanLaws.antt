@@ -1,27 +1,27 @@
 -- The machine as plans see it.
 use Rattle.std.proofs.Common.{◌≡◌, ℕ, ◌+◌, ◌-◌, ◌≤◌, min, Option, None, Some, Result, Ok, Err, refl, ap, sym, ◌∙◌, arith}
-use Rattle.rip_values.specs.declared.value.Refused.{Refused}
-use Rattle.rip_values.specs.declared.value.Refused.TheVariants.{Limit as At, Memory as NoRoom}
+use Rattle.rip_base.specs.declared.value.Refused.{Refused}
+use Rattle.rip_base.specs.declared.value.Refused.TheVariants.{Limit as At, Memory as NoRoom}
 use Rattle.rip_heap.specs.World.{World}
-use Rattle.rip_runs.specs.declared.completion.Completion.{Completion}
-use Rattle.rip_runs.specs.declared.completion.Completion.TheVariants.{Normal, Thrown as ThrownCompletion, Returned, Broken, Continued, Referred, Method}
-use Rattle.rip_runs.specs.declared.completion.Stop.{Stop}
-use Rattle.rip_runs.specs.declared.completion.Stop.TheVariants.{Fault as AtFault, Limit as AtLimit}
-use Rattle.rip_runs.specs.declared.evaluator.Advance.TheVariants.{Paused}
-use Rattle.rip_runs.specs.Evaluation.{Advances, Begins, Passes, Breaks, Pauses, Reached, reached}
-use Rattle.rip_runs.specs.Row.{Table}
-use Rattle.rip_runs.specs.Run.{Answer, Completes, Stops, Cuts, Calling}
-use Rattle.rip_runs.specs.Started.{Started}
+use Rattle.rip_eval_rows.specs.declared.completion.Completion.{Completion}
+use Rattle.rip_eval_rows.specs.declared.completion.Completion.TheVariants.{Normal, Thrown as ThrownCompletion, Returned, Broken, Continued, Referred, Method}
+use Rattle.rip_eval_rows.specs.declared.completion.Stop.{Stop}
+use Rattle.rip_eval_rows.specs.declared.completion.Stop.TheVariants.{Fault as AtFault, Limit as AtLimit}
+use Rattle.rip_eval_rows.specs.declared.evaluator.Advance.TheVariants.{Paused}
+use Rattle.rip_eval_rows.specs.Evaluation.{Advances, Begins, Passes, Breaks, Pauses, Reached, reached}
+use Rattle.rip_eval_rows.specs.Row.{Table}
+use Rattle.rip_eval_rows.specs.Run.{Answer, Completes, Stops, Cuts, Calling}
+use Rattle.rip_eval_rows.specs.Started.{Started}
 use Rattle.rip_tree.specs.Program.{Code}
-use Rattle.rip_runs.specs.declared.outcome.Outcome.{Outcome}
-use Rattle.rip_runs.specs.declared.outcome.Outcome.TheVariants.{Value as Gives, Thrown, Fault, Limit as PastLimit, Memory}
-use Rattle.rip_runs.specs.declared.outcome.Turned.TheVariants.{More, Done}
-use Rattle.rip_runs.specs.Law.{end_of, further, outcome_of, stop_outcome}
+use Rattle.rip_eval_rows.specs.declared.outcome.Outcome.{Outcome}
+use Rattle.rip_eval_rows.specs.declared.outcome.Outcome.TheVariants.{Value as Gives, Thrown, Fault, Limit as PastLimit, Memory}
+use Rattle.rip_eval_rows.specs.declared.outcome.Turned.TheVariants.{More, Done}
+use Rattle.rip_eval_rows.specs.Law.{end_of, further, outcome_of, stop_outcome}
 use Rattle.rip_machine.specs.Law.{Ends, Resumes, Standing, Starts, left, loaded, open_depth}
 use Rattle.rip_machine.specs.Plans.{advance_of, evaluation}
 use Rattle.rip_machine.specs.Run.{run_begun, run_from}
 use Rattle.rip_machine.specs.Starting.{begun_by}
-use Rattle.rip_language.specs.Table.{table}
+use Rattle.rip_eval_language.specs.Table.{table}
 use Rattle.rip_machine.proofs.WholeRuns.{runs_on}
 
 -- another machine with these literals and this depth reads the program alike

@@ -1,9 +1,9 @@
 -- A run that a plan begins has room where there was room for its fuel.
 use Rattle.std.proofs.Common.{◌≡◌, ℕ, ◌+◌, ◌≤◌, Result, Ok, Err, OnOk, sym, subst, arith}
-use Rattle.rip_values.specs.declared.value.Refused.{Refused}
-use Rattle.rip_values.specs.declared.value.Refused.TheVariants.{Limit as At, Memory as NoRoom}
+use Rattle.rip_base.specs.declared.value.Refused.{Refused}
+use Rattle.rip_base.specs.declared.value.Refused.TheVariants.{Limit as At, Memory as NoRoom}
 use Rattle.rip_heap.specs.World.{World}
-use Rattle.rip_runs.specs.Row.{Table}
+use Rattle.rip_eval_rows.specs.Row.{Table}
 use Rattle.rip_machine.specs.Law.{Standing, Starts, values_of}
 use Rattle.rip_machine.specs.Plans.{HasRoom}
 use Rattle.rip_machine.specs.Starting.{Beginning}

@@ -1,23 +1,23 @@
 -- A run that was started and went on to its end is the whole run of its start.
 use Rattle.std.proofs.Common.{◌≡◌, ℕ, ◌+◌, ◌-◌, ◌≤◌, min, Bool, true, false, Some, ap, sym, ◌∙◌, arith}
 use Rattle.std.proofs.lemmas.Bool.{le-leb}
-use Rattle.rip_values.specs.declared.value.Limit.{Limit}
+use Rattle.rip_base.specs.declared.value.Limit.{Limit}
 use Rattle.rip_heap.specs.World.{World}
-use Rattle.rip_runs.specs.Cut.{conclude}
-use Rattle.rip_runs.specs.Row.{Table}
-use Rattle.rip_runs.specs.Run.{Answer, Completes, Stops, Cuts, Calling}
-use Rattle.rip_runs.specs.Started.{Started}
-use Rattle.rip_runs.specs.Law.{end_of, further}
+use Rattle.rip_eval_rows.specs.Cut.{conclude}
+use Rattle.rip_eval_rows.specs.Row.{Table}
+use Rattle.rip_eval_rows.specs.Run.{Answer, Completes, Stops, Cuts, Calling}
+use Rattle.rip_eval_rows.specs.Started.{Started}
+use Rattle.rip_eval_rows.specs.Law.{end_of, further}
 use Rattle.rip_machine.specs.Law.{Ends, Resumes, Standing, left, open_depth, run}
-use Rattle.rip_language.specs.Reading.{Loaded}
+use Rattle.rip_eval_language.specs.Reading.{Loaded}
 use Rattle.rip_machine.specs.Run.{IsStarted, IsWhole, RunsWhole, comes_to, run_begun, run_from}
 use Rattle.rip_machine.specs.Starting.{Runs, Exceeds, begun_by}
-use Rattle.rip_language.specs.Table.{table}
-use Rattle.rip_runs.specs.declared.outcome.Outcome.{Outcome}
-use Rattle.rip_runs.specs.declared.outcome.Outcome.TheVariants.{Value as Gives, Thrown, Fault, Limit as AtLimit, Memory}
-use Rattle.rip_runs.specs.declared.outcome.Turned.{Turned}
-use Rattle.rip_runs.specs.declared.outcome.Turned.TheVariants.{More, Done}
-use Rattle.rip_runs.proofs.Resumes.{begins_whole}
+use Rattle.rip_eval_language.specs.Table.{table}
+use Rattle.rip_eval_rows.specs.declared.outcome.Outcome.{Outcome}
+use Rattle.rip_eval_rows.specs.declared.outcome.Outcome.TheVariants.{Value as Gives, Thrown, Fault, Limit as AtLimit, Memory}
+use Rattle.rip_eval_rows.specs.declared.outcome.Turned.{Turned}
+use Rattle.rip_eval_rows.specs.declared.outcome.Turned.TheVariants.{More, Done}
+use Rattle.rip_eval_rows.proofs.Resumes.{begins_whole}
 
 -- what is left after a start
 pub runs_on : {S : Type 0} (h : Calling S) (p : Loaded) (depth : ℕ) (start : Started) (w x : World) (s : S) (fuel : ℕ) (n : Standing)

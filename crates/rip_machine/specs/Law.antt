@@ -1,19 +1,19 @@
 -- What is left of a run that stands, and what `start` and `resume` leave of it.
 use Rattle.std.specs.Prelude.{◌≡◌, ℕ, List, Result, Ok, Err}
-use Rattle.rip_values.specs.declared.value.Refused.{Refused}
-use Rattle.rip_values.specs.declared.value.Refused.TheVariants.{Limit as At, Memory as NoRoom}
-use Rattle.rip_values.specs.declared.value.Span.{Span}
+use Rattle.rip_base.specs.declared.value.Refused.{Refused}
+use Rattle.rip_base.specs.declared.value.Refused.TheVariants.{Limit as At, Memory as NoRoom}
+use Rattle.rip_base.specs.declared.value.Span.{Span}
 use Rattle.rip_heap.specs.World.{World}
-use Rattle.rip_runs.specs.declared.next.Control.{Control}
-use Rattle.rip_runs.specs.declared.outcome.Outcome.{Outcome}
-use Rattle.rip_runs.specs.declared.outcome.Turned.{Turned}
-use Rattle.rip_runs.specs.Law.{Standing as Run}
-use Rattle.rip_runs.specs.Law as law
-use Rattle.rip_runs.specs.Row.{Row, Table}
-use Rattle.rip_runs.specs.Run.{Answer, Calling}
-use Rattle.rip_runs.specs.Stack.{Open}
+use Rattle.rip_eval_rows.specs.declared.next.Control.{Control}
+use Rattle.rip_eval_rows.specs.declared.outcome.Outcome.{Outcome}
+use Rattle.rip_eval_rows.specs.declared.outcome.Turned.{Turned}
+use Rattle.rip_eval_rows.specs.Law.{Standing as Run}
+use Rattle.rip_eval_rows.specs.Law as law
+use Rattle.rip_eval_rows.specs.Row.{Row, Table}
+use Rattle.rip_eval_rows.specs.Run.{Answer, Calling}
+use Rattle.rip_eval_rows.specs.Stack.{Open}
 use Rattle.rip_tree.specs.Program.{Code}
-use Rattle.rip_language.specs.Reading.{Loaded}
+use Rattle.rip_eval_language.specs.Reading.{Loaded}
 use Rattle.rip_machine.specs.Starting.{Beginning, Exceeds, Runs}
 
 -- a machine: a run that stands, by its parts; and of each node of the program the span of the text that it is or names

@@ -2,10 +2,10 @@
 use Rattle.std.specs.Prelude.{◌≡◌, ℕ, ◌+◌, ◌==◌, ◌<◌, ◌≤◌, if◌then◌else◌, List, [], length, map, Option, None, Some, Result, Ok, Err}
 use Rattle.std.specs.Fmt.{signed_decimal}
 use Rattle.std.specs.List.{flat_map, range_with_len, sum_by}
-use Rattle.rip_values.specs.declared.value.Limit.TheVariants.{Units}
-use Rattle.rip_values.specs.declared.value.Refused.{Refused}
-use Rattle.rip_values.specs.declared.value.Refused.TheVariants.{Limit as At, Memory as NoRoom}
-use Rattle.rip_values.specs.declared.value.Span.{Span}
+use Rattle.rip_base.specs.declared.value.Limit.TheVariants.{Units}
+use Rattle.rip_base.specs.declared.value.Refused.{Refused}
+use Rattle.rip_base.specs.declared.value.Refused.TheVariants.{Limit as At, Memory as NoRoom}
+use Rattle.rip_base.specs.declared.value.Span.{Span}
 use Rattle.rip_values.specs.FixedTexts.{fixed_span}
 use Rattle.rip_values.specs.Pool.{IsSpan, Texts, text_at, with_text}
 use Rattle.rip_heap.specs.World.{World}
@@ -17,7 +17,7 @@ use Rattle.rip_tree.specs.Branches.{Branch, node_of, units_at}
 use Rattle.rip_tree.specs.Firsts.{first_named}
 use Rattle.rip_tree.specs.Program.{Code}
 use Rattle.rip_machine.specs.Law.{Standing}
-use Rattle.rip_language.specs.Reading.{Loaded, form_in, form_of, literal}
+use Rattle.rip_eval_language.specs.Reading.{Loaded, form_in, form_of, literal}
 
 -- TEXTS, in a program with these units
 

@@ -1,17 +1,17 @@
 -- Runs of the machine come to their end once, and by their fuel: what plans rest on.
 use Rattle.std.specs.Prelude.{ℕ, ◌+◌, ◌-◌, ◌≤◌, min}
 use Rattle.rip_heap.specs.World.{World}
-use Rattle.rip_runs.specs.declared.completion.Stop.TheVariants.{Limit as AtLimit}
-use Rattle.rip_runs.specs.Evaluation.{EndsByFuel, IsEnded, IsLater, RunsOnce, reached}
-use Rattle.rip_runs.specs.Row.{Table}
-use Rattle.rip_runs.specs.Run.{Calling}
-use Rattle.rip_runs.proofs.Later.{of-ended, of-later, reached-later, stopped-later}
+use Rattle.rip_eval_rows.specs.declared.completion.Stop.TheVariants.{Limit as AtLimit}
+use Rattle.rip_eval_rows.specs.Evaluation.{EndsByFuel, IsEnded, IsLater, RunsOnce, reached}
+use Rattle.rip_eval_rows.specs.Row.{Table}
+use Rattle.rip_eval_rows.specs.Run.{Calling}
+use Rattle.rip_eval_rows.proofs.Later.{of-ended, of-later, reached-later, stopped-later}
 use Rattle.rip_tree.specs.Program.{Code}
 use Rattle.rip_machine.specs.Law.{Standing, loaded}
 use Rattle.rip_machine.specs.Plans.{evaluation}
 use Rattle.rip_machine.specs.Run.{run_begun}
 use Rattle.rip_machine.specs.Starting.{Beginning, Exceeds, Runs, begun_by}
-use Rattle.rip_language.specs.Table.{table}
+use Rattle.rip_eval_language.specs.Table.{table}
 
 -- what a start comes to, with more units
 pub begun_once : {S : Type 0} (h : Calling S) (t : Table) (depth : ℕ) (b : Beginning) (w : World) (s : S) (fuel u k : ℕ)

@@ -1,17 +1,17 @@
 -- What plans see of the machine.
 use Rattle.std.specs.Prelude.{ℕ, ◌≤◌}
-use Rattle.rip_runs.specs.declared.completion.Stop.TheVariants.{Fault as AtFault, Limit as AtLimit}
-use Rattle.rip_runs.specs.declared.evaluator.Advance.{Advance}
-use Rattle.rip_runs.specs.declared.evaluator.Advance.TheVariants.{Passed, Broken, Memory as NoRoom}
-use Rattle.rip_runs.specs.Evaluation.{Evaluation, reached}
-use Rattle.rip_runs.specs.Run.{Calling}
+use Rattle.rip_eval_rows.specs.declared.completion.Stop.TheVariants.{Fault as AtFault, Limit as AtLimit}
+use Rattle.rip_eval_rows.specs.declared.evaluator.Advance.{Advance}
+use Rattle.rip_eval_rows.specs.declared.evaluator.Advance.TheVariants.{Passed, Broken, Memory as NoRoom}
+use Rattle.rip_eval_rows.specs.Evaluation.{Evaluation, reached}
+use Rattle.rip_eval_rows.specs.Run.{Calling}
 use Rattle.rip_tree.specs.Program.{Code}
-use Rattle.rip_runs.specs.declared.outcome.Outcome.{Outcome}
-use Rattle.rip_runs.specs.declared.outcome.Outcome.TheVariants.{Value as Gives, Thrown, Fault, Limit, Memory}
+use Rattle.rip_eval_rows.specs.declared.outcome.Outcome.{Outcome}
+use Rattle.rip_eval_rows.specs.declared.outcome.Outcome.TheVariants.{Value as Gives, Thrown, Fault, Limit, Memory}
 use Rattle.rip_machine.specs.Law.{Standing, left, loaded, open_depth, values_of}
 use Rattle.rip_machine.specs.Loading.{values_needed}
 use Rattle.rip_machine.specs.Run.{run_from}
-use Rattle.rip_language.specs.Table.{table}
+use Rattle.rip_eval_language.specs.Table.{table}
 
 -- what the runs of a program mean, where the host answers this
 abbrev pub evaluation : {S : Type 0} → Calling S → Code → Evaluation Standing S

@@ -1,21 +1,21 @@
 -- A whole run: what a start comes to, with so much fuel and so many units.
 use Rattle.std.specs.Prelude.{◌≡◌, ℕ, ◌+◌, min, Option, Some}
-use Rattle.rip_values.specs.declared.value.Limit.{Limit as At}
+use Rattle.rip_base.specs.declared.value.Limit.{Limit as At}
 use Rattle.rip_heap.specs.World.{World}
-use Rattle.rip_runs.specs.declared.completion.Stop.TheVariants.{Limit as AtLimit}
-use Rattle.rip_runs.specs.Cut.{run_of}
-use Rattle.rip_runs.specs.Row.{Row, Table}
-use Rattle.rip_runs.specs.Run.{Answer, Stops, Calling}
-use Rattle.rip_runs.specs.Started.{Started}
-use Rattle.rip_runs.specs.declared.outcome.Outcome.{Outcome}
-use Rattle.rip_runs.specs.declared.outcome.Outcome.TheVariants.{Value as Gives, Thrown, Fault, Limit, Memory}
-use Rattle.rip_runs.specs.declared.outcome.Turned.{Turned}
-use Rattle.rip_runs.specs.declared.outcome.Turned.TheVariants.{More, Done}
-use Rattle.rip_runs.specs.Law.{end_of}
+use Rattle.rip_eval_rows.specs.declared.completion.Stop.TheVariants.{Limit as AtLimit}
+use Rattle.rip_eval_rows.specs.Cut.{run_of}
+use Rattle.rip_eval_rows.specs.Row.{Row, Table}
+use Rattle.rip_eval_rows.specs.Run.{Answer, Stops, Calling}
+use Rattle.rip_eval_rows.specs.Started.{Started}
+use Rattle.rip_eval_rows.specs.declared.outcome.Outcome.{Outcome}
+use Rattle.rip_eval_rows.specs.declared.outcome.Outcome.TheVariants.{Value as Gives, Thrown, Fault, Limit, Memory}
+use Rattle.rip_eval_rows.specs.declared.outcome.Turned.{Turned}
+use Rattle.rip_eval_rows.specs.declared.outcome.Turned.TheVariants.{More, Done}
+use Rattle.rip_eval_rows.specs.Law.{end_of}
 use Rattle.rip_machine.specs.Law.{Begins, Resumes, Standing, left, open_depth}
-use Rattle.rip_language.specs.Reading.{Loaded}
+use Rattle.rip_eval_language.specs.Reading.{Loaded}
 use Rattle.rip_machine.specs.Starting.{Beginning, Runs, Exceeds, begun_by}
-use Rattle.rip_language.specs.Table.{table}
+use Rattle.rip_eval_language.specs.Table.{table}
 
 -- the run that a start comes to, where so much depth and fuel is there, after k units; one whose own charge would pass a
 -- limit stops before its first unit, with nothing open

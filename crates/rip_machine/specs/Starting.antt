@@ -1,30 +1,30 @@
 -- How a run begins: that of a script, or of a function that is called from outside (ECMA-262 10.4, 13.2.1, 14).
 use Rattle.std.specs.Prelude.{ℕ, ◌+◌, ◌==◌, if◌then◌else◌, List, length, Option, None, Some}
 use Rattle.rip_values.specs.declared.builtin.Builtin.{Builtin}
-use Rattle.rip_values.specs.declared.value.Limit.{Limit}
-use Rattle.rip_values.specs.declared.value.Limit.TheVariants.{Cells, Depth}
-use Rattle.rip_values.specs.declared.value.Value.{Value}
-use Rattle.rip_values.specs.declared.value.Value.TheVariants.{Object}
+use Rattle.rip_base.specs.declared.value.Limit.{Limit}
+use Rattle.rip_base.specs.declared.value.Limit.TheVariants.{Cells, Depth}
+use Rattle.rip_base.specs.declared.value.Value.{Value}
+use Rattle.rip_base.specs.declared.value.Value.TheVariants.{Object}
 use Rattle.rip_heap.specs.declared.class.Class.TheVariants.{ThrownTypeError}
 use Rattle.rip_heap.specs.World.{World, charging}
 use Rattle.rip_tree.specs.Program.{root_of}
-use Rattle.rip_runs.specs.declared.frame.Ending.TheVariants as ending
-use Rattle.rip_runs.specs.declared.part.Part.{Part}
-use Rattle.rip_runs.specs.declared.part.Role.TheVariants as role
-use Rattle.rip_runs.specs.Frame.{inside}
-use Rattle.rip_runs.specs.Row.{Row}
-use Rattle.rip_runs.specs.Run.{world_at}
-use Rattle.rip_runs.specs.Started.{Started, ScriptOf, CallOf}
-use Rattle.rip_language.specs.declared.callee.Invocable.{Invocable}
-use Rattle.rip_language.specs.declared.callee.Invocable.TheVariants.{OfScript, OfBuiltin, NotCallable}
+use Rattle.rip_eval_rows.specs.declared.frame.Ending.TheVariants as ending
+use Rattle.rip_eval_rows.specs.declared.part.Part.{Part}
+use Rattle.rip_eval_rows.specs.declared.part.Role.TheVariants as role
+use Rattle.rip_eval_rows.specs.Frame.{inside}
+use Rattle.rip_eval_rows.specs.Row.{Row}
+use Rattle.rip_eval_rows.specs.Run.{world_at}
+use Rattle.rip_eval_rows.specs.Started.{Started, ScriptOf, CallOf}
+use Rattle.rip_eval_language.specs.declared.callee.Invocable.{Invocable}
+use Rattle.rip_eval_language.specs.declared.callee.Invocable.TheVariants.{OfScript, OfBuiltin, NotCallable}
 use Rattle.rip_machine.specs.declared.outcome.Start.{Start}
 use Rattle.rip_machine.specs.declared.outcome.Start.TheVariants as start
-use Rattle.rip_language.specs.Reading.{Loaded}
-use Rattle.rip_language.specs.Rows.Calls.{answered_by, answerer_of, callable, running}
-use Rattle.rip_language.specs.Rows.Functions.{body, function_entered}
-use Rattle.rip_language.specs.Rows.Names.{throws}
-use Rattle.rip_language.specs.Rows.Scripts.{script_entered, script_row}
-use Rattle.rip_language.specs.Rows.Statements.{statements}
+use Rattle.rip_eval_language.specs.Reading.{Loaded}
+use Rattle.rip_eval_language.specs.Rows.Calls.{answered_by, answerer_of, callable, running}
+use Rattle.rip_eval_language.specs.Rows.Functions.{body, function_entered}
+use Rattle.rip_eval_language.specs.Rows.Names.{throws}
+use Rattle.rip_eval_language.specs.Rows.Scripts.{script_entered, script_row}
+use Rattle.rip_eval_language.specs.Rows.Statements.{statements}
 
 -- what a start comes to: the run of a row, in this world; or a limit that its own charge would pass
 pub data Beginning : Type 0 where

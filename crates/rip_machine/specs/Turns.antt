@@ -2,12 +2,12 @@
 -- turn by turn, by the frames that are open.
 use Rattle.std.specs.Prelude.{◌≡◌, ℕ, Option, None, Some}
 use Rattle.rip_heap.specs.World.{World}
-use Rattle.rip_runs.specs.declared.part.Part.{Part}
-use Rattle.rip_runs.specs.Row.{Row, Asks, with_value}
-use Rattle.rip_runs.specs.Run.{Calling, run}
-use Rattle.rip_language.specs.Reading.{Loaded, child_at, part, part_at}
-use Rattle.rip_language.specs.Rows.Statements.{do_row, for_turn, goes_on, tested, while_row}
-use Rattle.rip_language.specs.Table.{table}
+use Rattle.rip_eval_rows.specs.declared.part.Part.{Part}
+use Rattle.rip_eval_rows.specs.Row.{Row, Asks, with_value}
+use Rattle.rip_eval_rows.specs.Run.{Calling, run}
+use Rattle.rip_eval_language.specs.Reading.{Loaded, child_at, part, part_at}
+use Rattle.rip_eval_language.specs.Rows.Statements.{do_row, for_turn, goes_on, tested, while_row}
+use Rattle.rip_eval_language.specs.Table.{table}
 
 -- 12.6.1: the statement, and then the test, and where it holds the loop again
 abbrev pub do_loop : Loaded → Part → World → Row

@@ -1,16 +1,16 @@
 ghost use Rattle.std.specs.Prelude.{◌≡◌, ◌≤◌, ℕ};
 ghost use Rattle.rip_heap.specs.Growth.{Grows};
 ghost use Rattle.rip_heap.specs.Step.{TakesNoMemory};
-ghost use Rattle.rip_runs.specs.Evaluation.{Begins};
+ghost use Rattle.rip_eval_rows.specs.Evaluation.{Begins};
 ghost use Rattle.rip_machine.specs.Plans.{HasRoom, advance_of, evaluation};
 ghost use Rattle.rip_machine.specs.Starting.{arguments_in, started_of};
 
 use crate::machine::Machine;
 use crate::outcome::Start;
+use rip_base::Refused;
+use rip_eval_rows::{Advance, Evaluator, Opening, Outcome, Stop, Turned};
 use rip_heap::{Heap, Host};
-use rip_runs::{Advance, Evaluator, Opening, Outcome, Stop, Turned};
 use rip_tree::Program;
-use rip_values::Refused;
 use std::alloc::Global;
 
 impl<H: Host> Evaluator<H> for Machine {

@@ -1,12 +1,12 @@
-ghost use Rattle.rip_language.specs.Table.{table};
+ghost use Rattle.rip_eval_language.specs.Table.{table};
 
 use crate::rows::{begin, finish_hosted, finish_own};
+use rip_base::{NoMemory, Value};
+use rip_eval_in_place::done;
+use rip_eval_language::{HEIGHT, Source};
+use rip_eval_rows::{Completed, Completion, Next, Part, Round, RoundWait, Rows, Wait};
+use rip_eval_statements::round;
 use rip_heap::{Heap, Host};
-use rip_in_place::done;
-use rip_language::{HEIGHT, Source};
-use rip_runs::{Completed, Completion, Next, Part, Round, RoundWait, Rows, Wait};
-use rip_statements::round;
-use rip_values::{NoMemory, Value};
 use std::marker::Model;
 
 /// The rows of the language over a program whose literals are loaded, for the machine of any rows.
@@ -16,7 +16,7 @@ pub(crate) struct Language<'a> {
 }
 
 impl<'a> Model for Language<'a> {
-    ghost use Rattle.rip_language.specs.Reading.{Loaded};
+    ghost use Rattle.rip_eval_language.specs.Reading.{Loaded};
 
     ghost Value = { Loaded };
 
@@ -24,7 +24,7 @@ impl<'a> Model for Language<'a> {
 }
 
 impl Rows for Language<'_> {
-    ghost use Rattle.rip_language.specs.Table.{table as table_of};
+    ghost use Rattle.rip_eval_language.specs.Table.{table as table_of};
 
     ghost table = { table_of };
 

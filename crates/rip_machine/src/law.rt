@@ -1,16 +1,16 @@
 ghost use Rattle.std.specs.Prelude.{◌≡◌, ℕ};
 ghost use Rattle.rip_heap.specs.World.{World};
-ghost use Rattle.rip_runs.specs.Cut.{run_of};
-ghost use Rattle.rip_runs.specs.Row.{Row};
-ghost use Rattle.rip_runs.specs.Started.{Started};
+ghost use Rattle.rip_eval_rows.specs.Cut.{run_of};
+ghost use Rattle.rip_eval_rows.specs.Row.{Row};
+ghost use Rattle.rip_eval_rows.specs.Started.{Started};
 ghost use Rattle.rip_machine.specs.Law.{Begins, left, loaded};
 ghost use Rattle.rip_machine.specs.Run.{GoesWhole, RunsOn, StopsAtOnce};
-ghost use Rattle.rip_language.specs.Table.{table};
+ghost use Rattle.rip_eval_language.specs.Table.{table};
 ghost use Rattle.rip_machine.specs.Turns.{LoopsAreTheirRows};
 
 use crate::machine::Machine;
+use rip_eval_rows::Part;
 use rip_heap::{Heap, Host};
-use rip_runs::Part;
 use rip_tree::Program;
 
 /// A law, and no work: after [`Machine::start`], what is left of the run with any number of units is the whole run of the

@@ -1,8 +1,8 @@
 //! The evaluator of scripts, which can be cut after any unit (ECMA-262 5.1, sections 10 to 14).
 //!
-//! A [`Machine`] is a run (`rip_runs::Run`) of the rows of the language, with where the texts of its program stand: what a
-//! part does is in `rip_operations` and `rip_statements`, what is done of it in place in `rip_in_place`, and what both come to
-//! is the table in `rip_language`. [`Machine::resume`] carries the law of cuts: after it answered `More`, the world is that of the run cut
+//! A [`Machine`] is a run (`rip_eval_rows::Run`) of the rows of the language, with where the texts of its program stand: what a
+//! part does is in `rip_eval_expressions` and `rip_eval_statements`, what is done of it in place in `rip_eval_in_place`, and what both come to
+//! is the table in `rip_eval_language`. [`Machine::resume`] carries the law of cuts: after it answered `More`, the world is that of the run cut
 //! after exactly these units, and what is left is what was left, later; after `Done` both are those of the end of the run.
 //!
 //! | what | its definition in `specs/` |
@@ -30,4 +30,4 @@ mod starting;
 pub use law::{begun_is_whole, loops_are_their_rows, started_runs_on, started_runs_whole};
 pub use machine::Machine;
 pub use outcome::Start;
-pub use rip_runs::{Outcome, Turned};
+pub use rip_eval_rows::{Outcome, Turned};

@@ -4,9 +4,9 @@ ghost use Rattle.rip_heap.specs.World.{World};
 ghost use Rattle.rip_machine.specs.Back.{CutsTo};
 ghost use Rattle.rip_machine.specs.Loading.{cost_of_literals, IsTextAt, StandsIfAny, TextsStand, form_cost, form_text, key_text, name_span, own_span, spans_loaded, values_needed, with_form, with_name, world_loaded};
 
+use rip_base::{NoMemory, Span, text_of_whole};
 use rip_heap::Heap;
 use rip_tree::{Form, Key, Program};
-use rip_values::{NoMemory, Span, text_of_whole};
 use std::alloc::Global;
 
 // THE COST OF LITERALS

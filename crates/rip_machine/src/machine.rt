@@ -1,22 +1,22 @@
 ghost use Rattle.std.specs.Prelude.{◌≡◌, ◌+◌, ◌<◌, ◌≤◌, [], max, IfOk, OnErr, OnOk};
 ghost use Rattle.rip_heap.specs.Growth.{Grows};
 ghost use Rattle.rip_heap.specs.Step.{TakesNoMemory};
-ghost use Rattle.rip_runs.specs.Nesting.{IsInside};
-ghost use Rattle.rip_runs.specs.Room.{WantsMemory};
+ghost use Rattle.rip_eval_rows.specs.Nesting.{IsInside};
+ghost use Rattle.rip_eval_rows.specs.Room.{WantsMemory};
 ghost use Rattle.rip_machine.specs.Law.{Resumes, Starts, loaded, open_depth, values_of};
 ghost use Rattle.rip_machine.specs.Loading.{Loads, TextsStand, spans_loaded, values_needed, world_loaded};
 ghost use Rattle.rip_machine.specs.Starting.{arguments_in, begun, started_of};
-ghost use Rattle.rip_language.specs.Table.{table};
+ghost use Rattle.rip_eval_language.specs.Table.{table};
 
 use crate::language::Language;
 use crate::loading::{fits, load_texts, values_needed};
 use crate::outcome::Start;
 use crate::starting::start_run;
+use rip_base::{Limit, NoMemory, Refused, Span, Value};
+use rip_eval_language::{Source, Worth, worths};
+use rip_eval_rows::{Completion, Control, Outcome, Run, Turned};
 use rip_heap::{Heap, Host};
-use rip_language::{Source, Worth, worths};
-use rip_runs::{Completion, Control, Outcome, Run, Turned};
 use rip_tree::Program;
-use rip_values::{Limit, NoMemory, Refused, Span, Value};
 use std::alloc::Global;
 use std::marker::Model;
 
@@ -29,7 +29,7 @@ pub struct Machine {
 }
 
 impl Model for Machine {
-    ghost use Rattle.rip_runs.specs.Nesting.{IsInside};
+    ghost use Rattle.rip_eval_rows.specs.Nesting.{IsInside};
     ghost use Rattle.rip_machine.specs.Law.{Standing, standing};
     ghost use Rattle.std.specs.Prelude.{◌+◌};
 

@@ -1,4 +1,4 @@
-use rip_values::Value;
+use rip_base::Value;
 
 /// What a run is of.
 #[derive(Clone, Copy, Debug)]

@@ -1,13 +1,11 @@
 ghost use Rattle.std.specs.Prelude.{◌<◌, length, IsTrue, OnErr};
 ghost use Rattle.rip_heap.specs.Growth.{Grows};
-ghost use Rattle.rip_runs.specs.Room.{AreTogether};
-ghost use Rattle.rip_answers.specs.Does.{Does, DoesBeside, DoesBesideWithHost};
-ghost use Rattle.rip_language.specs.Table.{hosted_rest, own_rest, row_by};
+ghost use Rattle.rip_eval_rows.specs.Room.{AreTogether};
+ghost use Rattle.rip_eval_language.specs.Does.{Does, DoesBeside, DoesBesideWithHost};
+ghost use Rattle.rip_eval_language.specs.Table.{hosted_rest, own_rest, row_by};
 
-use rip_answers::{Answer, begin_name, end, give};
-use rip_heap::{Heap, Host};
-use rip_language::Source;
-use rip_operations::{
+use rip_base::Value;
+use rip_eval_expressions::{
     after_assign_target, after_assign_value, after_comma_left, after_compound_target,
     after_compound_value, after_conditional_test, after_element, after_entry, after_index_base,
     after_left, after_logical_left, after_member_base, after_operand, after_right,
@@ -15,8 +13,10 @@ use rip_operations::{
     begin_compound, begin_conditional, begin_index, begin_logical, begin_member, begin_object,
     begin_step, begin_unary,
 };
-use rip_runs::{Completion, HostedWait, Next, OwnWait, Part};
-use rip_statements::{
+use rip_eval_language::Source;
+use rip_eval_language::answers::{Answer, begin_name, end, give};
+use rip_eval_rows::{Completion, HostedWait, Next, OwnWait, Part};
+use rip_eval_statements::{
     after_argument, after_called, after_callee, after_case_test, after_clause_statement,
     after_constructor, after_discriminant, after_do_body, after_do_test, after_expression,
     after_finally_block, after_for_body, after_for_start, after_for_test, after_for_update,
@@ -25,8 +25,8 @@ use rip_statements::{
     begin_call, begin_do, begin_expression, begin_for, begin_function, begin_if, begin_new,
     begin_return, begin_switch, begin_throw, begin_try, begin_var, begin_while, finally,
 };
+use rip_heap::{Heap, Host};
 use rip_tree::Form;
-use rip_values::Value;
 
 /// What a part does that was entered, by the form of its node.
 pub(crate) fn begin(p: &Source, heap: &mut Heap, at: &Part, form: &Form) -> Next

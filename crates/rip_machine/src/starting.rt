@@ -1,27 +1,28 @@
 ghost use Rattle.std.specs.Prelude.{◌≡◌, ◌+◌, ◌<◌, ◌≤◌, ◌^◌, length, List, None, Ok, Some, OnOk};
-ghost use Rattle.rip_values.specs.declared.value.Value.{Value as ScriptValue};
+ghost use Rattle.rip_base.specs.declared.value.Value.{Value as ScriptValue};
 ghost use Rattle.rip_heap.specs.Growth.{Grows};
 ghost use Rattle.rip_heap.specs.Step.{TakesNoMemory};
 ghost use Rattle.rip_heap.specs.World.{charging};
 ghost use Rattle.rip_tree.specs.Program.{root_of};
-ghost use Rattle.rip_runs.specs.Law.{values_of};
-ghost use Rattle.rip_runs.specs.Nesting.{IsInside};
+ghost use Rattle.rip_eval_rows.specs.Law.{values_of};
+ghost use Rattle.rip_eval_rows.specs.Nesting.{IsInside};
 ghost use Rattle.rip_machine.specs.Law.{StartsRun};
-ghost use Rattle.rip_language.specs.Reading.{Loaded};
-ghost use Rattle.rip_language.specs.Rows.Calls.{callable};
-ghost use Rattle.rip_language.specs.Rows.Scripts.{script_entered};
+ghost use Rattle.rip_eval_language.specs.Reading.{Loaded};
+ghost use Rattle.rip_eval_language.specs.Rows.Calls.{callable};
+ghost use Rattle.rip_eval_language.specs.Rows.Scripts.{script_entered};
 ghost use Rattle.rip_machine.specs.Starting.{arguments_in, begun, builtin_begun, call_begun, outside, script_begun, started_of};
-ghost use Rattle.rip_language.specs.Table.{table};
+ghost use Rattle.rip_eval_language.specs.Table.{table};
 
 use crate::outcome::Start;
-use rip_answers::throw;
-use rip_heap::{Class, Heap};
-use rip_language::{Invocable, Source};
-use rip_runs::{Ending, Frame, HostedWait, Part, Role, Run, Wait};
-use rip_statements::{
+use rip_base::{Limit, Refused, Value};
+use rip_eval_language::answers::throw;
+use rip_eval_language::{Invocable, Source};
+use rip_eval_rows::{Ending, Frame, HostedWait, Part, Role, Run, Wait};
+use rip_eval_statements::{
     call_statements, callable, enter_function, enter_script, running, script_part, statements,
 };
-use rip_values::{Builtin, Limit, Refused, Value};
+use rip_heap::{Class, Heap};
+use rip_values::Builtin;
 use std::alloc::Global;
 
 /// Begins a run of a script or of a function.

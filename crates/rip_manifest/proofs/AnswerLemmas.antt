@@ -5,7 +5,7 @@ use Rattle.std.specs.Prelude.{codes, ⊤}
 use Rattle.serde_json.specs.Data.{Data, object, Members}
 use Rattle.serde_json.specs.Find.{get_member}
 use Rattle.rip_manifest.specs.declared.function.Function.{Function}
-use Rattle.rip_values.specs.declared.limits.Limits.{Limits}
+use Rattle.rip_base.specs.declared.limits.Limits.{Limits}
 use Rattle.rip_manifest.specs.Functions.{AreFunctions}
 use Rattle.rip_manifest.specs.Limits.{memory_of}
 use Rattle.rip_manifest.specs.declared.refusal.ManifestKind.{ManifestKind}

@@ -9,7 +9,7 @@ use Rattle.serde_json.specs.Events.{members_len}
 use Rattle.serde_json.specs.Find.{get, get_member}
 use Rattle.rip_data.specs.Reading.{answer_long}
 use Rattle.rip_data.specs.declared.error.DataError.{DataError}
-use Rattle.rip_values.specs.declared.limits.Limits.{Limits}
+use Rattle.rip_base.specs.declared.limits.Limits.{Limits}
 use Rattle.rip_manifest.specs.declared.function.Function.{Function}
 use Rattle.rip_manifest.specs.declared.function.Operation.{Operation}
 use Rattle.rip_manifest.specs.declared.refusal.ManifestKind.TheVariants as K

@@ -2,11 +2,11 @@
 use Rattle.std.proofs.Common.{◌≡◌, ℕ, ◌≤◌, List, [], ◌∷◌, ◌++◌, Option, Some, None, IsTrue, Bool, true, false, bytes_eq, refl, sym, ◌∙◌, string_bytes, arith}
 use Rattle.std.specs.Prelude.{codes}
 use Rattle.std.proofs.lemmas.Slice.Eq.{bytes_eq-Decides}
-use Rattle.rip_values.specs.Limits.{AreInRange}
+use Rattle.rip_base.specs.Limits.{AreInRange}
 use Rattle.serde_json.specs.Data.{Data, number, unsigned}
 use Rattle.serde_json.specs.View.{members_view}
 use Rattle.serde_json.proofs.Views.{Entry}
-use Rattle.rip_values.specs.declared.limits.Limits.{Limits}
+use Rattle.rip_base.specs.declared.limits.Limits.{Limits}
 use Rattle.rip_manifest.specs.Limits.{greatest, is_limit_name, NameLimits, IsLimit, AreLimits}
 
 -- one member more that has the name of a limit

@@ -3,7 +3,7 @@ use Rattle.std.specs.Prelude.{◌≡◌, ℕ, ◌+◌, ◌*◌, ◌≤◌, List,
 use Rattle.std.specs.List.{list_any}
 use Rattle.serde_json.specs.Data.{Data, number, unsigned, object, Members, no_members, member}
 use Rattle.serde_json.specs.Find.{get}
-use Rattle.rip_values.specs.declared.limits.Limits.{Limits}
+use Rattle.rip_base.specs.declared.limits.Limits.{Limits}
 
 -- the limits where none is named
 abbrev pub default : Limits

@@ -5,7 +5,7 @@ use Rattle.serde_json.specs.Events.{members_len}
 use Rattle.serde_json.specs.Find.{get_member}
 use Rattle.rip_data.specs.Reading.{answer_long}
 use Rattle.rip_manifest.specs.declared.function.Function.{Function}
-use Rattle.rip_values.specs.declared.limits.Limits.{Limits}
+use Rattle.rip_base.specs.declared.limits.Limits.{Limits}
 use Rattle.rip_manifest.specs.Functions.{AreFunctions}
 use Rattle.rip_manifest.specs.Limits.{AreLimits, memory_of}
 use Rattle.rip_manifest.specs.declared.refusal.ManifestKind.{ManifestKind}

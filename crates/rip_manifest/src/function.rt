@@ -1,4 +1,4 @@
-use rip_values::{List, Units};
+use rip_base::{List, Units};
 
 /// What a function does with the data under its prefix.
 #[derive(Clone, Copy, Debug, PartialEq, Eq)]

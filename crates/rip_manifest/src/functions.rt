@@ -8,7 +8,7 @@ ghost use Rattle.rip_manifest.specs.Manifest.{IsKindFrom};
 use crate::function::{Function, Functions, Operation};
 use crate::name::{is_name, is_prefix};
 use crate::refusal::{ManifestKind, ManifestRefusal};
-use rip_values::Units;
+use rip_base::Units;
 use serde_json::{Map, Value};
 use std::alloc::{AllocError, Global};
 

@@ -1,11 +1,11 @@
 ghost use Rattle.std.specs.Prelude.{◌≡◌, ℕ, ◌^◌, ◌<◌, ◌≤◌, ◌↔◌, IsTrue, IfSome, IfNone};
 ghost use Rattle.serde_json.specs.Find.{get};
 ghost use Rattle.serde_json.specs.View.{view, members_view};
-ghost use Rattle.rip_values.specs.Limits.{AreInRange};
-ghost use Rattle.rip_values.specs.declared.limits.Limits.{Limits as Named};
+ghost use Rattle.rip_base.specs.Limits.{AreInRange};
+ghost use Rattle.rip_base.specs.declared.limits.Limits.{Limits as Named};
 ghost use Rattle.rip_manifest.specs.Limits.{is_limit_name, NameLimits, IsLimit, AreLimits, memory_of};
 
-use rip_values::Limits;
+use rip_base::Limits;
 use serde_json::{Map, Value};
 
 /// The bytes that all sessions may take together, 2^32.

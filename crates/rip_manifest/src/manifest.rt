@@ -2,7 +2,7 @@ ghost use Rattle.std.specs.Prelude.{◌≡◌, ◌≢◌, ◌↔◌, IsTrue, IfS
 ghost use Rattle.serde_json.specs.Data.{Data};
 ghost use Rattle.serde_json.specs.View.{view};
 ghost use Rattle.rip_data.specs.Reading.{value_of};
-ghost use Rattle.rip_values.specs.Limits.{AreInRange};
+ghost use Rattle.rip_base.specs.Limits.{AreInRange};
 ghost use Rattle.rip_manifest.specs.declared.refusal.ManifestRefusal.{ManifestRefusal as Refusal};
 ghost use Rattle.rip_manifest.specs.Manifest.{Contents, Parts as Three, HasParts, IsJson, IsVersion, ManifestOf, IsRefused, IsAnswer, IsKindFrom};
 
@@ -10,8 +10,8 @@ use crate::function::Functions;
 use crate::functions::functions_of;
 use crate::limits::{MOST_MEMORY, limits_of, memory_of};
 use crate::refusal::{ManifestKind, ManifestRefusal};
+use rip_base::Limits;
 use rip_data::{DataError, read_long};
-use rip_values::Limits;
 use serde_json::Value;
 use std::alloc::Global;
 use std::marker::Model;
@@ -24,7 +24,7 @@ pub struct Manifest {
 }
 
 impl Model for Manifest {
-    ghost use Rattle.rip_values.specs.Limits.{AreInRange};
+    ghost use Rattle.rip_base.specs.Limits.{AreInRange};
     ghost use Rattle.rip_manifest.specs.Limits.{greatest};
     ghost use Rattle.rip_manifest.specs.Manifest.{Contents};
 

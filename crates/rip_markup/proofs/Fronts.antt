@@ -3,7 +3,7 @@ use Rattle.std.proofs.Common.{◌≡◌, ℕ, zero, suc, ◌+◌, ◌<◌, ◌�
 use Rattle.std.specs.Prelude.{codes}
 use Rattle.std.specs.List.{prefix_len}
 use Rattle.std.proofs.lemmas.Bool.{cond-true, cond-false, cond_both, and_parts, false≢true, true≢false}
-use Rattle.rip_values.specs.Units.{small_unit, begins}
+use Rattle.rip_base.specs.Units.{small_unit, begins}
 use Rattle.rip_markup.specs.Units.{is_letter}
 use Rattle.rip_markup.specs.Words.{begins_with}
 use Rattle.rip_markup.specs.Scans.{behind}

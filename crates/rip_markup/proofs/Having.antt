@@ -1,7 +1,7 @@
 -- Each text has tokens.
 use Rattle.std.proofs.Common.{◌≡◌, ℕ, zero, suc, ◌+◌, ◌*◌, ◌<◌, ◌≤◌, Bool, true, false, List, [], ◌∷◌, length, drop, map, take_while, Option, Some, None, ◌⊎◌, inl, inr, ⊎_elim, refl, sym, ap, ◌∙◌, arith, length-drop}
 use Rattle.std.proofs.lemmas.Bool.{false≢true}
-use Rattle.rip_values.specs.Units.{small_text, begins}
+use Rattle.rip_base.specs.Units.{small_text, begins}
 use Rattle.rip_markup.specs.Units.{is_space, is_letter, is_name_unit}
 use Rattle.rip_markup.specs.Attributes.{Written, attribute_text, LeadsAttribute, LeadsAttributes}
 use Rattle.rip_markup.specs.Scans.{behind, attribute_at}

@@ -5,7 +5,7 @@ use Rattle.std.specs.List.{list_all, prefix_len, flat_map}
 use Rattle.std.specs.Char.Escape.{encode_utf16}
 use Rattle.std.proofs.lemmas.Bool.{cond-true, cond-false, and_parts, and_from, or_left, or_cases, or_right, false≢true, cases_Bool}
 use Rattle.std.proofs.lemmas.Option.{none-some}
-use Rattle.rip_values.specs.Units.{begins}
+use Rattle.rip_base.specs.Units.{begins}
 use Rattle.rip_markup.specs.Units.{is_letter, is_digit}
 use Rattle.rip_markup.specs.References.{code_of, is_reference_unit, starts_reference, is_reference, Item, Plain, Referring, item_units, items_text, AreItems, IsBadReference, IsRead}
 use Rattle.rip_markup.specs.Scans.{behind}

@@ -2,7 +2,7 @@
 use Rattle.std.proofs.Common.{◌≡◌, ℕ, ◌≤◌, ◌<◌, true, ◌+◌, List, [], ◌∷◌, ◌++◌, length, take, drop, Some, None, option_map, refl, sym, ap, ◌∙◌, subst, arith, append_assoc, append-nil, length-append, take_at}
 use Rattle.std.proofs.lemmas.List.{drop_at}
 use Rattle.std.proofs.lemmas.Bool.{false≢true}
-use Rattle.rip_values.specs.Units.{begins}
+use Rattle.rip_base.specs.Units.{begins}
 use Rattle.rip_markup.specs.Units.{is_space}
 use Rattle.rip_markup.specs.Attributes.{Value, Absent, Unquoted, Quoted, value_text, value_units, value_offset, Written, attribute_text, LeadsAttribute}
 use Rattle.rip_markup.specs.Scans.{attribute_at, value_close, shown, ShowsAttribute, NoneLeads}

@@ -2,7 +2,7 @@
 use Rattle.std.proofs.Common.{◌≡◌, ℕ, Bool, true, false, not, ◌==◌, List, [], ◌∷◌, ◌++◌, drop, take_while, Option, Some, None, option_map, cond, refl, sym, ap, ◌∙◌, subst, eqb-true, eq-eqb}
 use Rattle.std.proofs.lemmas.Bool.{cond-true, cond-false, cond_both, false≢true, not_from_true}
 use Rattle.std.proofs.lemmas.Option.{none-some}
-use Rattle.rip_values.specs.Units.{begins}
+use Rattle.rip_base.specs.Units.{begins}
 use Rattle.rip_markup.specs.Units.{is_space, is_letter, is_attribute_unit, is_quote, is_unquoted}
 use Rattle.rip_markup.specs.Attributes.{Value, Absent, Unquoted, Quoted, value_text, IsValue, Written, attribute_text, IsAttribute, LeadsAttribute}
 use Rattle.rip_markup.specs.Scans.{behind, quoted_at, unquoted_at, given_at, value_at, named_at, attribute_at}

@@ -1,13 +1,13 @@
 -- A start tag as it was read is one.
 use Rattle.std.proofs.Common.{◌≡◌, ℕ, ◌+◌, ◌-◌, Bool, true, List, ◌++◌, length, take, drop, Option, sym, ap, ◌∙◌, subst}
 use Rattle.std.specs.List.{prefix_len, list_all}
-use Rattle.rip_values.specs.Units.{small_text, begins}
+use Rattle.rip_base.specs.Units.{small_text, begins}
 use Rattle.rip_markup.specs.Units.{is_letter, is_name_unit}
 use Rattle.rip_markup.specs.Tags.{tag_end, tag_fault, AreRead, IsStartTag}
 use Rattle.rip_markup.specs.Ends.{has_solidus, end_count}
 use Rattle.rip_markup.specs.declared.fault.Fault.{Fault}
 use Rattle.rip_markup.specs.declared.tag.TagEnd.{TagEnd}
-use Rattle.rip_values.specs.declared.page.Attribute.{Attribute}
+use Rattle.rip_base.specs.declared.page.Attribute.{Attribute}
 use Rattle.rip_markup.proofs.Runs.{run_all, run_stops, run_splits, run_begins_by}
 use Rattle.rip_markup.proofs.Classes.{letter_name}
 use Rattle.rip_markup.proofs.Turns.{read_end}

@@ -3,7 +3,7 @@ use Rattle.std.proofs.Common.{◌≡◌, ℕ, ◌+◌, ◌*◌, ◌<◌, ◌≤�
 use Rattle.std.specs.List.{prefix_len}
 use Rattle.std.proofs.lemmas.Bool.{false≢true, true≢false, not_from_false}
 use Rattle.std.specs.Prelude.{codes}
-use Rattle.rip_values.specs.Units.{begins}
+use Rattle.rip_base.specs.Units.{begins}
 use Rattle.rip_markup.specs.Units.{is_space, is_name_unit}
 use Rattle.rip_markup.specs.Scans.{behind}
 use Rattle.rip_markup.specs.declared.form.Stop.TheVariants as S

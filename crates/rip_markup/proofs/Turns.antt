@@ -1,6 +1,6 @@
 -- The loop over the attributes of a tag.
 use Rattle.std.proofs.Common.{◌≡◌, ℕ, ◌+◌, ◌-◌, drop, drop-drop, Bool, true, false, ◌||◌, List, [], ◌∷◌, ◌++◌, length, map, Option, Some, None, option_map, refl, sym, ap, ◌∙◌, subst, arith, append_assoc, append-nil}
-use Rattle.rip_values.specs.Units.{small_text}
+use Rattle.rip_base.specs.Units.{small_text}
 use Rattle.rip_markup.specs.Words.{is_among}
 use Rattle.rip_markup.specs.Attributes.{Written, attribute_text, LeadsAttribute, LeadsAttributes}
 use Rattle.rip_markup.specs.Scans.{NoneLeads, ShowsAttribute}
@@ -9,7 +9,7 @@ use Rattle.rip_markup.specs.Fault.{shifted, option_or}
 use Rattle.rip_markup.specs.Tags.{read_of, pair_of, attribute_fault, attributes_fault, attributes_length, is_against, are_against, AreRead}
 use Rattle.rip_markup.specs.declared.fault.Fault.{Fault}
 use Rattle.rip_markup.specs.declared.attribute.ReadAttribute.{ReadAttribute}
-use Rattle.rip_values.specs.declared.page.Attribute.{Attribute}
+use Rattle.rip_base.specs.declared.page.Attribute.{Attribute}
 use Rattle.rip_markup.proofs.Parts.{attribute_length, attribute_text-append}
 use Rattle.std.proofs.lemmas.List.{drop_at}
 

@@ -2,7 +2,7 @@
 use Rattle.std.proofs.Common.{◌≡◌, ℕ, ◌+◌, Bool, true, false, List, [], ◌∷◌, length, drop, map, take_while, Option, MatchBool, refl, sym, ap, ◌∙◌, subst}
 use Rattle.std.proofs.lemmas.Option.{same_Some}
 use Rattle.std.proofs.lemmas.List.{drop_at}
-use Rattle.rip_values.specs.Units.{small_text}
+use Rattle.rip_base.specs.Units.{small_text}
 use Rattle.rip_markup.specs.Units.{is_name_unit}
 use Rattle.rip_markup.specs.Attributes.{Written, attribute_text, LeadsAttribute, LeadsAttributes}
 use Rattle.rip_markup.specs.Scans.{behind, attribute_at}
@@ -19,7 +19,7 @@ use Rattle.rip_markup.specs.declared.token.Token.TheVariants as T
 use Rattle.rip_markup.specs.declared.token.Placed.{Placed}
 use Rattle.rip_markup.specs.declared.token.Content.{Content}
 use Rattle.rip_markup.specs.declared.token.Content.TheVariants as C
-use Rattle.rip_values.specs.declared.page.Attribute.{Attribute}
+use Rattle.rip_base.specs.declared.page.Attribute.{Attribute}
 use Rattle.rip_markup.proofs.Runs.{run_is, behind_is}
 use Rattle.rip_markup.proofs.Standing.{attribute_seen}
 use Rattle.rip_markup.proofs.Parts.{attribute_text-append}

@@ -5,9 +5,9 @@ use Rattle.std.proofs.lemmas.List.Folds.{length-prefix_len}
 use Rattle.std.proofs.lemmas.Bool.{false≢true, true≢false}
 use Rattle.std.specs.Prelude.{codes}
 use Rattle.std.specs.List.{prefix_len, AllByRecursion}
-use Rattle.rip_values.specs.declared.page.PageKind.{PageKind}
-use Rattle.rip_values.specs.declared.page.PageKind.TheVariants.{BadTag, BadAttribute, DoubleAttribute, BadReference, ExternalScript, NotInSubset}
-use Rattle.rip_values.specs.Units.{small_text, begins}
+use Rattle.rip_base.specs.declared.page.PageKind.{PageKind}
+use Rattle.rip_base.specs.declared.page.PageKind.TheVariants.{BadTag, BadAttribute, DoubleAttribute, BadReference, ExternalScript, NotInSubset}
+use Rattle.rip_base.specs.Units.{small_text, begins}
 use Rattle.rip_markup.specs.Units.{is_space, is_letter, is_name_unit}
 use Rattle.rip_markup.specs.Words.{is_among, void_names, begins_with, script_types}
 use Rattle.rip_markup.specs.Attributes.{Written, attribute_text, value_units, value_offset, LeadsAttribute, LeadsAttributes}

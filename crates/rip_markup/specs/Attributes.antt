@@ -1,7 +1,7 @@
 -- The attributes of a start tag as the page spells them (HTML 13.1.2.3, with no space around `=`). Units by number: 61 is `=`.
 use Rattle.std.specs.Prelude.{◌≡◌, ℕ, true, false, not, ◌==◌, List, [], ◌∷◌, ◌++◌}
 use Rattle.std.specs.List.{list_all}
-use Rattle.rip_values.specs.Units.{begins}
+use Rattle.rip_base.specs.Units.{begins}
 use Rattle.rip_markup.specs.Units.{is_space, is_letter, is_attribute_unit, is_quote, is_unquoted}
 
 -- a value: none, one without quotes, or one between two of the same quote

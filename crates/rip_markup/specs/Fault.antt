@@ -1,7 +1,7 @@
 -- Why, and how far from the first unit of a construct, it is refused.
 use Rattle.std.specs.Prelude.{ℕ, ◌+◌, Option, Some, None}
 use Rattle.rip_markup.specs.declared.fault.Fault.{Fault}
-use Rattle.rip_values.specs.declared.page.PageKind.{PageKind}
+use Rattle.rip_base.specs.declared.page.PageKind.{PageKind}
 
 -- the fault at this offset, of this kind
 abbrev pub fault : ℕ → PageKind → Fault

@@ -1,6 +1,6 @@
 -- What a page begins with at a place, by its first units (HTML 13.1, 13.2.5). Units by number: 60 is `<`, 62 `>`.
 use Rattle.std.specs.Prelude.{ℕ, Bool, true, false, not, ◌&&◌, ◌==◌, if◌then◌else◌, List, [], ◌∷◌, length, drop, codes}
-use Rattle.rip_values.specs.Units.{small_unit, begins}
+use Rattle.rip_base.specs.Units.{small_unit, begins}
 use Rattle.rip_markup.specs.Units.{is_space, is_letter}
 use Rattle.rip_markup.specs.Words.{begins_with}
 use Rattle.rip_markup.specs.Scans.{behind}

@@ -3,9 +3,9 @@
 use Rattle.std.specs.Prelude.{◌≡◌, ℕ, pred, ◌+◌, Bool, true, false, ◌&&◌, ◌==◌, nat_lt, if◌then◌else◌, List, [], ◌∷◌, drop}
 use Rattle.std.specs.Str.{IsUtf8}
 use Rattle.std.specs.Str.Lossy.{utf8_valid_len}
-use Rattle.rip_values.specs.Text.{IsSameText}
-use Rattle.rip_values.specs.declared.page.PageKind.TheVariants.{NotUtf8}
-use Rattle.rip_values.specs.Units.{is_between}
+use Rattle.rip_base.specs.Text.{IsSameText}
+use Rattle.rip_base.specs.declared.page.PageKind.TheVariants.{NotUtf8}
+use Rattle.rip_base.specs.Units.{is_between}
 use Rattle.rip_markup.specs.declared.input.PageText.{PageText}
 use Rattle.rip_markup.specs.declared.refusal.PageRefusal.{PageRefusal}
 use Rattle.rip_markup.specs.declared.refusal.PageRefusal.TheVariants.{At, Memory}

@@ -1,6 +1,6 @@
 -- What is read of an attribute's parts, as a function. `Tags.read_of` says the same of the attribute as it is written.
 use Rattle.std.specs.Prelude.{ℕ, ◌+◌, List, length, option_map}
-use Rattle.rip_values.specs.Units.{small_text}
+use Rattle.rip_base.specs.Units.{small_text}
 use Rattle.rip_markup.specs.Steps.{decoded, bad_reference}
 use Rattle.rip_markup.specs.declared.attribute.ReadAttribute.{ReadAttribute}
 

@@ -5,7 +5,7 @@ use Rattle.std.specs.Str.{bytes_eq}
 use Rattle.std.specs.List.{list_all}
 use Rattle.std.specs.Char.Escape.{encode_utf16}
 use Rattle.std.specs.Str.Parse.{digits_value}
-use Rattle.rip_values.specs.Units.{is_between, is_hex_digit, begins}
+use Rattle.rip_base.specs.Units.{is_between, is_hex_digit, begins}
 use Rattle.rip_markup.specs.Units.{is_letter, is_digit}
 
 -- the code point of a reference by name

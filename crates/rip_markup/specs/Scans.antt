@@ -2,7 +2,7 @@
 -- of `Attributes` is proved, and no public clause cites them.
 use Rattle.std.specs.Prelude.{◌≡◌, ℕ, Bool, not, ◌==◌, if◌then◌else◌, List, [], ◌∷◌, length, drop, Option, Some, None, option_map, take_while}
 use Rattle.std.specs.List.{prefix_len}
-use Rattle.rip_values.specs.Units.{begins}
+use Rattle.rip_base.specs.Units.{begins}
 use Rattle.rip_markup.specs.Units.{is_space, is_letter, is_attribute_unit, is_quote, is_unquoted}
 use Rattle.rip_markup.specs.Attributes.{Value, Absent, Unquoted, Quoted, value_units, value_offset, Written, LeadsAttribute}
 use Rattle.rip_markup.specs.declared.attribute.ValueSpan.{ValueSpan}

@@ -4,7 +4,7 @@ use Rattle.std.specs.Prelude.{ℕ, zero, suc, ◌+◌, ◌<◌, ◌&&◌, ◌==�
 use Rattle.std.specs.Option.{option_map_or}
 use Rattle.std.specs.List.{prefix_len}
 use Rattle.std.specs.Char.Escape.{encode_utf16}
-use Rattle.rip_values.specs.Units.{begins}
+use Rattle.rip_base.specs.Units.{begins}
 use Rattle.rip_markup.specs.References.{code_of, is_reference_unit, starts_reference}
 use Rattle.rip_markup.specs.declared.reference.Reference.{Reference}
 use Rattle.rip_markup.specs.declared.reference.TextStep.{TextStep}

@@ -3,7 +3,7 @@
 use Rattle.std.specs.Prelude.{◌≡◌, ℕ, ◌+◌, Bool, true, false, not, ◌||◌, ◌&&◌, ◌==◌, if◌then◌else◌, List, [], ◌∷◌, ◌++◌, length, Option, Some, None, is_none, option_map, map, codes}
 use Rattle.std.specs.Str.{bytes_eq}
 use Rattle.std.specs.List.{list_all, prefix_len}
-use Rattle.rip_values.specs.Units.{small_text, begins}
+use Rattle.rip_base.specs.Units.{small_text, begins}
 use Rattle.rip_markup.specs.Units.{is_space, is_letter, is_name_unit}
 use Rattle.rip_markup.specs.Words.{is_among, void_names, script_types, begins_with}
 use Rattle.rip_markup.specs.Steps.{decoded, bad_reference}
@@ -16,8 +16,8 @@ use Rattle.rip_markup.specs.declared.attribute.ReadAttribute.{ReadAttribute}
 use Rattle.rip_markup.specs.declared.tag.StartTag.{StartTag}
 use Rattle.rip_markup.specs.declared.tag.TagEnd.{TagEnd}
 use Rattle.rip_markup.specs.declared.tag.TagEnd.TheVariants.{Closed, Malformed, NoAttribute}
-use Rattle.rip_values.specs.declared.page.Attribute.{Attribute}
-use Rattle.rip_values.specs.declared.page.PageKind.TheVariants.{BadTag, BadAttribute, DoubleAttribute, BadReference, ExternalScript, NotInSubset}
+use Rattle.rip_base.specs.declared.page.Attribute.{Attribute}
+use Rattle.rip_base.specs.declared.page.PageKind.TheVariants.{BadTag, BadAttribute, DoubleAttribute, BadReference, ExternalScript, NotInSubset}
 
 -- how a tag ends behind its attributes and so many units of space
 abbrev pub end_behind : ℕ → List ℕ → TagEnd

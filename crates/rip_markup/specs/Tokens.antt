@@ -3,7 +3,7 @@
 use Rattle.std.specs.Prelude.{◌≡◌, ℕ, ◌+◌, Bool, true, false, not, ◌&&◌, ◌==◌, nat_lt, if◌then◌else◌, List, [], ◌∷◌, length, drop, Option, Some, None, is_some, option_map, take_while, MatchBool, codes}
 use Rattle.std.specs.Str.{bytes_eq}
 use Rattle.std.specs.List.{prefix_len}
-use Rattle.rip_values.specs.Units.{small_text, begins}
+use Rattle.rip_base.specs.Units.{small_text, begins}
 use Rattle.rip_markup.specs.Units.{is_space, is_name_unit}
 use Rattle.rip_markup.specs.Words.{begins_with}
 use Rattle.rip_markup.specs.Steps.{decoded, bad_reference}
@@ -23,7 +23,7 @@ use Rattle.rip_markup.specs.declared.token.EndTag.{EndTag}
 use Rattle.rip_markup.specs.declared.token.Placed.{Placed}
 use Rattle.rip_markup.specs.declared.token.Content.{Content}
 use Rattle.rip_markup.specs.declared.token.Content.TheVariants as C
-use Rattle.rip_values.specs.declared.page.PageKind.TheVariants.{BadReference, NotInSubset}
+use Rattle.rip_base.specs.declared.page.PageKind.TheVariants.{BadReference, NotInSubset}
 
 -- a text with references that is spelled so
 abbrev pub text_run : List ℕ → TextRun

@@ -1,7 +1,7 @@
 -- The units of a page by class (HTML 13.1.2, 13.1.2.3, 13.1.2.6). Units by number: 48 to 57 are the decimal digits, 65
 -- to 90 and 97 to 122 the letters.
 use Rattle.std.specs.Prelude.{ℕ, Bool, not, ◌||◌, ◌==◌, [], ◌∷◌, codes}
-use Rattle.rip_values.specs.Units.{is_between, is_one_of}
+use Rattle.rip_base.specs.Units.{is_between, is_one_of}
 
 -- TAB, LF, FF or SP; a CR is none, since lines end in LF alone by then
 unfoldable pub is_space : ℕ → Bool

@@ -1,7 +1,7 @@
 ghost use Rattle.std.specs.Prelude.{◌≡◌, ◌==◌, ◌≤◌, ◌<◌, ◌^◌, ◌+◌, ℕ, not, option_map, IfSome, IfOk, MatchOption, length};
 ghost use Rattle.std.specs.Option.{ForSome};
 ghost use Rattle.std.specs.List.{prefix_len};
-ghost use Rattle.rip_values.specs.Units.{small_text};
+ghost use Rattle.rip_base.specs.Units.{small_text};
 ghost use Rattle.rip_markup.specs.Scans.{attribute_at, named_at, value_at, given_at, quoted_at, unquoted_at, shown, shown_value, NoneLeads, ShowsAttribute};
 ghost use Rattle.rip_markup.specs.Reads.{read_parts};
 
@@ -10,7 +10,7 @@ use crate::text::decode;
 use crate::units::{
     attribute_name_count, begins_with_letter, is_quote, space_count, unquoted_count,
 };
-use rip_values::{List, NoMemory, Units, small_unit};
+use rip_base::{List, NoMemory, Units, small_unit};
 use std::alloc::Global;
 
 /// How many units an attribute has before its value, in it and behind it.

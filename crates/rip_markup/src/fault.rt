@@ -1,4 +1,4 @@
-use rip_values::PageKind;
+use rip_base::PageKind;
 
 /// Why a construct is refused, and how many units behind its first one.
 #[derive(Clone, Copy, Debug, PartialEq, Eq)]

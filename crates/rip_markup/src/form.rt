@@ -1,6 +1,6 @@
 ghost use Rattle.std.specs.Prelude.{◌≡◌, ◌≤◌, ◌==◌, ◌+◌, drop, length};
 ghost use Rattle.std.specs.Bool.{OnTrue};
-ghost use Rattle.rip_values.specs.Units.{begins};
+ghost use Rattle.rip_base.specs.Units.{begins};
 ghost use Rattle.rip_markup.specs.Units.{is_letter};
 ghost use Rattle.rip_markup.specs.Words.{begins_with};
 ghost use Rattle.rip_markup.specs.Forms.{begins_small, is_doctype, begins_end_tag, markup_form, form_of, is_end_tag, stops, before};
@@ -8,7 +8,7 @@ ghost use Rattle.rip_markup.specs.Forms.{begins_small, is_doctype, begins_end_ta
 use crate::ascii::{GREATER, LESS, SLASH};
 use crate::attribute::count_to;
 use crate::units::{begins_with_letter, is_letter, space_count};
-use rip_values::small_unit;
+use rip_base::small_unit;
 
 /// What a page begins with at a place.
 #[derive(Clone, Copy, Debug, PartialEq, Eq)]

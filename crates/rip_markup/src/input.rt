@@ -5,7 +5,7 @@ ghost use Rattle.rip_markup.specs.Input.{mark_count, unmarked, lines, unit_width
 
 use crate::ascii::{CARRIAGE_RETURN, LINE_FEED};
 use crate::refusal::PageRefusal;
-use rip_values::{List, NoMemory, PageKind, TextError, Units};
+use rip_base::{List, NoMemory, PageKind, TextError, Units};
 use std::alloc::Global;
 use std::str;
 

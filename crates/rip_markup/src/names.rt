@@ -2,7 +2,7 @@ ghost use Rattle.std.specs.Prelude.{◌≡◌, ◌++◌, ◌∷◌, [], ℕ, Lis
 ghost use Rattle.rip_markup.specs.Words.{is_among};
 ghost use Rattle.rip_markup.specs.Known.{Knows};
 
-use rip_values::NoMemory;
+use rip_base::NoMemory;
 use std::alloc::Global;
 use std::collections::BTreeSet;
 

@@ -13,7 +13,7 @@ use crate::tag::start_tag;
 use crate::text::decode;
 use crate::token::{Content, EndTag, TextRun, Token};
 use crate::units::{name_count, space_count};
-use rip_values::{NoMemory, PageKind, Units};
+use rip_base::{NoMemory, PageKind, Units};
 use std::alloc::Global;
 
 /// The token that a text begins with in an element of this content, and how many units it has.

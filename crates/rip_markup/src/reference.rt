@@ -1,14 +1,14 @@
 ghost use Rattle.std.specs.Prelude.{◌≡◌, ◌<◌, ◌≤◌, IfSome, length};
 ghost use Rattle.std.specs.List.{prefix_len, list_all};
 ghost use Rattle.std.specs.Str.Parse.{digits_value};
-ghost use Rattle.rip_values.specs.Units.{begins, is_hex_digit};
+ghost use Rattle.rip_base.specs.Units.{begins, is_hex_digit};
 ghost use Rattle.rip_markup.specs.Units.{is_digit};
 ghost use Rattle.rip_markup.specs.References.{named_code, is_refused_code, allowed_code, digits_code, number_code, code_of, is_reference_unit, starts_reference};
 ghost use Rattle.rip_markup.specs.Steps.{reference_at, first_step, StepWithin};
 
 use crate::ascii::{AMPERSAND, HASH, SEMICOLON, SMALL_X};
 use crate::units::{is_digit, is_letter};
-use rip_values::{digits_value, is_hex_digit};
+use rip_base::{digits_value, is_hex_digit};
 
 /// The greatest code point of Unicode.
 const LAST_CODE: u64 = 0x10_FFFF;

@@ -1,6 +1,6 @@
 ghost use Rattle.std.specs.Prelude.{◌≡◌};
 
-use rip_values::{NoMemory, PageKind};
+use rip_base::{NoMemory, PageKind};
 use thiserror::Error;
 
 /// Why bytes are no page: the first construct that is refused, or want of memory.

@@ -1,6 +1,6 @@
 ghost use Rattle.std.specs.Prelude.{◌≡◌, ◌+◌, ◌<◌, ◌≤◌, ◌^◌, ◌||◌, ℕ, None, Some, List as Items, option_map, IfOk, IfSome, IsTrue, length};
 ghost use Rattle.std.specs.Option.{ForSome};
-ghost use Rattle.rip_values.specs.Units.{begins};
+ghost use Rattle.rip_base.specs.Units.{begins};
 ghost use Rattle.rip_markup.specs.Fault.{fault, shifted, option_or};
 ghost use Rattle.rip_markup.specs.Tags.{tag_end, attribute_fault, own_fault, type_fault, is_against, is_radio, is_multiple, tag_fault, AreRead, IsStartTag};
 ghost use Rattle.rip_markup.specs.Units.{is_letter};
@@ -12,9 +12,7 @@ use crate::fault::Fault;
 use crate::names::{add_name, no_names};
 use crate::units::{name_count, space_count};
 use crate::words::{begins_with_on, is_script_type, is_void};
-use rip_values::{
-    Attribute, List, NoMemory, PageKind, PairList, Units, is_ascii, is_ascii_in_small,
-};
+use rip_base::{Attribute, List, NoMemory, PageKind, PairList, Units, is_ascii, is_ascii_in_small};
 use std::alloc::Global;
 
 /// How a start tag ends behind its attributes.

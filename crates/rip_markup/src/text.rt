@@ -4,7 +4,7 @@ ghost use Rattle.rip_markup.specs.Steps.{decoded, bad_reference};
 ghost use Rattle.rip_markup.specs.Texts.{HasItems, StandsForItems};
 
 use crate::reference::{TextStep, first_step};
-use rip_values::{List, NoMemory, Units};
+use rip_base::{List, NoMemory, Units};
 use std::alloc::Global;
 
 /// What a text with references stands for.

@@ -3,7 +3,7 @@ ghost use Rattle.rip_markup.specs.Tokens.{is_last, content_of, content_after, dr
 
 use crate::fault::Fault;
 use crate::tag::StartTag;
-use rip_values::{Units, is_ascii};
+use rip_base::{Units, is_ascii};
 
 /// A text between tags, or the text of an element that holds nothing else.
 #[derive(Debug, Drop)]

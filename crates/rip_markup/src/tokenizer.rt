@@ -5,7 +5,7 @@ ghost use Rattle.rip_markup.specs.Within.{AreWithin};
 use crate::ascii::LINE_FEED;
 use crate::reading::first_token;
 use crate::token::{Content, Placed};
-use rip_values::{List, NoMemory};
+use rip_base::{List, NoMemory};
 use std::alloc::Global;
 
 /// The tokens of a page's text, whose lines end in LF (HTML 13.2.5). The last one is the end of the page or the first

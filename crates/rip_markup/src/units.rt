@@ -1,6 +1,6 @@
 ghost use Rattle.std.specs.Prelude.{◌≡◌, ◌≤◌, length};
 ghost use Rattle.std.specs.List.{prefix_len};
-ghost use Rattle.rip_values.specs.Units.{begins};
+ghost use Rattle.rip_base.specs.Units.{begins};
 ghost use Rattle.rip_markup.specs.Units.{is_space, is_letter, is_digit, is_name_unit, is_attribute_unit, is_quote, is_unquoted};
 
 /// Whether the unit is TAB, LF, FF or SP.

@@ -1,8 +1,8 @@
 ghost use Rattle.std.specs.Prelude.{◌≡◌, codes};
-ghost use Rattle.rip_values.specs.Units.{small_text};
+ghost use Rattle.rip_base.specs.Units.{small_text};
 ghost use Rattle.rip_markup.specs.Words.{is_among, void_names, refused_names, script_types, begins_with};
 
-use rip_values::{is_ascii, is_ascii_in_small};
+use rip_base::{is_ascii, is_ascii_in_small};
 
 /// Whether the element has no content and no end tag (HTML 13.1.2).
 #[tactic(auto, unfolding(crate::specs::Words::void_names))]

@@ -2,9 +2,9 @@
 use Rattle.std.proofs.Common.{◌≡◌, ℕ, ◌+◌, ◌<◌, ◌≤◌, Bool, true, false, List, ◌++◌, length, refl, sym, ap, ◌∙◌, subst, arith}
 use Rattle.std.specs.Prelude.{if◌then◌else◌}
 use Rattle.std.proofs.lemmas.List.{length-append, length-map}
-use Rattle.rip_values.specs.declared.value.Span.{Span}
+use Rattle.rip_base.specs.declared.value.Span.{Span}
 use Rattle.rip_values.specs.Pool.{Texts, text_at, with_text}
-use Rattle.rip_values.specs.Units.{small_unit, small_text}
+use Rattle.rip_base.specs.Units.{small_unit, small_text}
 use Rattle.rip_heap.specs.World.{World}
 use Rattle.rip_dom.specs.Attributes.{has_attribute}
 use Rattle.rip_dom.specs.Creation.{cost_of_name, is_all_small, with_kept}

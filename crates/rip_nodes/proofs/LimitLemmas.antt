@@ -1,8 +1,8 @@
 -- No change of a tree changes its limit.
 use Rattle.std.proofs.Common.{◌≡◌, ℕ, Bool, true, false, Option, None, Some, List, [], ◌∷◌, length, refl, sym, ap, ◌∙◌}
 use Rattle.std.specs.Prelude.{if◌then◌else◌, ◌==◌}
-use Rattle.rip_values.specs.declared.page.NodeKind.TheVariants.{Text}
-use Rattle.rip_values.specs.declared.value.Span.{Span}
+use Rattle.rip_base.specs.declared.page.NodeKind.TheVariants.{Text}
+use Rattle.rip_base.specs.declared.value.Span.{Span}
 use Rattle.rip_dom.specs.Attributes.{attribute_set, has_attribute}
 use Rattle.rip_dom.specs.Lists.{is_place}
 use Rattle.rip_dom.specs.Opening.{Opening}

@@ -2,11 +2,11 @@
 use Rattle.std.proofs.Common.{◌≡◌, ℕ, ◌+◌, Bool, true, false, List, ◌++◌, length, Result, Ok, Err, sym, ap, ◌∙◌, subst, refl, arith, true≢false}
 use Rattle.std.specs.Prelude.{IsOk, if◌then◌else◌}
 use Rattle.std.proofs.lemmas.List.{length-append}
-use Rattle.rip_values.specs.declared.value.Limit.TheVariants.{Fuel, Cells, Units, Nodes, Depth, Queue, Replies}
-use Rattle.rip_values.specs.declared.value.Refused.TheVariants.{Limit as At, Memory}
-use Rattle.rip_values.specs.declared.value.Span.{Span}
+use Rattle.rip_base.specs.declared.value.Limit.TheVariants.{Fuel, Cells, Units, Nodes, Depth, Queue, Replies}
+use Rattle.rip_base.specs.declared.value.Refused.TheVariants.{Limit as At, Memory}
+use Rattle.rip_base.specs.declared.value.Span.{Span}
 use Rattle.rip_values.specs.Pool.{Texts, text_at, with_text}
-use Rattle.rip_values.specs.Units.{small_text}
+use Rattle.rip_base.specs.Units.{small_text}
 use Rattle.rip_heap.specs.Lending.{PoolGrows}
 use Rattle.rip_dom.specs.declared.creation.DomRefused.{DomRefused}
 use Rattle.rip_dom.specs.declared.reading.TextRefused.{TextRefused}

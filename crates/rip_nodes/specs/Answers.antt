@@ -1,13 +1,13 @@
 -- What a member of the document answers, of the world and the tree before it, with both after it.
 use Rattle.std.specs.Prelude.{◌≡◌, ℕ, ◌+◌, Bool, true, false, nat_le, if◌then◌else◌, Option, None, Some, List, length, unwrap_or}
 use Rattle.rip_values.specs.declared.fixed.FixedText.TheVariants.{Empty}
-use Rattle.rip_values.specs.declared.page.NodeKind.{NodeKind}
-use Rattle.rip_values.specs.declared.page.NodeKind.TheVariants.{Document, Element, Text as TextKind, Comment}
-use Rattle.rip_values.specs.declared.value.Fault.TheVariants.{NotInProfile, TextTooLong}
-use Rattle.rip_values.specs.declared.value.Limit.TheVariants.{Units}
-use Rattle.rip_values.specs.declared.value.Span.{Span}
-use Rattle.rip_values.specs.declared.value.Value.{Value}
-use Rattle.rip_values.specs.declared.value.Value.TheVariants.{Null, Text, Object}
+use Rattle.rip_base.specs.declared.page.NodeKind.{NodeKind}
+use Rattle.rip_base.specs.declared.page.NodeKind.TheVariants.{Document, Element, Text as TextKind, Comment}
+use Rattle.rip_base.specs.declared.value.Fault.TheVariants.{NotInProfile, TextTooLong}
+use Rattle.rip_base.specs.declared.value.Limit.TheVariants.{Units}
+use Rattle.rip_base.specs.declared.value.Span.{Span}
+use Rattle.rip_base.specs.declared.value.Value.{Value}
+use Rattle.rip_base.specs.declared.value.Value.TheVariants.{Null, Text, Object}
 use Rattle.rip_values.specs.Pool.{held, span_behind, with_text}
 use Rattle.rip_heap.specs.declared.host.HostDone.{HostDone}
 use Rattle.rip_heap.specs.declared.host.HostDone.TheVariants as host

@@ -1,10 +1,10 @@
 -- Attributes that are read, given and taken by calls and members (DOM Level 2 Core 1.2).
 use Rattle.std.specs.Prelude.{ℕ, ◌+◌, ◌&&◌, not, Bool, true, false, codes, is_some, if◌then◌else◌, Option, None, Some, List, unwrap_or}
 use Rattle.rip_values.specs.declared.fixed.FixedText.TheVariants.{Empty}
-use Rattle.rip_values.specs.declared.value.Fault.TheVariants.{NotInProfile}
-use Rattle.rip_values.specs.declared.value.Span.{Span}
-use Rattle.rip_values.specs.declared.value.Value.{Value}
-use Rattle.rip_values.specs.declared.value.Value.TheVariants.{Undefined, Bool as Boolean}
+use Rattle.rip_base.specs.declared.value.Fault.TheVariants.{NotInProfile}
+use Rattle.rip_base.specs.declared.value.Span.{Span}
+use Rattle.rip_base.specs.declared.value.Value.{Value}
+use Rattle.rip_base.specs.declared.value.Value.TheVariants.{Undefined, Bool as Boolean}
 use Rattle.rip_values.specs.Pool.{Texts, text_at}
 use Rattle.rip_heap.specs.declared.host.HostDone.{HostDone}
 use Rattle.rip_heap.specs.declared.host.HostDone.TheVariants as host

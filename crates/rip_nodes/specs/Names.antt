@@ -1,6 +1,6 @@
 -- Names that the profile leaves out.
 use Rattle.std.specs.Prelude.{ℕ, ◌==◌, ◌&&◌, Bool, false, codes, List, [], ◌∷◌}
-use Rattle.rip_values.specs.Units.{small_unit}
+use Rattle.rip_base.specs.Units.{small_unit}
 use Rattle.rip_dom.specs.Names.{is_small}
 
 -- the name in small letters is `script`: no script can make an element of that name

@@ -2,13 +2,13 @@
 use Rattle.std.specs.Prelude.{ℕ, pos, Bool, true, false, Option, None, Some, List, unwrap_or, find, codes}
 use Rattle.rip_values.specs.declared.fixed.FixedText.{FixedText}
 use Rattle.rip_values.specs.declared.fixed.FixedText.TheVariants.{Empty, TextName, CommentName, DocumentName}
-use Rattle.rip_values.specs.declared.page.NodeKind.{NodeKind}
-use Rattle.rip_values.specs.declared.page.NodeKind.TheVariants.{Document, Element, Text, Comment}
+use Rattle.rip_base.specs.declared.page.NodeKind.{NodeKind}
+use Rattle.rip_base.specs.declared.page.NodeKind.TheVariants.{Document, Element, Text, Comment}
 use Rattle.rip_values.specs.declared.builtin.Builtin.{Builtin}
 use Rattle.rip_values.specs.declared.builtin.Builtin.TheVariants as call
-use Rattle.rip_values.specs.declared.value.Span.{Span}
-use Rattle.rip_values.specs.declared.value.Value.{Value}
-use Rattle.rip_values.specs.declared.value.Value.TheVariants.{Null, Num, Object}
+use Rattle.rip_base.specs.declared.value.Span.{Span}
+use Rattle.rip_base.specs.declared.value.Value.{Value}
+use Rattle.rip_base.specs.declared.value.Value.TheVariants.{Null, Num, Object}
 use Rattle.rip_values.specs.Builtins.{number_of}
 use Rattle.rip_values.specs.Pool.{text_at}
 use Rattle.rip_heap.specs.declared.host.HostDone.{HostDone}

@@ -1,12 +1,12 @@
 -- Members of nodes that are written (DOM Level 2 Core 1.2).
 use Rattle.std.specs.Prelude.{ℕ}
 use Rattle.rip_values.specs.declared.fixed.FixedText.TheVariants.{Empty, Id as IdText}
-use Rattle.rip_values.specs.declared.page.NodeKind.{NodeKind}
-use Rattle.rip_values.specs.declared.page.NodeKind.TheVariants.{Document, Element, Text, Comment}
-use Rattle.rip_values.specs.declared.value.Fault.TheVariants.{NotInProfile}
-use Rattle.rip_values.specs.declared.value.Span.{Span}
-use Rattle.rip_values.specs.declared.value.Value.{Value}
-use Rattle.rip_values.specs.declared.value.Value.TheVariants.{Undefined, Null, Bool as Boolean, Num, NaN, Text as TextValue, Object}
+use Rattle.rip_base.specs.declared.page.NodeKind.{NodeKind}
+use Rattle.rip_base.specs.declared.page.NodeKind.TheVariants.{Document, Element, Text, Comment}
+use Rattle.rip_base.specs.declared.value.Fault.TheVariants.{NotInProfile}
+use Rattle.rip_base.specs.declared.value.Span.{Span}
+use Rattle.rip_base.specs.declared.value.Value.{Value}
+use Rattle.rip_base.specs.declared.value.Value.TheVariants.{Undefined, Null, Bool as Boolean, Num, NaN, Text as TextValue, Object}
 use Rattle.rip_heap.specs.declared.host.HostDone.{HostDone}
 use Rattle.rip_heap.specs.declared.host.HostDone.TheVariants as host
 use Rattle.rip_heap.specs.Conversions.{span_of}

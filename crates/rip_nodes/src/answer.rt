@@ -7,8 +7,9 @@ ghost use Rattle.rip_dom.specs.Tree.{is_element};
 ghost use Rattle.rip_nodes.specs.Answers.{IsAnswered, attribute_value, is_document, node_value, node_or_null, text_or_null, text_value};
 ghost use Rattle.rip_nodes.specs.Reading.{fixed_value, method, node_text};
 
+use rip_base::{Fault, NodeKind, Span, Value};
 use rip_heap::{Heap, HostDone};
-use rip_values::{Builtin, FIRST_NODE, Fault, FixedText, NodeKind, Span, Value};
+use rip_values::{Builtin, FIRST_NODE, FixedText};
 
 pub fn outside() -> HostDone
     ensures { result ≡ HostDone.Fault Fault.NotInProfile }

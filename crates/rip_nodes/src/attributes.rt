@@ -9,9 +9,10 @@ ghost use Rattle.rip_nodes.specs.Texts.{are_past, cost_of_text, text_span, with_
 
 use crate::answer::{attribute_value, outside};
 use crate::texts::{are_past, cost_of_text, make_text, standing_text, text_arg, text_fault};
+use rip_base::{Limit, Span, Value, small_unit};
 use rip_dom::{Dom, INVALID_CHARACTER, is_attribute_name, is_small};
 use rip_heap::{Heap, HostDone};
-use rip_values::{FixedText, Limit, Span, Value, small_unit};
+use rip_values::FixedText;
 use std::alloc::Global;
 
 /// The value of the attribute, or the empty text.

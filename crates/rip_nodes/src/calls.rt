@@ -16,9 +16,10 @@ use crate::attributes::{
 use crate::member::NodeCall;
 use crate::moves::{append_child, insert_before, remove_child, replace_child};
 use crate::texts::{standing_text, text_arg, text_fault};
+use rip_base::{Limit, Refused, Span, Value};
 use rip_dom::{Dom, DomRefused, INVALID_CHARACTER, is_element_name, is_small};
 use rip_heap::{Heap, HostDone};
-use rip_values::{Limit, Pool, Refused, Span, Value};
+use rip_values::Pool;
 use std::alloc::Global;
 
 /// The name of elements that would hold a script.

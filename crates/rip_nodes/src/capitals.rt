@@ -4,9 +4,9 @@ ghost use Rattle.rip_nodes.specs.Answers.{AddsTexts, IsAnswered, new_text, with_
 ghost use Rattle.rip_dom.specs.Letters.{text_in};
 
 use crate::answer::text_value;
+use rip_base::{Fault, Limit, Span};
 use rip_dom::{Letters, push_in};
 use rip_heap::{Heap, HostDone};
-use rip_values::{Fault, Limit, Span};
 use std::alloc::Global;
 
 /// A new text: this one in capitals. Its length is judged before its charge.

@@ -7,8 +7,8 @@ ghost use Rattle.rip_nodes.specs.Answers.{node_or_null};
 ghost use Rattle.rip_nodes.specs.Reading.{document_element};
 
 use crate::answer::{is_element, node_or_null, node_value};
+use rip_base::Value;
 use rip_dom::Dom;
-use rip_values::Value;
 
 /// The node's parent as a value, or null; so in the four functions that follow.
 pub(crate) fn parent(dom: &Dom, n: u32) -> Value

@@ -3,9 +3,10 @@ ghost use Rattle.rip_heap.specs.World.{first_node};
 ghost use Rattle.rip_nodes.specs.Answers.{IsAnswered, KeepsTree};
 ghost use Rattle.rip_nodes.specs.Calls.{child_appended, child_inserted, child_removed, child_replaced, node_in, node_of_object, place_in};
 
+use rip_base::Value;
 use rip_dom::Dom;
 use rip_heap::{Heap, HostDone};
-use rip_values::{FIRST_NODE, Value};
+use rip_values::FIRST_NODE;
 
 /// The node of this number as an object, where there is one.
 pub fn node_of_object(dom: &Dom, n: u32) -> Option<u32>

@@ -15,9 +15,10 @@ use crate::links::{
     document_element, first_child, last_child, next_sibling, parent, previous_sibling,
 };
 use crate::member::NodeMember;
+use rip_base::{Fault, NodeKind, Refused, Value, Whole};
 use rip_dom::{Dom, TextRefused};
 use rip_heap::{Heap, HostDone};
-use rip_values::{Builtin, Fault, FixedText, NodeKind, Refused, Value, Whole};
+use rip_values::{Builtin, FixedText};
 use std::alloc::Global;
 
 /// The names of the attributes that members stand for.

@@ -3,8 +3,9 @@ ghost use Rattle.rip_heap.specs.Conversions.{text_fault};
 ghost use Rattle.rip_nodes.specs.Answers.{AddsTexts, IsAnswered};
 ghost use Rattle.rip_nodes.specs.Texts.{are_past, cost_of_text, standing_text, text_span, text_taken, world_with};
 
+use rip_base::{Fault, Limit, Span, Value, text_of_whole};
 use rip_heap::{Heap, HostDone};
-use rip_values::{Fault, FixedText, Limit, Span, Value, text_of_whole};
+use rip_values::FixedText;
 use std::alloc::Global;
 
 /// The text of a value, where it stands already. A number has none yet, an object none at all.

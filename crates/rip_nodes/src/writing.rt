@@ -12,9 +12,10 @@ use crate::answer::{is_element, outside};
 use crate::attributes::give_attribute;
 use crate::member::NodeMember;
 use crate::texts::{cost_of_text, standing_text, text_arg};
+use rip_base::{Limit, NodeKind, Span, Value};
 use rip_dom::Dom;
 use rip_heap::{Heap, HostDone};
-use rip_values::{FixedText, Limit, NodeKind, Span, Value};
+use rip_values::FixedText;
 use std::alloc::Global;
 
 /// The name of the attribute that `id` stands for.

@@ -1,3 +1,7 @@
-pub mod JoiningLemmas
 pub mod AlongLemmas
+pub mod ArrayLemmas
+pub mod BuiltinLemmas
+pub mod JoiningLemmas
+pub mod ObjectLemmas
+pub mod PlainLemmas
 pub mod QuotientLemmas

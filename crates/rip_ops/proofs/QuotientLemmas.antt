@@ -6,10 +6,10 @@ use Rattle.std.proofs.lemmas.Int.{quot-rem}
 use Rattle.std.proofs.Math.Nat.{mul-mod_left}
 use lib.IntN.{+ℤ_idr}
 use Rattle.std.specs.Prelude.{int_div, int_rem}
-use Rattle.rip_values.specs.declared.value.Numeral.{Numeral}
-use Rattle.rip_values.specs.declared.value.Numeral.TheVariants.{Num, NaN}
-use Rattle.rip_values.specs.declared.value.Fault.{Fault}
-use Rattle.rip_values.specs.declared.value.Fault.TheVariants.{NotWhole, Infinite}
+use Rattle.rip_base.specs.declared.value.Numeral.{Numeral}
+use Rattle.rip_base.specs.declared.value.Numeral.TheVariants.{Num, NaN}
+use Rattle.rip_base.specs.declared.value.Fault.{Fault}
+use Rattle.rip_base.specs.declared.value.Fault.TheVariants.{NotWhole, Infinite}
 use Rattle.rip_ops.specs.Arithmetic.{quotient, IsQuotient, IsQuotientOf}
 
 zero-true : (z : ℤ) → (unsigned_abs z == 0) ≡ true → z ≡ pos 0

@@ -1,8 +1,8 @@
 use Rattle.std.specs.Prelude.{ℕ, ◌||◌, ◌++◌, ◌+◌, Result, Ok, Err, nat_le, if◌then◌else◌}
-use Rattle.rip_values.specs.declared.value.Value.{Value}
-use Rattle.rip_values.specs.declared.value.Value.TheVariants.{Text}
-use Rattle.rip_values.specs.declared.value.Fault.TheVariants.{ObjectToPrimitive, TextTooLong}
-use Rattle.rip_values.specs.declared.value.Limit.TheVariants.{Units}
+use Rattle.rip_base.specs.declared.value.Value.{Value}
+use Rattle.rip_base.specs.declared.value.Value.TheVariants.{Text}
+use Rattle.rip_base.specs.declared.value.Fault.TheVariants.{ObjectToPrimitive, TextTooLong}
+use Rattle.rip_base.specs.declared.value.Limit.TheVariants.{Units}
 use Rattle.rip_heap.specs.declared.outcome.Halt.{Halt}
 use Rattle.rip_heap.specs.declared.outcome.Halt.TheVariants.{Fault as HaltFault, Limit as HaltLimit}
 use Rattle.rip_heap.specs.Conversions.{text_of_value, text_in, room_for_text}

@@ -1,7 +1,7 @@
 use Rattle.std.specs.Prelude.{ℕ, zero, suc, Bool, true, false, ◌||◌, ◌==◌, Option, None, Some, nat_lt, if◌then◌else◌}
-use Rattle.rip_values.specs.declared.value.Value.{Value}
-use Rattle.rip_values.specs.declared.value.Value.TheVariants.{Undefined, Null, Bool as Boolean, Num, NaN, Text, Object}
-use Rattle.rip_values.specs.declared.value.Fault.TheVariants.{NotInProfile}
+use Rattle.rip_base.specs.declared.value.Value.{Value}
+use Rattle.rip_base.specs.declared.value.Value.TheVariants.{Undefined, Null, Bool as Boolean, Num, NaN, Text, Object}
+use Rattle.rip_base.specs.declared.value.Fault.TheVariants.{NotInProfile}
 use Rattle.rip_values.specs.Builtins.{number_of}
 use Rattle.rip_values.specs.declared.builtin.Builtin.TheVariants.{Error as ErrorBuiltin, TypeError as TypeErrorBuiltin, RangeError as RangeErrorBuiltin}
 use Rattle.rip_heap.specs.declared.class.Class.{Class}

@@ -1,9 +1,17 @@
+pub mod AccessLaws
 pub mod Addition
 pub mod Arithmetic
+pub mod Base
+pub mod CallTable
+pub mod Calls
+pub mod Deleting
 pub mod Equality
 pub mod Instances
+pub mod Keys
 pub mod Laws
 pub mod Members
 pub mod Numbers
 pub mod Operators
 pub mod Order
+pub mod Reading
+pub mod Writing

@@ -1,7 +1,7 @@
 use Rattle.std.specs.Prelude.{Result, Ok, Err}
-use Rattle.rip_values.specs.declared.value.Value.{Value}
-use Rattle.rip_values.specs.declared.value.Numeral.{Numeral}
-use Rattle.rip_values.specs.declared.value.Fault.{Fault}
+use Rattle.rip_base.specs.declared.value.Value.{Value}
+use Rattle.rip_base.specs.declared.value.Numeral.{Numeral}
+use Rattle.rip_base.specs.declared.value.Fault.{Fault}
 use Rattle.rip_values.specs.Pool.{Texts}
 use Rattle.rip_heap.specs.Conversions.{number_of}
 

@@ -1,12 +1,12 @@
 use Rattle.std.specs.Prelude.{not, Result, Ok}
 use Rattle.std.specs.Ordering.{is_lt, is_gt, is_le, is_ge}
-use Rattle.rip_values.specs.declared.operator.BinaryOperator.{BinaryOperator}
-use Rattle.rip_values.specs.declared.operator.BinaryOperator.TheVariants.{Multiply, Divide, Remainder, Add, Subtract, ShiftLeft, ShiftRight, ShiftRightUnsigned, Less, Greater, LessOrEqual, GreaterOrEqual, InstanceOf, In, Equal, NotEqual, StrictEqual, StrictNotEqual, BitAnd, BitXor, BitOr}
-use Rattle.rip_values.specs.declared.value.Value.{Value}
-use Rattle.rip_values.specs.declared.value.Value.TheVariants.{Bool as Boolean}
-use Rattle.rip_values.specs.declared.value.Numeral.{Numeral}
-use Rattle.rip_values.specs.declared.value.Numeral.TheVariants.{NaN}
-use Rattle.rip_values.specs.declared.value.Fault.{Fault}
+use Rattle.rip_base.specs.declared.operator.BinaryOperator.{BinaryOperator}
+use Rattle.rip_base.specs.declared.operator.BinaryOperator.TheVariants.{Multiply, Divide, Remainder, Add, Subtract, ShiftLeft, ShiftRight, ShiftRightUnsigned, Less, Greater, LessOrEqual, GreaterOrEqual, InstanceOf, In, Equal, NotEqual, StrictEqual, StrictNotEqual, BitAnd, BitXor, BitOr}
+use Rattle.rip_base.specs.declared.value.Value.{Value}
+use Rattle.rip_base.specs.declared.value.Value.TheVariants.{Bool as Boolean}
+use Rattle.rip_base.specs.declared.value.Numeral.{Numeral}
+use Rattle.rip_base.specs.declared.value.Numeral.TheVariants.{NaN}
+use Rattle.rip_base.specs.declared.value.Fault.{Fault}
 use Rattle.rip_heap.specs.Conversions.{boolean_of, number_of, strictly_equal}
 use Rattle.rip_heap.specs.World.{World}
 use Rattle.rip_ops.specs.declared.operators.UnaryOp.{UnaryOp}

@@ -1,7 +1,7 @@
 ghost use Rattle.std.specs.Prelude.{◌≡◌, ◌++◌, length};
 ghost use Rattle.std.specs.Fmt.{signed_decimal};
 ghost use Rattle.rip_values.specs.Pool.{joined};
-ghost use Rattle.rip_values.specs.declared.value.Value.TheVariants.{Num, Text};
+ghost use Rattle.rip_base.specs.declared.value.Value.TheVariants.{Num, Text};
 ghost use Rattle.rip_heap.specs.Growth.{Grows};
 ghost use Rattle.rip_ops.specs.Addition.{added, joining, room_for};
 ghost use Rattle.rip_ops.specs.Numbers.{of_numbers};
@@ -11,8 +11,8 @@ ghost use Rattle.rip_ops.specs.Arithmetic.{sum};
 use crate::arithmetic::sum;
 use crate::numbers::numbers_of;
 use crate::order::either_is_object;
+use rip_base::{Fault, Limit, Numeral, Span, Value, Whole, text_of_whole};
 use rip_heap::{Abrupt, Halt, Heap, number_done, room_for_text, to_text};
-use rip_values::{Fault, Limit, Numeral, Span, Value, Whole, text_of_whole};
 use std::alloc::Global;
 
 /// `+` (ECMA-262 11.6.1).

@@ -1,10 +1,10 @@
 ghost use Rattle.std.specs.Prelude.{◌≡◌, ◌<◌, ◌-ℤ◌, pos, negsuc};
-ghost use Rattle.rip_values.specs.Whole.{IsWhole};
+ghost use Rattle.rip_base.specs.Whole.{IsWhole};
 ghost use Rattle.rip_heap.specs.Conversions.{ranged};
 ghost use Rattle.rip_ops.specs.Arithmetic.{product, sum, difference, quotient, IsQuotient, remainder, count_of, shifted_left, shifted_right, shifted_right_unsigned, bits_and, bits_xor, bits_or, negative, bits_not};
 
+use rip_base::{Fault, Numeral, Whole};
 use rip_heap::{to_int32, to_uint32};
-use rip_values::{Fault, Numeral, Whole};
 
 /// `*` of numbers (ECMA-262 11.5.1).
 pub fn product(a: Numeral, b: Numeral) -> Result<Numeral, Fault>

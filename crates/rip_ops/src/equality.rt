@@ -3,8 +3,8 @@ ghost use Rattle.rip_ops.specs.Equality.{loosely_equal, equal_numbers, negated};
 ghost use Rattle.rip_ops.specs.Numbers.{of_numbers};
 
 use crate::numbers::numbers_of;
+use rip_base::{Fault, Numeral, Value};
 use rip_heap::{Heap, strictly_equal};
-use rip_values::{Fault, Numeral, Value};
 
 /// `==` (ECMA-262 11.9.3).
 pub fn loosely_equal(heap: &Heap, a: Value, b: Value) -> Result<bool, Fault>

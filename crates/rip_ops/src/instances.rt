@@ -3,8 +3,9 @@ ghost use Rattle.rip_heap.specs.World.{object_at, class_of};
 ghost use Rattle.rip_ops.specs.Instances.{instance_of, instance_of_builtin, instance_of_class, has_instance, has_above, is_above, is_of, is_error, is_type_error, is_range_error};
 ghost use Rattle.rip_heap.specs.Outcome.{Answers};
 
+use rip_base::{Fault, Value};
 use rip_heap::{Abrupt, Class, Heap};
-use rip_values::{Builtin, FIRST_HEAP_OBJECT, Fault, FixedText, Value};
+use rip_values::{Builtin, FIRST_HEAP_OBJECT, FixedText};
 
 /// `instanceof` (ECMA-262 11.8.6).
 pub fn instance_of(heap: &Heap, a: Value, b: Value) -> Result<Value, Abrupt>

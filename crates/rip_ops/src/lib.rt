@@ -25,6 +25,7 @@
 //! A layer above may rest on this: each call is total, a number that is no object of the heap included.
 #![tactic(auto)]
 
+pub mod access;
 mod addition;
 mod arithmetic;
 mod equality;

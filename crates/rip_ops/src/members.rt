@@ -2,11 +2,12 @@ ghost use Rattle.rip_heap.specs.Growth.{Grows};
 ghost use Rattle.rip_ops.specs.Members.{contained, in_asked, in_plain, in_array, number_in_array, absent};
 ghost use Rattle.rip_heap.specs.Outcome.{Answers};
 
+use rip_base::{Fault, Span, Value, Whole};
 use rip_heap::{
     Abrupt, Asked, Found, Heap, asked_of, index_of, is_index, is_named, is_of_object_prototype,
     is_underscored, look_up, not_in_profile,
 };
-use rip_values::{Fault, FixedText, Span, Value, Whole};
+use rip_values::FixedText;
 use std::alloc::Global;
 
 /// `in` (ECMA-262 11.8.7).

@@ -1,8 +1,8 @@
 ghost use Rattle.std.specs.Prelude.{◌≡◌};
 ghost use Rattle.rip_ops.specs.Numbers.{numbers_of};
 
+use rip_base::{Fault, Numeral, Value};
 use rip_heap::{Heap, to_number};
-use rip_values::{Fault, Numeral, Value};
 
 /// Both operands as numbers, the left one first (ECMA-262 9.3).
 pub fn numbers_of(heap: &Heap, a: Value, b: Value) -> Result<(Numeral, Numeral), Fault>

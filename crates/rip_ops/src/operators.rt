@@ -15,8 +15,8 @@ use crate::instances::instance_of;
 use crate::members::contained;
 use crate::numbers::numbers_of;
 use crate::order::{is_at_least, is_at_most, is_greater, is_less};
+use rip_base::{BinaryOperator, Fault, Numeral, Value};
 use rip_heap::{Abrupt, Heap, number_done, strictly_equal, to_boolean, to_number, truth_done};
-use rip_values::{BinaryOperator, Fault, Numeral, Value};
 use std::alloc::Global;
 
 /// The operators of one operand that this crate answers (ECMA-262 11.4.6 to 11.4.9).

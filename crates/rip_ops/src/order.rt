@@ -5,8 +5,8 @@ ghost use Rattle.rip_values.specs.Pool.{text_at};
 ghost use Rattle.rip_ops.specs.Order.{is_object, order_of, order_of_others, order_of_numbers, is_so};
 
 use crate::numbers::numbers_of;
+use rip_base::{Fault, Numeral, Span, Value};
 use rip_heap::Heap;
-use rip_values::{Fault, Numeral, Span, Value};
 use std::cmp::Ordering;
 
 /// The order of two values, or none where one is NaN (ECMA-262 11.8.5).

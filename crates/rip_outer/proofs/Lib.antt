@@ -1,6 +1,6 @@
 pub mod Composing
 pub mod Cuts
-pub mod Examples
-pub mod Telling
-pub mod Marks
 pub mod Doors
+pub mod Examples
+pub mod Marks
+pub mod Telling

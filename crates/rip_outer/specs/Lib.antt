@@ -1,10 +1,10 @@
-pub mod Outside
-pub mod Reading
-pub mod Writing
+pub mod Calls
 pub mod Connections
 pub mod KnockLists
 pub mod Memory
-pub mod Calls
 pub mod MemoryDoor
 pub mod Moments
+pub mod Outside
 pub mod Pieces
+pub mod Reading
+pub mod Writing

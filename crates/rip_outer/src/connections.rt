@@ -1,4 +1,4 @@
-use rip_values::Bytes;
+use rip_base::Bytes;
 
 /// What a door answers when it is asked what came from outside. Connections are numbered 0, 1, 2 in the order of
 /// `Opened`.

@@ -3,7 +3,7 @@ ghost use Rattle.rip_outer.specs.Connections.{CountsKnock, FitsRoom, telling};
 ghost use Rattle.rip_outer.specs.KnockLists.{FitsPiece};
 
 use crate::connections::{Knock, TraceKnock};
-use rip_values::{Bytes, NoMemory};
+use rip_base::{Bytes, NoMemory};
 use std::alloc::Global;
 use std::collections::VecDeque;
 

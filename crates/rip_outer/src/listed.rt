@@ -1,6 +1,6 @@
 ghost use Rattle.std.specs.Prelude.{◌≡◌, ◌+◌, ◌<◌, ◌≤◌, ◌^◌, ◌↔◌, IsTrue, Contains, IfOk};
 
-use rip_values::{NoMemory, NumberList};
+use rip_base::{NoMemory, NumberList};
 use std::alloc::Global;
 
 /// The calls of a form in memory, some of which fail: the numbers of those that do, from 1, and how many calls were

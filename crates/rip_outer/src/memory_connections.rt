@@ -2,7 +2,7 @@ ghost use Rattle.std.specs.Prelude.{◌≡◌, ◌<◌, ◌-◌, ◌∷◌, ◌+
 ghost use Rattle.rip_outer.specs.MemoryDoor.{no_connections, after_knock};
 
 use crate::connections::TraceKnock;
-use rip_values::NoMemory;
+use rip_base::NoMemory;
 use std::alloc::Global;
 use std::marker::Model;
 

@@ -6,7 +6,7 @@ use crate::knock_list::KnockList;
 use crate::knocks::{answer_of, copy_of_knocks};
 use crate::listed::Calls;
 use crate::memory_connections::MemoryConnections;
-use rip_values::{NoMemory, NumberList};
+use rip_base::{NoMemory, NumberList};
 use std::alloc::Global;
 use std::collections::VecDeque;
 use std::marker::Model;

@@ -4,7 +4,7 @@ ghost use Rattle.rip_outer.specs.Reading.{contents_of};
 
 use crate::listed::{copy_of_numbers, is_listed};
 use crate::reading::{FileList, Files, FilesError, MAX_FILE, NamedFile};
-use rip_values::{Bytes, List, NoMemory, NumberList};
+use rip_base::{Bytes, List, NoMemory, NumberList};
 use std::alloc::Global;
 use std::marker::Model;
 

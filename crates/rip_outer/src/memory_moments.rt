@@ -1,6 +1,6 @@
 use crate::listed::copy_of_numbers;
 use crate::moments::{Clock, Words};
-use rip_values::{NoMemory, NumberList};
+use rip_base::{NoMemory, NumberList};
 use std::alloc::Global;
 use std::marker::Model;
 

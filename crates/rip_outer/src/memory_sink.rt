@@ -2,7 +2,7 @@ ghost use Rattle.std.specs.Prelude.{◌≡◌, ◌+◌, ◌↔◌, Contains, IfO
 
 use crate::listed::{copy_of_numbers, is_listed};
 use crate::writing::{Sink, SinkError};
-use rip_values::{NoMemory, NumberList};
+use rip_base::{NoMemory, NumberList};
 use std::alloc::Global;
 use std::marker::Model;
 

@@ -1,7 +1,7 @@
 ghost use Rattle.std.specs.Prelude.{◌≡◌, IfOk};
 
 use crate::writing::{Sink, SinkError};
-use rip_values::NoMemory;
+use rip_base::NoMemory;
 use std::alloc::Global;
 use std::marker::Model;
 

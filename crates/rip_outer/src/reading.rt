@@ -1,4 +1,4 @@
-use rip_values::{Bytes, List};
+use rip_base::{Bytes, List};
 use std::alloc::Global;
 use thiserror::Error;
 

@@ -1,4 +1,4 @@
-use rip_values::NoMemory;
+use rip_base::NoMemory;
 use thiserror::Error;
 
 /// Why bytes weren't put.

@@ -2,8 +2,8 @@
 use Rattle.std.proofs.Common.{◌≡◌, ℕ, ◌+◌, ◌<◌, ◌≤◌, Bool, true, false, ◌&&◌, ◌||◌, nat_le, List, [], ◌∷◌, Some, refl, sym, ap, ◌∙◌, arith, leb-true}
 use Rattle.std.specs.Prelude.{max}
 use Rattle.std.proofs.lemmas.Bool.{and_parts}
-use Rattle.rip_values.specs.declared.operator.BinaryOperator.TheVariants as B
-use Rattle.rip_values.specs.declared.operator.UnaryOperator.TheVariants as U
+use Rattle.rip_base.specs.declared.operator.BinaryOperator.TheVariants as B
+use Rattle.rip_base.specs.declared.operator.UnaryOperator.TheVariants as U
 use Rattle.rip_tree.specs.declared.form.Form.{Form}
 use Rattle.rip_tree.specs.declared.form.Form.TheVariants as F
 use Rattle.rip_grammar.specs.declared.word.Word.{Word}

@@ -1,6 +1,6 @@
 -- Forms that are told outright have no text.
 use Rattle.std.proofs.Common.{◌≡◌, ℕ, List, length, Option, Some, None, refl, sym, ap, ◌∙◌, subst}
-use Rattle.rip_values.specs.declared.operator.BinaryOperator.TheVariants as B
+use Rattle.rip_base.specs.declared.operator.BinaryOperator.TheVariants as B
 use Rattle.rip_tree.specs.declared.form.Form.{Form}
 use Rattle.rip_tree.specs.declared.form.Form.TheVariants as F
 use Rattle.rip_tree.specs.declared.form.TextLiteral.{TextLiteral}

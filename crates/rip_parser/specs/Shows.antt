@@ -10,8 +10,8 @@ use Rattle.rip_tree.specs.declared.form.FunctionHead.{FunctionHead}
 use Rattle.rip_tree.specs.declared.form.Key.{Key}
 use Rattle.rip_tree.specs.declared.form.Key.TheVariants as Y
 use Rattle.rip_tree.specs.declared.form.TextLiteral.{TextLiteral}
-use Rattle.rip_values.specs.declared.operator.BinaryOperator.TheVariants as B
-use Rattle.rip_values.specs.declared.operator.UnaryOperator.TheVariants as U
+use Rattle.rip_base.specs.declared.operator.BinaryOperator.TheVariants as B
+use Rattle.rip_base.specs.declared.operator.UnaryOperator.TheVariants as U
 use Rattle.rip_grammar.specs.declared.word.Word.{Word}
 use Rattle.rip_grammar.specs.declared.word.Word.TheVariants as W
 use Rattle.rip_grammar.specs.declared.word.Lexeme.{Lexeme}

@@ -11,10 +11,10 @@ use crate::error::BuildError;
 use crate::forms::{is_part, piece_of, plain_form};
 use crate::literal::{literal_of, numeral_of};
 use crate::part::{Part, deeper, greatest, levels_over, list_numbers, place_over};
+use rip_base::NoMemory;
 use rip_grammar::{Event, Head, Lexeme, Word};
 use rip_lexer::Token;
 use rip_tree::{Form, Key, Node, Tree, TreeMaker};
-use rip_values::NoMemory;
 use std::alloc::Global;
 use std::marker::Model;
 

@@ -11,8 +11,8 @@ use crate::grammar::{
 use crate::levels::{ASSIGNMENT, COMMA, OR, POSTFIX};
 use crate::machine::{Machine, node_at, node_behind, one_more};
 use rip_automaton::{Frame, Header, Invocation, Mode, Pending, Shape};
+use rip_base::{BinaryOperator, NoMemory};
 use rip_grammar::{Event, Head, Lexeme, Word};
-use rip_values::{BinaryOperator, NoMemory};
 
 impl Machine {
     /// Ends the open operators that hold at least this tightly, the latest first. Answers the shape of what is left, or

@@ -4,8 +4,8 @@ ghost use Rattle.std.specs.Prelude.{◌≡◌, reverse, IfOk, OnOk};
 ghost use Rattle.rip_parser.specs.Search.{Search, below_one_more, found, is_deep, next_around, next_standing, noted, parenthesis_noted, pushed, standing_in, standing_within, taken};
 
 use crate::forms::is_part;
+use rip_base::NoMemory;
 use rip_grammar::Event;
-use rip_values::NoMemory;
 use std::alloc::Global;
 use std::marker::Model;
 

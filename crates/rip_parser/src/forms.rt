@@ -2,9 +2,9 @@ ghost use Rattle.std.specs.Prelude.{◌≡◌, IsTrue, ◌↔◌};
 ghost use Rattle.rip_parser.specs.Building.{is_part, plain_form};
 ghost use Rattle.rip_parser.specs.Shows.{piece_of, infix_form, prefix_form, postfix_form, assignment_form};
 
+use rip_base::{BinaryOperator, UnaryOperator};
 use rip_grammar::{Head, Lexeme, Word};
 use rip_tree::{Form, FunctionHead, Piece};
-use rip_values::{BinaryOperator, UnaryOperator};
 
 /// The piece of a lexeme.
 pub(crate) fn piece_of(lexeme: Lexeme) -> Piece

@@ -11,8 +11,8 @@ use crate::levels::{
     PRODUCT, RELATION, SHIFT, SUM,
 };
 use rip_automaton::{Frame, Pending, Shape, VarRole};
+use rip_base::{BinaryOperator, LogicalOperator, UnaryOperator};
 use rip_grammar::{Event, Head, Lexeme, Word};
-use rip_values::{BinaryOperator, LogicalOperator, UnaryOperator};
 
 /// Whether the word may stand behind `.` and as a key: a name or a reserved word (ECMA-262 7.6).
 pub(crate) fn is_identifier_name(word: Word) -> bool

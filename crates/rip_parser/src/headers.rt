@@ -7,8 +7,8 @@ ghost use Rattle.rip_parser.specs.Running.{Takes};
 use crate::grammar::{is_inserted, is_inserted_behind_name};
 use crate::machine::{Machine, node_at, one_more};
 use rip_automaton::{Frame, Mode, VarRole};
+use rip_base::NoMemory;
 use rip_grammar::{Event, Head, Lexeme, Word};
-use rip_values::NoMemory;
 
 impl Machine {
     /// The init of a `for` has ended, before this lexeme (ECMA-262 12.6.3).

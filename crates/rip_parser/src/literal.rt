@@ -10,10 +10,10 @@ ghost use Rattle.rip_parser.specs.Listed.{AreInOrder, IsListed, IsTextToken, Gro
 ghost use Rattle.rip_parser.specs.Shows.{IsText, spelling_of};
 
 use crate::error::BuildError;
+use rip_base::Whole;
 use rip_grammar::Lexeme;
 use rip_lexer::{Token, TokenKind, numeral_value, text_value};
 use rip_tree::{TextLiteral, TreeMaker};
-use rip_values::Whole;
 
 /// The units of a lexeme of a script. Of a lexeme past the end they are those that are there.
 fn spelling_of(script: &[u16], lexeme: Lexeme) -> &[u16]

@@ -9,8 +9,8 @@ ghost use Rattle.rip_parser.specs.Running.{Course, Takes, first, others};
 use crate::grammar::{bars_in, floor};
 use crate::levels::ASSIGNMENT;
 use rip_automaton::{Frame, Mode};
+use rip_base::NoMemory;
 use rip_grammar::{Event, Head};
-use rip_values::NoMemory;
 use std::alloc::Global;
 use std::marker::Model;
 

@@ -8,8 +8,8 @@ use crate::grammar::{is_identifier_name, is_key, is_prefix, is_single, single_sh
 use crate::levels::PREFIX;
 use crate::machine::{Machine, node_at, node_behind, one_more, sum_of_counts};
 use rip_automaton::{Frame, Invocation, Mode, Owner, Pending, Shape};
+use rip_base::NoMemory;
 use rip_grammar::{Head, Lexeme, Word};
-use rip_values::NoMemory;
 
 impl Machine {
     /// An operand is wanted (ECMA-262 11.1, 11.2.2, 11.4, 13).

@@ -1,7 +1,7 @@
 ghost use Rattle.std.specs.Prelude.{◌≡◌, OnOk};
 ghost use Rattle.rip_parser.specs.Building.{deeper, greatest, levels_over, numbers, place_over};
 
-use rip_values::NoMemory;
+use rip_base::NoMemory;
 
 /// The depth of a tree that is too deep; all depths past it count as this one.
 pub(crate) const TOO_DEEP: u32 = 201;

@@ -1,9 +1,9 @@
 ghost use Rattle.std.specs.Prelude.{◌≡◌, map, IfOk};
 ghost use Rattle.rip_parser.specs.Words.{lexeme_of, lexemes_of};
 
+use rip_base::{List, NoMemory};
 use rip_grammar::{Lexeme, Word};
 use rip_lexer::Token;
-use rip_values::{List, NoMemory};
 use std::alloc::{AllocError, Global};
 
 /// The lexemes of a script: its tokens, and the end behind them (ECMA-262 7.5 to 7.8). A script whose places 32 bits

@@ -1,6 +1,6 @@
 ghost use Rattle.std.specs.Prelude.{◌≡◌};
 
-use rip_values::NoMemory;
+use rip_base::NoMemory;
 use std::alloc::AllocError;
 use std::error::Error;
 use std::fmt;

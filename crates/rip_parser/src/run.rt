@@ -11,8 +11,8 @@ ghost use Rattle.rip_parser.specs.Parsed.{EndsInEnd, IsUnexpectedBy};
 use crate::machine::Machine;
 use crate::refusal::{ParseKind, ParseRefusal};
 use rip_automaton::Mode;
+use rip_base::NoMemory;
 use rip_grammar::{Event, Lexeme};
-use rip_values::NoMemory;
 use std::alloc::Global;
 
 impl Machine {

@@ -8,8 +8,8 @@ ghost use Rattle.rip_parser.specs.Endings.{Ends};
 use crate::grammar::is_inserted;
 use crate::machine::{Machine, node_at, one_more, sum_of_counts};
 use rip_automaton::{Frame, Header, Mode, Owner, Shape, VarRole};
+use rip_base::NoMemory;
 use rip_grammar::{Event, Head, Lexeme, Word};
-use rip_values::NoMemory;
 
 /// What comes of the innermost open form where a statement in it has ended.
 #[derive(Clone, Copy, Debug, PartialEq, Eq)]

@@ -1,3 +1,3 @@
-pub mod Walks
 pub mod Deeds
 pub mod Journals
+pub mod Walks

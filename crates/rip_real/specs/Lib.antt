@@ -1,3 +1,3 @@
-pub mod History
 pub mod Deeds
+pub mod History
 pub mod Journal

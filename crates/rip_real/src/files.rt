@@ -2,8 +2,8 @@ ghost use Rattle.std.specs.Prelude.{◌≡◌, ◌≤◌, length, IfOk};
 ghost use Rattle.rip_outer.specs.Reading.{longest_file};
 
 use crate::history::{Deed, History};
+use rip_base::Bytes;
 use rip_outer::{Files, FilesError, MAX_FILE};
-use rip_values::Bytes;
 use std::alloc::Global;
 use std::io::{ErrorKind, Read};
 use std::marker::Model;

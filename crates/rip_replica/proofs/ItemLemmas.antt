@@ -2,14 +2,14 @@
 use Rattle.std.proofs.Common.{◌≡◌, ℕ, ◌+◌, ◌-◌, ◌<◌, ◌≤◌, Bool, true, false, nat_le, List, [], ◌∷◌, refl, ap, sym, subst, ◌∙◌, arith}
 use Rattle.std.proofs.lemmas.Bool.{leb-true, leb-false, true≢false}
 use Rattle.rip_heap.specs.World.{World}
-use Rattle.rip_runs.specs.declared.close.Close.{Close}
-use Rattle.rip_runs.specs.declared.close.Close.TheVariants.{Fine}
-use Rattle.rip_runs.specs.Evaluation.{Reached}
-use Rattle.rip_runs.specs.Plan.{Plan, Over, Takes, Awaits, Runs}
-use Rattle.rip_runs.specs.Started.{Started}
-use Rattle.rip_runner.specs.Laws.{IsClosed, IsPlayedLater}
-use Rattle.rip_runner.specs.Play.{Played, Closes, Holds, play}
-use Rattle.rip_course.specs.Parts.{Fact, passes, serves, finishes, serves_call}
+use Rattle.rip_eval_rows.specs.declared.close.Close.{Close}
+use Rattle.rip_eval_rows.specs.declared.close.Close.TheVariants.{Fine}
+use Rattle.rip_eval_rows.specs.Evaluation.{Reached}
+use Rattle.rip_eval_rows.specs.Plan.{Plan, Over, Takes, Awaits, Runs}
+use Rattle.rip_eval_rows.specs.Started.{Started}
+use Rattle.rip_replica.specs.Laws.{IsClosed, IsPlayedLater}
+use Rattle.rip_replica.specs.Play.{Played, Closes, Holds, play}
+use Rattle.rip_history.specs.Parts.{Fact, passes, serves, finishes, serves_call}
 use Rattle.rip_replica.specs.Plays.{CountsUnits, IsCallPlan, IsItemPlan, IsStill, StandsStill}
 use Rattle.rip_replica.specs.Rooms.{IsMismatch}
 use Rattle.rip_replica.proofs.PlayLemmas.{AtMost, Below, EndsWell, HeldWants, closes, closes_later, plain_ends_well, play_at_most, play_cut, well_no_mismatch}

@@ -1,10 +1,15 @@
+pub mod BatchLemmas
 pub mod ItemLemmas
 pub mod NumberLemmas
+pub mod Pieces
+pub mod PlannedItemLemmas
+pub mod PlayLaws
 pub mod PlayLemmas
-pub mod RunUnits
-pub mod ServedParts
 pub mod ResumeLemmas
 pub mod RoomLemmas
+pub mod RunUnits
+pub mod ServedLaws
+pub mod ServedParts
 pub mod SliceLemmas
 pub mod StageLemmas
 pub mod TurnLemmas

@@ -2,14 +2,14 @@
 use Rattle.std.proofs.Common.{◌≡◌, ◌⊎◌, ℕ, Option, None, Some, inl, inr, refl, sym, subst}
 use Rattle.rip_heap.specs.World.{World}
 use Rattle.rip_wire.specs.declared.ending.Ending.{Ending}
-use Rattle.rip_runs.specs.declared.close.Close.{Close}
-use Rattle.rip_runs.specs.declared.close.Close.TheVariants.{Fine, Refused, Mismatch, Stopped}
-use Rattle.rip_runs.specs.Evaluation.{Evaluation}
-use Rattle.rip_runs.specs.Plan.{Plan}
-use Rattle.rip_runner.specs.Numbers.{host_begun}
-use Rattle.rip_runner.specs.Numbers as runner
-use Rattle.rip_course.specs.declared.sessions.Progress.{Progress}
-use Rattle.rip_course.specs.declared.sessions.Progress.TheVariants.{Finished}
+use Rattle.rip_eval_rows.specs.declared.close.Close.{Close}
+use Rattle.rip_eval_rows.specs.declared.close.Close.TheVariants.{Fine, Refused, Mismatch, Stopped}
+use Rattle.rip_eval_rows.specs.Evaluation.{Evaluation}
+use Rattle.rip_eval_rows.specs.Plan.{Plan}
+use Rattle.rip_replica.specs.SchedulerNumbers.{host_begun}
+use Rattle.rip_replica.specs.SchedulerNumbers as runner
+use Rattle.rip_history.specs.declared.sessions.Progress.{Progress}
+use Rattle.rip_history.specs.declared.sessions.Progress.TheVariants.{Finished}
 use Rattle.rip_replica.specs.declared.replica.Place.{Place}
 use Rattle.rip_replica.specs.declared.replica.Place.TheVariants.{Idle}
 use Rattle.rip_replica.specs.Numbers.{HasNumber, KeepsSteps, StandsIdle, StandsIdleSo}

@@ -1,14 +1,14 @@
 -- Plans leave no more units than they had, and what is cut wants more.
 use Rattle.std.proofs.Common.{◌≡◌, ℕ, zero, suc, ◌+◌, ◌-◌, ◌<◌, ◌≤◌, min, List, [], ◌∷◌, sym, subst, arith, le_trans}
 use Rattle.rip_heap.specs.World.{World}
-use Rattle.rip_runs.specs.Evaluation.{IsLater, Reached, Passes, Breaks, Pauses}
-use Rattle.rip_runs.specs.declared.close.Close.{Close}
-use Rattle.rip_runs.specs.declared.close.Close.TheVariants.{Fine, Refused, Mismatch, Stopped}
-use Rattle.rip_runs.specs.Plan.{IsNoMismatch, IsPlain, Plan, Over, Takes, Awaits, Runs}
-use Rattle.rip_runs.specs.Started.{Started}
-use Rattle.rip_runner.specs.Laws.{IsClosed, IsPlayedLater}
-use Rattle.rip_runner.specs.Play.{Played, Closes, Holds, after_run, play}
-use Rattle.rip_runner.proofs.PlayLaws.{plain_closes, play_later}
+use Rattle.rip_eval_rows.specs.Evaluation.{IsLater, Reached, Passes, Breaks, Pauses}
+use Rattle.rip_eval_rows.specs.declared.close.Close.{Close}
+use Rattle.rip_eval_rows.specs.declared.close.Close.TheVariants.{Fine, Refused, Mismatch, Stopped}
+use Rattle.rip_eval_rows.specs.Plan.{IsNoMismatch, IsPlain, Plan, Over, Takes, Awaits, Runs}
+use Rattle.rip_eval_rows.specs.Started.{Started}
+use Rattle.rip_replica.specs.Laws.{IsClosed, IsPlayedLater}
+use Rattle.rip_replica.specs.Play.{Played, Closes, Holds, after_run, play}
+use Rattle.rip_replica.proofs.PlayLaws.{plain_closes, play_later}
 use Rattle.rip_replica.specs.Plays.{CountsUnits, LeavesAtMost, LeavesLess, WantsMore}
 use Rattle.rip_replica.specs.Rooms.{IsMismatch}
 

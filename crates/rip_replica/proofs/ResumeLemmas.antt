@@ -3,17 +3,17 @@ use Rattle.std.proofs.Common.{◌≡◌, ◌⊎◌, ◌≤◌, arith, ℕ, ◌+�
 use Rattle.rip_heap.specs.World.{World}
 use Rattle.rip_wire.specs.declared.ending.Ending.{Ending}
 use Rattle.rip_wire.specs.declared.ending.Ending.TheVariants.{Memory}
-use Rattle.rip_runs.specs.declared.close.Close.{Close}
-use Rattle.rip_runs.specs.Evaluation.{Evaluation}
-use Rattle.rip_runs.specs.Plan.{Plan}
-use Rattle.rip_runner.specs.Going as runner
-use Rattle.rip_runner.specs.declared.runner.Runner.{Runner}
-use Rattle.rip_course.specs.Parts.{ends_at_mismatch}
-use Rattle.rip_course.specs.Services.{Called, Service}
-use Rattle.rip_course.specs.declared.sessions.Made.{Made}
-use Rattle.rip_course.specs.declared.sessions.Progress.{Progress}
-use Rattle.rip_course.specs.declared.sessions.Progress.TheVariants.{Finished}
-use Rattle.rip_course.specs.declared.sessions.Slice.{Slice}
+use Rattle.rip_eval_rows.specs.declared.close.Close.{Close}
+use Rattle.rip_eval_rows.specs.Evaluation.{Evaluation}
+use Rattle.rip_eval_rows.specs.Plan.{Plan}
+use Rattle.rip_replica.specs.Going as runner
+use Rattle.rip_replica.specs.declared.scheduler.runner.Runner.{Runner}
+use Rattle.rip_history.specs.Parts.{ends_at_mismatch}
+use Rattle.rip_history.specs.Services.{Called, Service}
+use Rattle.rip_history.specs.declared.sessions.Made.{Made}
+use Rattle.rip_history.specs.declared.sessions.Progress.{Progress}
+use Rattle.rip_history.specs.declared.sessions.Progress.TheVariants.{Finished}
+use Rattle.rip_history.specs.declared.sessions.Slice.{Slice}
 use Rattle.rip_replica.specs.declared.item.AtItem.{AtItem}
 use Rattle.rip_replica.specs.declared.replica.Place.{Place}
 use Rattle.rip_replica.specs.declared.replica.Place.TheVariants.{Between, Within}

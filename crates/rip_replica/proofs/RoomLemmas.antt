@@ -3,17 +3,17 @@ use Rattle.std.proofs.Common.{◌≡◌, ◌⊎◌, inl, inr, ℕ, ◌≤◌, tr
 use Rattle.std.proofs.lemmas.Bool.{true≢false}
 use Rattle.rip_wire.specs.declared.ending.Ending.{Ending}
 use Rattle.rip_wire.specs.declared.ending.Ending.TheVariants.{Memory}
-use Rattle.rip_runs.specs.declared.close.Close.{Close}
-use Rattle.rip_runs.specs.declared.close.Close.TheVariants.{Fine, Refused, Mismatch, Stopped}
-use Rattle.rip_runs.specs.Evaluation.{Evaluation}
-use Rattle.rip_runner.specs.declared.runner.Rested.{Rested}
-use Rattle.rip_runner.specs.declared.runner.Rested.TheVariants.{Unplanned, Unrun}
-use Rattle.rip_runner.specs.declared.runner.Runner.{Runner}
-use Rattle.rip_runner.specs.Rooms.{HasRooms}
-use Rattle.rip_runner.specs.Rooms as runner
-use Rattle.rip_course.specs.Parts.{Fact, serves, ends_at_mismatch, serves_call}
-use Rattle.rip_course.specs.declared.sessions.Progress.{Progress}
-use Rattle.rip_course.specs.declared.sessions.Progress.TheVariants.{Finished}
+use Rattle.rip_eval_rows.specs.declared.close.Close.{Close}
+use Rattle.rip_eval_rows.specs.declared.close.Close.TheVariants.{Fine, Refused, Mismatch, Stopped}
+use Rattle.rip_eval_rows.specs.Evaluation.{Evaluation}
+use Rattle.rip_replica.specs.declared.scheduler.runner.Rested.{Rested}
+use Rattle.rip_replica.specs.declared.scheduler.runner.Rested.TheVariants.{Unplanned, Unrun}
+use Rattle.rip_replica.specs.declared.scheduler.runner.Runner.{Runner}
+use Rattle.rip_replica.specs.SchedulerRooms.{HasRooms}
+use Rattle.rip_replica.specs.SchedulerRooms as runner
+use Rattle.rip_history.specs.Parts.{Fact, serves, ends_at_mismatch, serves_call}
+use Rattle.rip_history.specs.declared.sessions.Progress.{Progress}
+use Rattle.rip_history.specs.declared.sessions.Progress.TheVariants.{Finished}
 use Rattle.rip_replica.specs.declared.item.AtItem.{AtItem}
 use Rattle.rip_replica.specs.Rooms.{HasNoLack, IfLives, IsCallAt, IsMismatch}
 use Rattle.rip_replica.specs.Standing.{turn_behind}

@@ -2,13 +2,13 @@
 use Rattle.std.proofs.Common.{◌≡◌, ℕ, zero, suc, ◌+◌, ◌-◌, ◌<◌, ◌≤◌, min, Bool, true, false, nat_le, refl, subst, arith}
 use Rattle.std.proofs.lemmas.Bool.{leb-true, leb-false}
 use Rattle.rip_heap.specs.World.{World}
-use Rattle.rip_runs.specs.declared.completion.Completion.{Completion}
-use Rattle.rip_runs.specs.declared.part.Part.{Part}
-use Rattle.rip_runs.specs.Cut.{conclude, run_of}
-use Rattle.rip_runs.specs.Evaluation.{reached}
-use Rattle.rip_runs.specs.Row.{Row, Ends, Halts, Asks, Again, AsksHost, Table, entered}
-use Rattle.rip_runs.specs.Run.{Answer, Completes, Stops, Cuts, Calling, follow, enter, run_by, run_to, run}
-use Rattle.rip_runs.proofs.Runs.{HasAtMost, to-at_most, to-same}
+use Rattle.rip_eval_rows.specs.declared.completion.Completion.{Completion}
+use Rattle.rip_eval_rows.specs.declared.part.Part.{Part}
+use Rattle.rip_eval_rows.specs.Cut.{conclude, run_of}
+use Rattle.rip_eval_rows.specs.Evaluation.{reached}
+use Rattle.rip_eval_rows.specs.Row.{Row, Ends, Halts, Asks, Again, AsksHost, Table, entered}
+use Rattle.rip_eval_rows.specs.Run.{Answer, Completes, Stops, Cuts, Calling, follow, enter, run_by, run_to, run}
+use Rattle.rip_eval_rows.proofs.Runs.{HasAtMost, to-at_most, to-same}
 use Rattle.rip_replica.specs.Plays.{LeavesAtMost, WantsMore}
 
 -- fewer units are left than this, where the run has come to its end

@@ -5,10 +5,10 @@ use Rattle.rip_data.specs.Datum.{Tree}
 use Rattle.rip_wire.specs.Answers.{served_of}
 use Rattle.rip_wire.specs.declared.ending.Ending.{Ending}
 use Rattle.rip_log.specs.Entries.{recorded_of}
-use Rattle.rip_course.specs.Parts.{Fact, passes, serves, finishes, Part, Given, served_count, serves_call}
-use Rattle.rip_course.specs.Services.{Called, Service, Serving, called_in, replies_to, serving_of, servings_in, served_entry, served_entries, answered_call, answered_calls}
-use Rattle.rip_course.specs.declared.sessions.Made.{Made}
-use Rattle.rip_course.specs.declared.sessions.Slice.{Slice}
+use Rattle.rip_history.specs.Parts.{Fact, passes, serves, finishes, Part, Given, served_count, serves_call}
+use Rattle.rip_history.specs.Services.{Called, Service, Serving, called_in, replies_to, serving_of, servings_in, served_entry, served_entries, answered_call, answered_calls}
+use Rattle.rip_history.specs.declared.sessions.Made.{Made}
+use Rattle.rip_history.specs.declared.sessions.Slice.{Slice}
 use Rattle.rip_replica.specs.Serving.{IsServed, given_to}
 use Rattle.rip_replica.specs.Slices.{AreServed}
 use Rattle.rip_replica.specs.Standing.{ServeNone}

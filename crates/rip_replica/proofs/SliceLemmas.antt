@@ -4,14 +4,14 @@ use Rattle.rip_wire.specs.Answers.{served_of}
 use Rattle.rip_wire.specs.Batches.{Contents}
 use Rattle.rip_wire.specs.declared.ending.Ending.TheVariants.{Memory}
 use Rattle.rip_log.specs.Entries.{recorded_of}
-use Rattle.rip_runs.specs.declared.close.Close.{Close}
-use Rattle.rip_runs.specs.Evaluation.{Evaluation}
-use Rattle.rip_course.specs.Parts.{finishes, serves, Part, Given, ends_at_mismatch, served_count}
-use Rattle.rip_course.specs.Parts as parts
-use Rattle.rip_course.specs.Services.{Called, Service, called_in}
-use Rattle.rip_course.specs.declared.sessions.Made.{Made}
-use Rattle.rip_course.specs.declared.sessions.Progress.TheVariants.{Busy, Finished}
-use Rattle.rip_course.specs.declared.sessions.Slice.{Slice}
+use Rattle.rip_eval_rows.specs.declared.close.Close.{Close}
+use Rattle.rip_eval_rows.specs.Evaluation.{Evaluation}
+use Rattle.rip_history.specs.Parts.{finishes, serves, Part, Given, ends_at_mismatch, served_count}
+use Rattle.rip_history.specs.Parts as parts
+use Rattle.rip_history.specs.Services.{Called, Service, called_in}
+use Rattle.rip_history.specs.declared.sessions.Made.{Made}
+use Rattle.rip_history.specs.declared.sessions.Progress.TheVariants.{Busy, Finished}
+use Rattle.rip_history.specs.declared.sessions.Slice.{Slice}
 use Rattle.rip_replica.specs.declared.replica.Place.{Place}
 use Rattle.rip_replica.specs.declared.replica.Place.TheVariants.{Between, Within}
 use Rattle.rip_replica.specs.declared.replica.Turn.TheVariants as turn

@@ -6,16 +6,16 @@ use Rattle.rip_heap.specs.World.{World}
 use Rattle.rip_wire.specs.Batches.{Contents}
 use Rattle.rip_wire.specs.declared.ending.Ending.{Ending}
 use Rattle.rip_wire.specs.declared.ending.Ending.TheVariants.{Memory}
-use Rattle.rip_runs.specs.Evaluation.{Evaluation}
-use Rattle.rip_runner.specs.Play.{Played, Closes, Holds}
-use Rattle.rip_course.specs.Parts.{Fact, passes, serves, finishes, Part, Given, Lacking, Meaning, ends_batch, ends_session, has_ended, has_finished, is_before, served_count, with_lack}
-use Rattle.rip_course.specs.Parts as parts
-use Rattle.rip_course.specs.Services.{Called, Service}
-use Rattle.rip_course.specs.Stages.{ComesNow, Resumed, Stage, come, finishes_batch, has_come, parts_at}
-use Rattle.rip_course.specs.declared.sessions.Made.{Made}
-use Rattle.rip_course.specs.declared.sessions.Progress.{Progress}
-use Rattle.rip_course.specs.declared.sessions.Progress.TheVariants.{Busy, Finished}
-use Rattle.rip_course.specs.declared.sessions.Slice.{Slice}
+use Rattle.rip_eval_rows.specs.Evaluation.{Evaluation}
+use Rattle.rip_replica.specs.Play.{Played, Closes, Holds}
+use Rattle.rip_history.specs.Parts.{Fact, passes, serves, finishes, Part, Given, Lacking, Meaning, ends_batch, ends_session, has_ended, has_finished, is_before, served_count, with_lack}
+use Rattle.rip_history.specs.Parts as parts
+use Rattle.rip_history.specs.Services.{Called, Service}
+use Rattle.rip_history.specs.Stages.{ComesNow, Resumed, Stage, come, finishes_batch, has_come, parts_at}
+use Rattle.rip_history.specs.declared.sessions.Made.{Made}
+use Rattle.rip_history.specs.declared.sessions.Progress.{Progress}
+use Rattle.rip_history.specs.declared.sessions.Progress.TheVariants.{Busy, Finished}
+use Rattle.rip_history.specs.declared.sessions.Slice.{Slice}
 use Rattle.rip_replica.specs.declared.replica.Place.{Place}
 use Rattle.rip_replica.specs.declared.replica.Place.TheVariants.{First, Between, Within, Idle}
 use Rattle.rip_replica.specs.Cuts.{StandsEnded}

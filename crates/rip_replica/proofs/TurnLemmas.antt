@@ -1,12 +1,12 @@
 -- The turns of a session, by the place where it stands.
 use Rattle.std.proofs.Common.{◌≡◌, ℕ, zero, suc, ◌+◌, ◌-◌, ◌<◌, ◌≤◌, Bool, true, false, List, [], ◌∷◌, drop, length, slice_get, Some, if◌then◌else◌, refl, ap, sym, subst, ◌∙◌, arith}
 use Rattle.rip_heap.specs.World.{World}
-use Rattle.rip_runs.specs.declared.close.Close.{Close}
-use Rattle.rip_runs.specs.declared.close.Close.TheVariants.{Fine}
-use Rattle.rip_runs.specs.Evaluation.{Evaluation}
-use Rattle.rip_runner.specs.Laws.{IsClosed}
-use Rattle.rip_runner.specs.Play.{Played, Closes, Holds}
-use Rattle.rip_course.specs.Parts.{finishes, Part, Given}
+use Rattle.rip_eval_rows.specs.declared.close.Close.{Close}
+use Rattle.rip_eval_rows.specs.declared.close.Close.TheVariants.{Fine}
+use Rattle.rip_eval_rows.specs.Evaluation.{Evaluation}
+use Rattle.rip_replica.specs.Laws.{IsClosed}
+use Rattle.rip_replica.specs.Play.{Played, Closes, Holds}
+use Rattle.rip_history.specs.Parts.{finishes, Part, Given}
 use Rattle.rip_replica.specs.declared.replica.Place.{Place}
 use Rattle.rip_replica.specs.declared.replica.Place.TheVariants.{First, Between, Idle}
 use Rattle.rip_replica.specs.declared.replica.Turn.TheVariants.{On, Busy, Done}

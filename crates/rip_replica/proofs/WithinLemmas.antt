@@ -2,17 +2,17 @@
 use Rattle.std.proofs.Common.{◌≡◌, ℕ, suc, ◌+◌, ◌-◌, ◌<◌, ◌≤◌, ◌==◌, Bool, true, false, List, [], ◌∷◌, drop, length, slice_get, Option, Some, if◌then◌else◌, refl, ap, sym, subst, ◌∙◌, arith, eq-eqb}
 use Rattle.rip_heap.specs.World.{World}
 use Rattle.rip_wire.specs.Batches.{Contents}
-use Rattle.rip_runs.specs.declared.close.Close.{Close}
-use Rattle.rip_runs.specs.declared.close.Close.TheVariants.{Fine, Refused, Mismatch, Stopped}
-use Rattle.rip_runs.specs.declared.step.Phase.TheVariants.{Asking}
-use Rattle.rip_runs.specs.Evaluation.{Evaluation}
-use Rattle.rip_runs.specs.Plan.{Plan}
-use Rattle.rip_runner.specs.Going.{Going, LeadsWith, Rests, rest, rest_in}
-use Rattle.rip_runner.specs.Going as runner
-use Rattle.rip_runner.specs.declared.runner.Rested.TheVariants as rested
-use Rattle.rip_runner.specs.Laws.{StandsAt}
-use Rattle.rip_runner.specs.Play.{Played, Closes, Holds, play}
-use Rattle.rip_course.specs.Parts.{Fact, passes, serves, finishes, Part, Given, tells_call}
+use Rattle.rip_eval_rows.specs.declared.close.Close.{Close}
+use Rattle.rip_eval_rows.specs.declared.close.Close.TheVariants.{Fine, Refused, Mismatch, Stopped}
+use Rattle.rip_eval_rows.specs.declared.step.Phase.TheVariants.{Asking}
+use Rattle.rip_eval_rows.specs.Evaluation.{Evaluation}
+use Rattle.rip_eval_rows.specs.Plan.{Plan}
+use Rattle.rip_replica.specs.Going.{Going, LeadsWith, Rests, rest, rest_in}
+use Rattle.rip_replica.specs.Going as runner
+use Rattle.rip_replica.specs.declared.scheduler.runner.Rested.TheVariants as rested
+use Rattle.rip_replica.specs.Laws.{StandsAt}
+use Rattle.rip_replica.specs.Play.{Played, Closes, Holds, play}
+use Rattle.rip_history.specs.Parts.{Fact, passes, serves, finishes, Part, Given, tells_call}
 use Rattle.rip_replica.specs.declared.replica.Place.{Place}
 use Rattle.rip_replica.specs.declared.replica.Place.TheVariants.{Between, Within, Idle}
 use Rattle.rip_replica.specs.declared.replica.Turn.TheVariants.{On, Busy, Calls, Ends, Lacks}

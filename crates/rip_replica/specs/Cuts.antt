@@ -2,9 +2,9 @@
 use Rattle.std.specs.Prelude.{◌≡◌, ℕ, suc, ◌+◌, ◌-◌, List, [], ◌∷◌, ◌++◌, length, slice_get, Option, None, Some}
 use Rattle.rip_heap.specs.World.{World}
 use Rattle.rip_wire.specs.Batches.{Contents}
-use Rattle.rip_runs.specs.declared.close.Close.{Close}
-use Rattle.rip_runner.specs.Play.{Holds, play}
-use Rattle.rip_course.specs.Parts.{Given, Lacking, Part, finishes}
+use Rattle.rip_eval_rows.specs.declared.close.Close.{Close}
+use Rattle.rip_replica.specs.Play.{Holds, play}
+use Rattle.rip_history.specs.Parts.{Given, Lacking, Part, finishes}
 use Rattle.rip_replica.specs.Parts.{Doing, last_items, part_of, session_behind, session_parts, stand_at}
 use Rattle.rip_replica.specs.Standing.{ClosedIn}
 

@@ -1,7 +1,7 @@
 -- What each step of an item keeps.
 use Rattle.std.proofs.Common.{◌≡◌, ℕ, refl, ◌∙◌}
 use Rattle.rip_heap.specs.World.{World}
-use Rattle.rip_runs.specs.Plan.{Plan}
+use Rattle.rip_eval_rows.specs.Plan.{Plan}
 use Rattle.rip_replica.specs.declared.item.AtItem.{AtItem}
 
 -- the batch, how many of its items were begun, and what items mean

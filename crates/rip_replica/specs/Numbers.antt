@@ -1,13 +1,13 @@
 -- A number of the page that neither runs, nor items, nor served calls change; and how much of the depth is open.
 use Rattle.std.specs.Prelude.{◌≡◌, ℕ, None, Some}
 use Rattle.rip_heap.specs.World.{World}
-use Rattle.rip_runs.specs.Evaluation.{Evaluation}
-use Rattle.rip_runs.specs.Plan.{Plan}
-use Rattle.rip_runner.specs.Going.{depth_in}
-use Rattle.rip_runner.specs.Numbers.{host_begun, host_reached}
-use Rattle.rip_course.specs.Parts.{Given}
-use Rattle.rip_course.specs.declared.sessions.Progress.{Progress}
-use Rattle.rip_course.specs.declared.sessions.Progress.TheVariants as progress
+use Rattle.rip_eval_rows.specs.Evaluation.{Evaluation}
+use Rattle.rip_eval_rows.specs.Plan.{Plan}
+use Rattle.rip_replica.specs.Going.{depth_in}
+use Rattle.rip_replica.specs.SchedulerNumbers.{host_begun, host_reached}
+use Rattle.rip_history.specs.Parts.{Given}
+use Rattle.rip_history.specs.declared.sessions.Progress.{Progress}
+use Rattle.rip_history.specs.declared.sessions.Progress.TheVariants as progress
 use Rattle.rip_replica.specs.declared.replica.Place.{Place}
 use Rattle.rip_replica.specs.declared.replica.Place.TheVariants.{First, Between, Within, Idle}
 use Rattle.rip_replica.specs.declared.replica.Replica.{Replica}

@@ -4,13 +4,13 @@ use Rattle.rip_heap.specs.World.{World}
 use Rattle.rip_data.specs.Datum as datum
 use Rattle.rip_wire.specs.Batches.{Contents}
 use Rattle.rip_wire.specs.declared.ending.Ending.{Ending}
-use Rattle.rip_runs.specs.declared.close.Close.{Close}
-use Rattle.rip_runs.specs.declared.close.Close.TheVariants.{Fine, Refused, Mismatch, Stopped}
-use Rattle.rip_runs.specs.Evaluation.{Reached}
-use Rattle.rip_runs.specs.Plan.{Plan}
-use Rattle.rip_runs.specs.Started.{Started}
-use Rattle.rip_runner.specs.Play.{Played, Closes, Holds, play}
-use Rattle.rip_course.specs.Parts.{Fact, passes, serves, finishes, Part, Given, Meaning}
+use Rattle.rip_eval_rows.specs.declared.close.Close.{Close}
+use Rattle.rip_eval_rows.specs.declared.close.Close.TheVariants.{Fine, Refused, Mismatch, Stopped}
+use Rattle.rip_eval_rows.specs.Evaluation.{Reached}
+use Rattle.rip_eval_rows.specs.Plan.{Plan}
+use Rattle.rip_eval_rows.specs.Started.{Started}
+use Rattle.rip_replica.specs.Play.{Played, Closes, Holds, play}
+use Rattle.rip_history.specs.Parts.{Fact, passes, serves, finishes, Part, Given, Meaning}
 
 -- what is done in a session as it was opened, where A is the type of items and S that of the page: what runs mean; the
 -- fuel of an item; the world and the page as it was opened; the item of its opening, and those of a batch; the plan of an

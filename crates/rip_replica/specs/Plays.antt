@@ -1,14 +1,14 @@
 -- What runs and items are asked to keep, so that their units count.
 use Rattle.std.specs.Prelude.{◌≡◌, ℕ, ◌+◌, ◌-◌, ◌<◌, ◌≤◌, min, Bool, true}
 use Rattle.rip_heap.specs.World.{World}
-use Rattle.rip_runs.specs.declared.close.Close.TheVariants.{Fine}
-use Rattle.rip_runs.specs.Cut.{run_of}
-use Rattle.rip_runs.specs.Evaluation.{IsEnded, IsLater, Reached, Passes, Breaks, Pauses, reached}
-use Rattle.rip_runs.specs.Plan.{IsPlain, Plan, Over, Takes, Awaits, Runs}
-use Rattle.rip_runs.specs.Row.{Row, Table}
-use Rattle.rip_runs.specs.Run.{Calling}
-use Rattle.rip_runs.specs.Started.{Started}
-use Rattle.rip_course.specs.Parts.{Fact, passes, serves, finishes}
+use Rattle.rip_eval_rows.specs.declared.close.Close.TheVariants.{Fine}
+use Rattle.rip_eval_rows.specs.Cut.{run_of}
+use Rattle.rip_eval_rows.specs.Evaluation.{IsEnded, IsLater, Reached, Passes, Breaks, Pauses, reached}
+use Rattle.rip_eval_rows.specs.Plan.{IsPlain, Plan, Over, Takes, Awaits, Runs}
+use Rattle.rip_eval_rows.specs.Row.{Row, Table}
+use Rattle.rip_eval_rows.specs.Run.{Calling}
+use Rattle.rip_eval_rows.specs.Started.{Started}
+use Rattle.rip_history.specs.Parts.{Fact, passes, serves, finishes}
 
 -- a run leaves no more units than it had
 abbrev pub LeavesAtMost : {S : Type 0} → ℕ → Reached S → Type 0

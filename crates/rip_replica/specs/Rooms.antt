@@ -3,15 +3,15 @@ use Rattle.std.specs.Prelude.{◌≡◌, ℕ, ◌-◌, ◌≤◌, true, List, []
 use Rattle.rip_heap.specs.World.{World}
 use Rattle.rip_wire.specs.declared.ending.Ending.{Ending}
 use Rattle.rip_wire.specs.declared.ending.Ending.TheVariants as ending
-use Rattle.rip_runs.specs.declared.close.Close.{Close}
-use Rattle.rip_runs.specs.declared.close.Close.TheVariants.{Fine, Refused, Mismatch, Stopped}
-use Rattle.rip_runs.specs.Evaluation.{Evaluation}
-use Rattle.rip_runs.specs.Plan.{Plan}
-use Rattle.rip_runner.specs.declared.runner.Runner.{Runner}
-use Rattle.rip_runner.specs.Rooms.{HasRooms}
-use Rattle.rip_course.specs.Parts.{Fact, Given, Part, serves_call, tells_call}
-use Rattle.rip_course.specs.declared.sessions.Progress.{Progress}
-use Rattle.rip_course.specs.declared.sessions.Progress.TheVariants as progress
+use Rattle.rip_eval_rows.specs.declared.close.Close.{Close}
+use Rattle.rip_eval_rows.specs.declared.close.Close.TheVariants.{Fine, Refused, Mismatch, Stopped}
+use Rattle.rip_eval_rows.specs.Evaluation.{Evaluation}
+use Rattle.rip_eval_rows.specs.Plan.{Plan}
+use Rattle.rip_replica.specs.declared.scheduler.runner.Runner.{Runner}
+use Rattle.rip_replica.specs.SchedulerRooms.{HasRooms}
+use Rattle.rip_history.specs.Parts.{Fact, Given, Part, serves_call, tells_call}
+use Rattle.rip_history.specs.declared.sessions.Progress.{Progress}
+use Rattle.rip_history.specs.declared.sessions.Progress.TheVariants as progress
 use Rattle.rip_replica.specs.declared.item.AtItem.{AtItem}
 use Rattle.rip_replica.specs.declared.replica.Turn.{Turn}
 use Rattle.rip_replica.specs.declared.replica.Turn.TheVariants.{On, Busy, Calls, Done, Ends, Lacks}

@@ -5,10 +5,10 @@ use Rattle.rip_wire.specs.Answers.{served_of}
 use Rattle.rip_wire.specs.Items.{AreArgs}
 use Rattle.rip_log.specs.Entries.{recorded_of}
 use Rattle.rip_log.specs.Entries as entry
-use Rattle.rip_course.specs.Parts.{Fact, passes, serves, finishes, Given}
-use Rattle.rip_course.specs.Services.{Called, Service}
-use Rattle.rip_course.specs.declared.sessions.Made.{Made}
-use Rattle.rip_course.specs.declared.sessions.Slice.{Slice}
+use Rattle.rip_history.specs.Parts.{Fact, passes, serves, finishes, Given}
+use Rattle.rip_history.specs.Services.{Called, Service}
+use Rattle.rip_history.specs.declared.sessions.Made.{Made}
+use Rattle.rip_history.specs.declared.sessions.Slice.{Slice}
 use Rattle.rip_replica.specs.declared.works.Call.{Call}
 
 -- this is the call of an item that comes to this

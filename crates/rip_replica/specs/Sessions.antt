@@ -1,10 +1,10 @@
 -- A session at a stage of the server's course.
 use Rattle.std.specs.Prelude.{◌≡◌, ◌⊎◌, ℕ, ◌+◌, ◌<◌, ◌≤◌, Bool, true, false, List, [], ◌∷◌, ◌++◌, length, None, Some}
 use Rattle.rip_wire.specs.Batches.{Contents}
-use Rattle.rip_runs.specs.Evaluation.{Evaluation}
-use Rattle.rip_course.specs.Parts.{Part, Given, Meaning, has_ended}
-use Rattle.rip_course.specs.Parts as parts
-use Rattle.rip_course.specs.Stages.{Stage, finishes_batch, is_done, is_ended}
+use Rattle.rip_eval_rows.specs.Evaluation.{Evaluation}
+use Rattle.rip_history.specs.Parts.{Part, Given, Meaning, has_ended}
+use Rattle.rip_history.specs.Parts as parts
+use Rattle.rip_history.specs.Stages.{Stage, finishes_batch, is_done, is_ended}
 use Rattle.rip_replica.specs.declared.replica.Place.TheVariants.{Idle}
 use Rattle.rip_replica.specs.Cuts.{StandsEnded}
 use Rattle.rip_replica.specs.Parts.{Doing, last_items, later_parts, meaning_of, session_behind, session_parts, stand_at}

@@ -6,15 +6,15 @@ use Rattle.rip_wire.specs.Batches.{Contents}
 use Rattle.rip_wire.specs.declared.ending.Ending.{Ending}
 use Rattle.rip_wire.specs.declared.ending.Ending.TheVariants.{Memory}
 use Rattle.rip_log.specs.Entries.{recorded_of}
-use Rattle.rip_runs.specs.declared.close.Close.{Close}
-use Rattle.rip_runs.specs.Evaluation.{Evaluation}
-use Rattle.rip_course.specs.Parts.{Fact, finishes, Part, Given, served_count}
-use Rattle.rip_course.specs.Parts as parts
-use Rattle.rip_course.specs.Services.{Called, Service, called_in, given_by, served_entries, answered_calls}
-use Rattle.rip_course.specs.declared.sessions.Made.{Made}
-use Rattle.rip_course.specs.declared.sessions.Progress.{Progress}
-use Rattle.rip_course.specs.declared.sessions.Progress.TheVariants.{Busy, Finished}
-use Rattle.rip_course.specs.declared.sessions.Slice.{Slice}
+use Rattle.rip_eval_rows.specs.declared.close.Close.{Close}
+use Rattle.rip_eval_rows.specs.Evaluation.{Evaluation}
+use Rattle.rip_history.specs.Parts.{Fact, finishes, Part, Given, served_count}
+use Rattle.rip_history.specs.Parts as parts
+use Rattle.rip_history.specs.Services.{Called, Service, called_in, given_by, served_entries, answered_calls}
+use Rattle.rip_history.specs.declared.sessions.Made.{Made}
+use Rattle.rip_history.specs.declared.sessions.Progress.{Progress}
+use Rattle.rip_history.specs.declared.sessions.Progress.TheVariants.{Busy, Finished}
+use Rattle.rip_history.specs.declared.sessions.Slice.{Slice}
 use Rattle.rip_replica.specs.Parts.{Doing, part_of, stand_at}
 use Rattle.rip_replica.specs.Rooms.{HeadsCall}
 use Rattle.rip_replica.specs.Standing.{Ahead, AreGone, Behind, ClosedIn, CostsMore, IsCut, Keeps, Spot, Stands, StartsItem, next_number}

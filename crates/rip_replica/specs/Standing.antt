@@ -2,16 +2,16 @@
 use Rattle.std.specs.Prelude.{◌≡◌, ℕ, suc, ◌+◌, ◌-◌, ◌<◌, ◌≤◌, List, [], ◌∷◌, ◌++◌, drop, length, slice_get, ◌*◌, Bool, true, false, Option, None, Some}
 use Rattle.rip_heap.specs.World.{World}
 use Rattle.rip_wire.specs.Batches.{Contents}
-use Rattle.rip_runs.specs.declared.close.Close.{Close}
-use Rattle.rip_runs.specs.declared.close.Close.TheVariants.{Fine, Refused, Mismatch, Stopped}
-use Rattle.rip_runs.specs.Evaluation.{Evaluation}
-use Rattle.rip_runs.specs.Plan.{Plan, Over}
-use Rattle.rip_runner.specs.Going.{Going}
-use Rattle.rip_runner.specs.Going as runner
-use Rattle.rip_runner.specs.Laws.{StandsAt}
-use Rattle.rip_runner.specs.Play.{Closes, Holds, Played, play}
-use Rattle.rip_course.specs.Parts.{Fact, passes, serves, finishes, Part, Given, ends_batch}
-use Rattle.rip_course.specs.Parts as parts
+use Rattle.rip_eval_rows.specs.declared.close.Close.{Close}
+use Rattle.rip_eval_rows.specs.declared.close.Close.TheVariants.{Fine, Refused, Mismatch, Stopped}
+use Rattle.rip_eval_rows.specs.Evaluation.{Evaluation}
+use Rattle.rip_eval_rows.specs.Plan.{Plan, Over}
+use Rattle.rip_replica.specs.Going.{Going}
+use Rattle.rip_replica.specs.Going as runner
+use Rattle.rip_replica.specs.Laws.{StandsAt}
+use Rattle.rip_replica.specs.Play.{Closes, Holds, Played, play}
+use Rattle.rip_history.specs.Parts.{Fact, passes, serves, finishes, Part, Given, ends_batch}
+use Rattle.rip_history.specs.Parts as parts
 use Rattle.rip_replica.specs.declared.item.AtItem.{AtItem}
 use Rattle.rip_replica.specs.declared.replica.Place.{Place}
 use Rattle.rip_replica.specs.declared.replica.Place.TheVariants.{First, Between, Within, Idle}

@@ -1,10 +1,10 @@
 ghost use Rattle.std.specs.Prelude.{◌≡◌, ◌<◌, ◌^◌, length};
 
+use crate::items::Items;
+use crate::scheduler::Planner;
+use rip_base::NoMemory;
+use rip_eval_rows::{Close, Step};
 use rip_heap::{Heap, Host};
-use rip_items::Items;
-use rip_runner::Planner;
-use rip_runs::{Close, Step};
-use rip_values::NoMemory;
 use std::alloc::Global;
 
 /// A batch, and in it the item that was begun last. Items are numbered from 1.

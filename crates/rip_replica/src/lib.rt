@@ -14,11 +14,11 @@
 //! | what is asked of items: only a call waits, and no item takes a unit but for its fuel; a call changes nothing before it is served | `Plays.IsItemPlan`, `Plays.IsStill` |
 //! | [`Works`], the items of a session over any page | its words `plans`, `fact`, `served`, `ending`, `shapes` and `still` |
 //! | a session in the middle of a batch | `Standing.Stands`, by its place `Standing.Left` |
-//! | [`Replica::resume`] | `Slices.SlicedSo`: what comes of a slice is `Slices.Comes`, with the served calls `Slices.AreServed`; at a stage of the server's course `Stages.Resumed` (`rip_course`) |
+//! | [`Replica::resume`] | `Slices.SlicedSo`: what comes of a slice is `Slices.Comes`, with the served calls `Slices.AreServed`; at a stage of the server's course `Stages.Resumed` (`rip_history`) |
 //! | a session at such a stage: busy, idle, ended | `Sessions.IsAt` |
 //! | in which world and with which page it stands there | `Cuts.CutAfter`, `Cuts.StandsDone`, `Cuts.StandsEnded` |
 //! | a batch that goes on; that is done; that an item ends; where memory is wanting | `Slices.BusySo`, `DoneSo`, `EndsSo`, `LacksSo` |
-//! | that memory is wanting only at a call, where there are rooms for the items | `Rooms.IsCallAt`, by `Rooms.HasRooms` (`rip_runner`) |
+//! | that memory is wanting only at a call, where there are rooms for the items | `Rooms.IsCallAt`, by `Rooms.HasRooms` (`rip_replica::scheduler`) |
 //! | [`AtItem`], one item of a batch as a plan | `Standing.planned`, and what each step keeps `Kept.IsKept` |
 //!
 //! | law | its definition |
@@ -32,9 +32,11 @@
 #![tactic(auto)]
 
 mod item;
+pub mod items;
 mod laws;
 mod replica;
 mod resume;
+pub mod scheduler;
 mod serving;
 mod works;
 

@@ -1,15 +1,15 @@
 ghost use Rattle.std.specs.Prelude.{◌≡◌, ◌<◌, ◌≤◌, ℕ, ◌-◌, ◌*◌, ◌+◌, length, IsTrue};
 ghost use Rattle.rip_replica.specs.Numbers.{HasNumber, KeepsSteps, StandsIdle};
 ghost use Rattle.rip_heap.specs.Growth.{Grows};
-ghost use Rattle.rip_runner.specs.Rooms.{HasRooms};
+ghost use Rattle.rip_replica.specs.SchedulerRooms.{HasRooms};
 ghost use Rattle.rip_replica.specs.Rooms.{HasNoLack};
 ghost use Rattle.rip_replica.specs.Standing.{IsOnward, TurnsSo, place_behind, spot, turn_behind};
 
 use crate::item::AtItem;
+use crate::items::Items;
+use crate::scheduler::{Rested, Runner};
+use rip_eval_rows::{Close, Evaluator, Phase};
 use rip_heap::{Heap, Host};
-use rip_items::Items;
-use rip_runner::{Rested, Runner};
-use rip_runs::{Close, Evaluator, Phase};
 use std::alloc::Global;
 
 /// Where a session stands in its batch.

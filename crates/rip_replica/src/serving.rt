@@ -1,15 +1,15 @@
 ghost use Rattle.std.specs.Prelude.{◌≡◌, ℕ, true, List, OnErr, OnOk};
 ghost use Rattle.rip_data.specs.Datum.{trees_in};
 ghost use Rattle.rip_wire.specs.Items.{AreArgs};
-ghost use Rattle.rip_course.specs.Services.{Called, Service as Meant};
+ghost use Rattle.rip_history.specs.Services.{Called, Service as Meant};
 ghost use Rattle.rip_replica.specs.Numbers.{KeepsServed};
 ghost use Rattle.rip_replica.specs.Serving.{IsServed, IsUnserved, given_to};
 
 use crate::works::{Call, Works};
-use rip_course::{Made, Service, Slice};
+use rip_base::NoMemory;
 use rip_heap::{Heap, Host};
+use rip_history::{Made, Service, Slice};
 use rip_log::Entry;
-use rip_values::NoMemory;
 use rip_wire::ServedCall;
 use std::alloc::Global;
 

@@ -1,8 +1,8 @@
+use crate::items::Items;
+use rip_base::{NoMemory, Units};
 use rip_data::{Datum, DatumList};
+use rip_eval_rows::Close;
 use rip_heap::{Heap, Host};
-use rip_items::Items;
-use rip_runs::Close;
-use rip_values::{NoMemory, Units};
 use rip_wire::Ending;
 use std::alloc::Global;
 
@@ -19,11 +19,11 @@ pub trait Works<H: Host, T>: Items<H, T> {
     ghost use Rattle.std.specs.Prelude.{◌≡◌, ℕ, Bool, true, List, Some, IfOk, OnErr};
     ghost use Rattle.rip_data.specs.Datum.{tree_of};
     ghost use Rattle.rip_heap.specs.World.{World};
-    ghost use Rattle.rip_runs.specs.Plan.{Plan};
+    ghost use Rattle.rip_eval_rows.specs.Plan.{Plan};
     ghost use Rattle.rip_wire.specs.declared.ending.Ending.{Ending as Ends};
-    ghost use Rattle.rip_runs.specs.declared.close.Close.{Close as Closed};
-    ghost use Rattle.rip_runs.specs.declared.close.Close.TheVariants.{Mismatch};
-    ghost use Rattle.rip_course.specs.Parts.{Fact, Given, ends_at_mismatch};
+    ghost use Rattle.rip_eval_rows.specs.declared.close.Close.{Close as Closed};
+    ghost use Rattle.rip_eval_rows.specs.declared.close.Close.TheVariants.{Mismatch};
+    ghost use Rattle.rip_history.specs.Parts.{Fact, Given, ends_at_mismatch};
     ghost use Rattle.rip_replica.specs.Plays.{IsItemPlan, IsStill};
     ghost use Rattle.rip_replica.specs.Rooms.{IsMismatch, IsNoLack};
     ghost use Rattle.rip_replica.specs.Serving.{HasArgs, IsCallOf};

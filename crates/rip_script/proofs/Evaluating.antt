@@ -1,17 +1,17 @@
 -- How a run within limits ends.
 use Rattle.std.proofs.Common.{◌≡◌, ℕ, ◌≤◌, Bool, true, false, inr, subst}
 use Rattle.std.specs.Prelude.{Result, Ok}
-use Rattle.rip_values.specs.declared.value.Refused.{Refused}
+use Rattle.rip_base.specs.declared.value.Refused.{Refused}
 use Rattle.std.proofs.lemmas.Bool.{le-leb}
 use Rattle.rip_heap.specs.World.{World}
-use Rattle.rip_runs.specs.Cut.{conclude}
-use Rattle.rip_runs.specs.Row.{Table}
-use Rattle.rip_runs.specs.Run.{Answer, Completes, Stops, Cuts, Calling}
+use Rattle.rip_eval_rows.specs.Cut.{conclude}
+use Rattle.rip_eval_rows.specs.Row.{Table}
+use Rattle.rip_eval_rows.specs.Run.{Answer, Completes, Stops, Cuts, Calling}
 use Rattle.rip_machine.specs.Law.{Resumes, Standing}
-use Rattle.rip_runs.specs.declared.outcome.Turned.{Turned}
-use Rattle.rip_runs.specs.declared.outcome.Turned.TheVariants.{More, Done}
+use Rattle.rip_eval_rows.specs.declared.outcome.Turned.{Turned}
+use Rattle.rip_eval_rows.specs.declared.outcome.Turned.TheVariants.{More, Done}
 use Rattle.rip_machine.specs.Law.{loaded}
-use Rattle.rip_language.specs.Table.{table}
+use Rattle.rip_eval_language.specs.Table.{table}
 use Rattle.rip_tree.specs.Program.{Code}
 use Rattle.rip_script.specs.Evaluation.{IsEvaluated, empty_host, no_host, outcome_of}
 use Rattle.rip_script.specs.Steps.{BeginsRun, IsOver}

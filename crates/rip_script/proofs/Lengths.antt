@@ -7,7 +7,7 @@ use Rattle.std.specs.Char.{len_utf8}
 use Rattle.std.specs.Str.{encode_utf8_all}
 use Rattle.std.proofs.lemmas.Str.{length-encode}
 use Rattle.std.proofs.str.Utf16.{one_unit, two_units}
-use Rattle.rip_values.specs.Text.{encode_utf16_all, IsSameText}
+use Rattle.rip_base.specs.Text.{encode_utf16_all, IsSameText}
 
 len_by : (a b e : Bool) → 1 ≤ cond a 1 (cond b 2 (cond e 3 4))
 len_by true b e = omega arith

@@ -5,9 +5,9 @@ use Rattle.std.specs.List.{join_with_byte}
 use Rattle.rip_values.specs.Builtins.{builtins, number_of}
 use Rattle.rip_values.specs.Pool.{Texts, text_at}
 use Rattle.rip_values.specs.declared.builtin.Builtin.{Builtin}
-use Rattle.rip_values.specs.declared.memory.NoMemory.{NoMemory}
-use Rattle.rip_values.specs.declared.value.Span.{Span}
-use Rattle.rip_values.specs.declared.value.Value.{Value}
+use Rattle.rip_base.specs.declared.memory.NoMemory.{NoMemory}
+use Rattle.rip_base.specs.declared.value.Span.{Span}
+use Rattle.rip_base.specs.declared.value.Value.{Value}
 use Rattle.rip_values.proofs.BuiltinTableLemmas.{slice_get-number_of}
 use Rattle.rip_values.proofs.BuiltinLemmas.{IfSome-slice_get}
 use Rattle.rip_tree.specs.Program.{Code}

@@ -1,26 +1,26 @@
 -- What a run of a script comes to, in the terms of the evaluator.
 use Rattle.std.specs.Prelude.{◌≡◌, ◌⊎◌, ℕ, [], length, None, Some, Ok, Err}
-use Rattle.rip_values.specs.declared.value.Limit.{Limit}
-use Rattle.rip_values.specs.declared.value.Limit.TheVariants.{Cells}
-use Rattle.rip_values.specs.declared.value.Refused.TheVariants.{Limit as At}
-use Rattle.rip_values.specs.declared.value.Value.TheVariants.{Undefined}
+use Rattle.rip_base.specs.declared.value.Limit.{Limit}
+use Rattle.rip_base.specs.declared.value.Limit.TheVariants.{Cells}
+use Rattle.rip_base.specs.declared.value.Refused.TheVariants.{Limit as At}
+use Rattle.rip_base.specs.declared.value.Value.TheVariants.{Undefined}
 use Rattle.rip_tree.specs.Program.{Code}
 use Rattle.rip_heap.specs.Scopes.{new_scope}
 use Rattle.rip_heap.specs.World.{World, empty_world}
 use Rattle.rip_heap.specs.declared.host.EmptyHost.{EmptyHost}
 use Rattle.rip_heap.specs.declared.host.HostDone.TheVariants.{Fault}
-use Rattle.rip_values.specs.declared.value.Fault.TheVariants.{NotInProfile}
-use Rattle.rip_runs.specs.declared.completion.Completion.TheVariants.{Normal}
-use Rattle.rip_runs.specs.declared.next.Control.TheVariants.{Give}
-use Rattle.rip_runs.specs.Run.{Calling}
+use Rattle.rip_base.specs.declared.value.Fault.TheVariants.{NotInProfile}
+use Rattle.rip_eval_rows.specs.declared.completion.Completion.TheVariants.{Normal}
+use Rattle.rip_eval_rows.specs.declared.next.Control.TheVariants.{Give}
+use Rattle.rip_eval_rows.specs.Run.{Calling}
 use Rattle.rip_machine.specs.Law.{Resumes, Standing, Starts, loaded}
 use Rattle.rip_machine.specs.Loading.{Loads}
 use Rattle.rip_machine.specs.Starting.{Beginning, begun}
-use Rattle.rip_language.specs.Table.{table}
-use Rattle.rip_runs.specs.declared.outcome.Outcome.{Outcome}
-use Rattle.rip_runs.specs.declared.outcome.Outcome.TheVariants as outcome
+use Rattle.rip_eval_language.specs.Table.{table}
+use Rattle.rip_eval_rows.specs.declared.outcome.Outcome.{Outcome}
+use Rattle.rip_eval_rows.specs.declared.outcome.Outcome.TheVariants as outcome
 use Rattle.rip_machine.specs.declared.outcome.Start.TheVariants.{Script}
-use Rattle.rip_runs.specs.declared.outcome.Turned.TheVariants.{Done}
+use Rattle.rip_eval_rows.specs.declared.outcome.Turned.TheVariants.{Done}
 use Rattle.rip_script.specs.declared.evaluate.End.{End}
 use Rattle.rip_script.specs.declared.evaluate.End.TheVariants as end
 use Rattle.rip_script.specs.declared.evaluate.Ended.{Ended}

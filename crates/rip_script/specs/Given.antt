@@ -1,7 +1,7 @@
 -- What is due for a script: its tokens, its tree, what its run comes to, or why it is refused.
 use Rattle.std.specs.Prelude.{◌≡◌, ◌≤◌, ◌⊎◌, ◌∷◌, [], ℕ, List, Option, length, codes, decimal}
 use Rattle.std.specs.Str.{IsUtf8}
-use Rattle.rip_values.specs.Text.{IsSameText}
+use Rattle.rip_base.specs.Text.{IsSameText}
 use Rattle.rip_outer.specs.Reading.{IsContents, IsTooLong, longest_file}
 use Rattle.rip_outer.specs.declared.reading.NamedFile.{NamedFile}
 use Rattle.rip_lexer.specs.Tokens.{IsTokens, IsFirstRefusal}

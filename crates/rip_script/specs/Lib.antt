@@ -1,10 +1,10 @@
-pub mod Lines
-pub mod Words
-pub mod Texts
-pub mod Forms
-pub mod Values
 pub mod Evaluation
-pub mod Report
+pub mod Forms
 pub mod Given
+pub mod Lines
+pub mod Report
 pub mod Run
 pub mod Steps
+pub mod Texts
+pub mod Values
+pub mod Words

@@ -1,11 +1,11 @@
 -- What is put for a run of a script.
 use Rattle.std.specs.Prelude.{ℕ, List, [], ◌∷◌, ◌++◌, length, map, Option, Some, None, codes, decimal, slice_get}
 use Rattle.std.specs.List.{range_with_len}
-use Rattle.rip_values.specs.declared.value.Fault.{Fault}
-use Rattle.rip_values.specs.declared.value.Fault.TheVariants as fault
-use Rattle.rip_values.specs.declared.value.Limit.{Limit}
-use Rattle.rip_values.specs.declared.value.Limit.TheVariants as limit
-use Rattle.rip_values.specs.declared.value.Value.{Value}
+use Rattle.rip_base.specs.declared.value.Fault.{Fault}
+use Rattle.rip_base.specs.declared.value.Fault.TheVariants as fault
+use Rattle.rip_base.specs.declared.value.Limit.{Limit}
+use Rattle.rip_base.specs.declared.value.Limit.TheVariants as limit
+use Rattle.rip_base.specs.declared.value.Value.{Value}
 use Rattle.rip_tree.specs.Program.{Code}
 use Rattle.rip_heap.specs.Scopes.{binding, bindings_of}
 use Rattle.rip_heap.specs.World.{World, scope_at}

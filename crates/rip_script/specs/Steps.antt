@@ -4,17 +4,17 @@ use Rattle.std.specs.List.{AllByRecursion, flat_map, join_with_byte}
 use Rattle.rip_outer.specs.Outside.{Rose, Front, also}
 use Rattle.rip_outer.specs.declared.writing.SinkError.{SinkError}
 use Rattle.rip_outer.specs.declared.writing.SinkError.TheVariants.{Failed, Memory}
-use Rattle.rip_values.specs.declared.value.Refused.{Refused}
-use Rattle.rip_values.specs.declared.value.Refused.TheVariants.{Limit as At, Memory as NoRoom}
+use Rattle.rip_base.specs.declared.value.Refused.{Refused}
+use Rattle.rip_base.specs.declared.value.Refused.TheVariants.{Limit as At, Memory as NoRoom}
 use Rattle.rip_tree.specs.Branches.{Branch, Plant, node_of}
 use Rattle.rip_tree.specs.Program.{Code}
 use Rattle.rip_early.specs.Mistakes.{AreClean}
 use Rattle.rip_early.specs.Program.{program_of}
 use Rattle.rip_heap.specs.World.{World}
 use Rattle.rip_machine.specs.Law.{Standing}
-use Rattle.rip_runs.specs.declared.outcome.Turned.{Turned}
-use Rattle.rip_runs.specs.declared.outcome.Turned.TheVariants.{More}
-use Rattle.rip_runs.specs.declared.outcome.Turned.TheVariants as turned
+use Rattle.rip_eval_rows.specs.declared.outcome.Turned.{Turned}
+use Rattle.rip_eval_rows.specs.declared.outcome.Turned.TheVariants.{More}
+use Rattle.rip_eval_rows.specs.declared.outcome.Turned.TheVariants as turned
 use Rattle.rip_script.specs.Evaluation.{IsEvaluated, IsStarted, stopped}
 use Rattle.rip_script.specs.declared.words.RunLimits.{RunLimits}
 use Rattle.rip_tree.specs.declared.node.Node.{Node}

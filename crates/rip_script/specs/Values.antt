@@ -7,8 +7,8 @@ use Rattle.std.specs.Str.{encode_utf8_all}
 use Rattle.rip_values.specs.Builtins.{builtins, name_of}
 use Rattle.rip_values.specs.Pool.{Texts, text_at}
 use Rattle.rip_values.specs.declared.builtin.Builtin.{Builtin}
-use Rattle.rip_values.specs.declared.value.Value.{Value}
-use Rattle.rip_values.specs.declared.value.Value.TheVariants as V
+use Rattle.rip_base.specs.declared.value.Value.{Value}
+use Rattle.rip_base.specs.declared.value.Value.TheVariants as V
 use Rattle.rip_tree.specs.Branches.{node_of, units_at}
 use Rattle.rip_tree.specs.Program.{Code}
 use Rattle.rip_tree.specs.declared.form.Form.{Form}
@@ -18,7 +18,7 @@ use Rattle.rip_heap.specs.Arrays.{elements_at}
 use Rattle.rip_heap.specs.World.{World, Object, object_at, class_of, code_of}
 use Rattle.rip_heap.specs.declared.class.Class.{Class}
 use Rattle.rip_heap.specs.declared.class.Class.TheVariants as C
-use Rattle.rip_pages.specs.declared.property.Property.{Property}
+use Rattle.rip_heap_region.specs.declared.pages.property.Property.{Property}
 
 -- TEXTS
 

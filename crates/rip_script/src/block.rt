@@ -2,8 +2,8 @@ ghost use Rattle.std.specs.Prelude.{◌≡◌, [], OnOk};
 ghost use Rattle.rip_outer.specs.Writing.{CountsPut};
 ghost use Rattle.rip_script.specs.Steps.{Passes};
 
+use rip_base::Writer;
 use rip_outer::{Sink, SinkError};
-use rip_values::Writer;
 
 /// The bytes from which on a block goes to the sink.
 const BLOCK: usize = 4096;

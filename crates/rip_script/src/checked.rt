@@ -6,9 +6,9 @@ ghost use Rattle.rip_script.specs.Steps.{IsChecked, IsStop};
 
 use crate::read::read_tree;
 use crate::refusal::{Refusal, Stop};
+use rip_base::{List, NoMemory};
 use rip_early::{EarlyRefusal, check};
 use rip_tree::{Program, Tree, Trees};
-use rip_values::{List, NoMemory};
 use std::alloc::Global;
 
 /// The program of the script that the bytes spell, which has no early error.

@@ -6,9 +6,9 @@ ghost use Rattle.rip_script.specs.Texts.{tree_text};
 
 use crate::block::{put_block, put_full_block};
 use crate::lines::write_node;
+use rip_base::{NoMemory, Writer};
 use rip_outer::{Sink, SinkError};
 use rip_tree::Tree;
-use rip_values::{NoMemory, Writer};
 use std::alloc::Global;
 
 /// A branch whose lines are due: its number, and how many levels stand above it.

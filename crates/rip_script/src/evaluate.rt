@@ -3,10 +3,10 @@ ghost use Rattle.rip_script.specs.Evaluation.{IsEvaluated, machine_at_first, out
 ghost use Rattle.rip_script.specs.Steps.{BeginsRun, IsOver};
 
 use crate::words::RunLimits;
+use rip_base::{Fault, Limit, NoMemory, Refused, Value};
 use rip_heap::{EmptyHost, Heap, HeapLimits};
 use rip_machine::{Machine, Outcome, Start, Turned};
 use rip_tree::Program;
-use rip_values::{Fault, Limit, NoMemory, Refused, Value};
 use std::alloc::Global;
 
 /// The longest text that a run may make, in units.

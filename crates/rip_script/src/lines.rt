@@ -3,9 +3,9 @@ ghost use Rattle.rip_script.specs.Forms.{form_word};
 ghost use Rattle.rip_script.specs.Lines.{line_text};
 ghost use Rattle.rip_script.specs.Texts.{kind_word, line_word, node_line, token_line};
 
+use rip_base::{NoMemory, Writer};
 use rip_lexer::{Token, TokenKind};
 use rip_tree::{Form, Node};
-use rip_values::{NoMemory, Writer};
 
 /// Writes the line of a token.
 pub fn write_token(out: &mut Writer, token: &Token) -> Result<(), NoMemory>

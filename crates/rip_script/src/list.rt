@@ -4,9 +4,9 @@ ghost use Rattle.rip_script.specs.Texts.{tokens_text};
 
 use crate::block::{put_block, put_full_block};
 use crate::lines::write_token;
+use rip_base::Writer;
 use rip_lexer::Token;
 use rip_outer::{Sink, SinkError};
-use rip_values::Writer;
 use std::alloc::Global;
 
 /// Puts a line for each token, as it is made.

@@ -2,9 +2,10 @@ ghost use Rattle.std.specs.Prelude.{◌≡◌, ◌++◌, ◌<◌, OnOk, IsTrue, 
 ghost use Rattle.rip_values.specs.Builtins.{builtins};
 ghost use Rattle.rip_script.specs.Values.{builtin_text, class_word, function_text, hexadecimal, is_around, is_function, is_plain, name_of_form, name_of_node, name_text, quoted, unit_text};
 
+use rip_base::{NoMemory, Writer};
 use rip_heap::Class;
 use rip_tree::{Form, Piece, Program};
-use rip_values::{Builtin, NoMemory, Writer};
+use rip_values::Builtin;
 use std::alloc::Global;
 
 /// Writes a text between quotes.

@@ -8,9 +8,9 @@ use crate::named::{
     builtin_at, class_word, is_around, is_function, write_builtin, write_function, write_name,
     write_quoted,
 };
+use rip_base::{Bytes, NoMemory, Value, Writer};
 use rip_heap::{Class, Heap};
 use rip_tree::Program;
-use rip_values::{Bytes, NoMemory, Value, Writer};
 use std::alloc::Global;
 
 /// The levels of objects that are shown of a value.

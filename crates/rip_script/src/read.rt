@@ -6,13 +6,13 @@ ghost use Rattle.rip_parser.specs.Parsed.{HasTree, IsBody};
 ghost use Rattle.rip_parser.specs.Shows.{ShowsScript};
 ghost use Rattle.rip_script.specs.Given.{HasItsTree, HasTokens, RefusesTokens, RefusesTree};
 ghost use Rattle.rip_script.specs.Steps.{IsStop};
-ghost use Rattle.rip_values.specs.Text.{IsSameText};
+ghost use Rattle.rip_base.specs.Text.{IsSameText};
 
 use crate::refusal::{Refusal, Stop};
+use rip_base::{TextError, Units};
 use rip_lexer::{LexRefusal, Tokens, tokens};
 use rip_parser::{ParseRefusal, parse};
 use rip_tree::Tree;
-use rip_values::{TextError, Units};
 use std::alloc::Global;
 
 /// A script: its units and its tokens.

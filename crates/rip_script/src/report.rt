@@ -8,10 +8,10 @@ use crate::block::{put_block, put_full_block};
 use crate::evaluate::{End, Ended};
 use crate::named::write_name;
 use crate::print::value_text;
+use rip_base::{Fault, Limit, NoMemory, Value, Writer};
 use rip_heap::Heap;
 use rip_outer::{Sink, SinkError};
 use rip_tree::Program;
-use rip_values::{Fault, Limit, NoMemory, Value, Writer};
 use std::alloc::Global;
 
 /// Puts what a run came to: how it ended, what it took, and a line for each binding of the top scope.

@@ -8,21 +8,21 @@ use Rattle.rip_outer.proofs.Composing.{also-nil, Front-none, Front-after, Front-
 use Rattle.rip_log.specs.Entries.{Recorded, ended, entry_text}
 use Rattle.rip_log.specs.Histories.{history_text, IsHistory}
 use Rattle.rip_log.specs.Ranges.{IsLong}
-use Rattle.rip_course.specs.Connections.{Act, puts, sends, loses, shuts, put_in}
-use Rattle.rip_course.specs.Parts.{IsLawful}
-use Rattle.rip_course.specs.Run.{Site, State, first_state, Coming, turn_acts}
-use Rattle.rip_course.specs.Runs.{after_turns, turns_acts, AreTurns, GoOn, StopsWith, over, spent, IsRun, IsBrokenTurn, IsBroken}
-use Rattle.rip_legal.specs.Broken.{BreaksOff}
-use Rattle.rip_legal.specs.Legal.{history_of}
-use Rattle.rip_legal.proofs.BrokenLemmas.{broken_runs_put}
-use Rattle.rip_legal.proofs.EndLemmas.{runs_end, runs_put, turns-puts}
-use Rattle.rip_legal.proofs.MadeLemmas.{all-join, all-maps}
-use Rattle.rip_legal.proofs.RunLemmas.{runs_are_courses}
-use Rattle.rip_legal.proofs.StreamLemmas.{streams_are_handled}
-use Rattle.rip_ranged.specs.Ranged.{AreTimed}
-use Rattle.rip_ranged.proofs.RunLemmas.{logs_are_in_range, broken_runs_are_in_range}
+use Rattle.rip_history.specs.Connections.{Act, puts, sends, loses, shuts, put_in}
+use Rattle.rip_history.specs.Parts.{IsLawful}
+use Rattle.rip_history.specs.Run.{Site, State, first_state, Coming, turn_acts}
+use Rattle.rip_history.specs.Runs.{after_turns, turns_acts, AreTurns, GoOn, StopsWith, over, spent, IsRun, IsBrokenTurn, IsBroken}
+use Rattle.rip_law_history.specs.Broken.{BreaksOff}
+use Rattle.rip_law_history.specs.Legal.{history_of}
+use Rattle.rip_law_history.proofs.BrokenLemmas.{broken_runs_put}
+use Rattle.rip_law_history.proofs.EndLemmas.{runs_end, runs_put, turns-puts}
+use Rattle.rip_law_history.proofs.WholeMadeLemmas.{all-join, all-maps}
+use Rattle.rip_law_history.proofs.WholeRunLemmas.{runs_are_courses}
+use Rattle.rip_law_history.proofs.StreamLemmas.{streams_are_handled}
+use Rattle.rip_law_history.specs.Ranged.{AreTimed}
+use Rattle.rip_law_history.proofs.RangeRunLemmas.{logs_are_in_range, broken_runs_are_in_range}
 use Rattle.rip_server.specs.Acts.{Seen, InPart, Stopped}
-use Rattle.rip_turn.specs.Turning.{Source, Outer, Gives, StopsIn, at_knock, behind}
+use Rattle.rip_server.specs.Turning.{Source, Outer, Gives, StopsIn, at_knock, behind}
 use Rattle.rip_serve.specs.Legal.{IsLegal, history_begun, history_put, AreLegal, IsDoneWith, AreGiven, ArePutInRange, IsLegalRun, IsLegalFront, IsCutRun, ServedIsLegal}
 use Rattle.rip_serve.specs.Serving.{moments_of, words_of, AreTimely, AreKnocks, Tells, Ran, BreaksInTurn, OnlyPuts, BreaksAtEnd, Breaks, unmade, in_turn, at_end}
 use Rattle.rip_serve.specs.declared.serving.Stop.{Stop}

@@ -1,4 +1,5 @@
 pub mod LegalLemmas
 pub mod RunLemmas
+pub mod SiteLemmas
 pub mod TellLemmas
 pub mod TurnLemmas

@@ -6,15 +6,15 @@ use Rattle.rip_outer.specs.declared.connections.TraceKnock.{TraceKnock}
 use Rattle.rip_outer.proofs.Composing.{also-also}
 use Rattle.rip_log.specs.Entries.{ended, entry_text}
 use Rattle.rip_log.specs.Histories.{history_text}
-use Rattle.rip_course.specs.Connections.{Act, puts, put_in, sent_in}
-use Rattle.rip_course.specs.Run.{Site, State, first_state, Coming}
-use Rattle.rip_course.specs.Runs.{after_turns, turns_acts, AreTurns, GoOn, over, spent}
+use Rattle.rip_history.specs.Connections.{Act, puts, put_in, sent_in}
+use Rattle.rip_history.specs.Run.{Site, State, first_state, Coming}
+use Rattle.rip_history.specs.Runs.{after_turns, turns_acts, AreTurns, GoOn, over, spent}
 use Rattle.rip_server.specs.Acts.{Seen}
 use Rattle.rip_server.specs.declared.halt.Halt.{Halt}
 use Rattle.rip_server.specs.declared.halt.Halt.TheVariants as halts
-use Rattle.rip_turn.specs.Turning.{Source, Outer, Gives, Turned, Halted, Faults}
-use Rattle.rip_turn.specs.declared.server.TurnEnd.{TurnEnd}
-use Rattle.rip_turn.specs.declared.server.TurnEnd.TheVariants.{On, Over}
+use Rattle.rip_server.specs.Turning.{Source, Outer, Gives, Turned, Halted, Faults}
+use Rattle.rip_server.specs.declared.turn.server.TurnEnd.{TurnEnd}
+use Rattle.rip_server.specs.declared.turn.server.TurnEnd.TheVariants.{On, Over}
 use Rattle.rip_serve.specs.Making.{status_for, stop_for, MakesTurns, MakesTo, RunsTo}
 use Rattle.rip_serve.specs.Serving.{moments_of, words_of, AreKnocks, Ran, BreaksInTurn, OnlyPuts, Breaks, at_end, Serves}
 use Rattle.rip_serve.specs.declared.serving.Stop.{Stop}

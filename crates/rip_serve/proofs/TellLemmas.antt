@@ -9,12 +9,12 @@ use Rattle.rip_outer.specs.declared.connections.TraceKnock.{TraceKnock}
 use Rattle.rip_outer.proofs.Composing.{also-nil, also-also}
 use Rattle.rip_log.specs.Entries.{entry_text}
 use Rattle.rip_log.specs.Histories.{history_text}
-use Rattle.rip_course.specs.Connections.{Act, puts, sends, loses, shuts, put_in, sent_in, lost_in, shut_in}
-use Rattle.rip_course.specs.Run.{Site, State, first_state, Coming, after_turn, turn_acts}
-use Rattle.rip_course.specs.Runs.{after_turns, turns_acts, knock_told, turns_told, knocks_by, turns_shut, AreAsked}
-use Rattle.rip_legal.proofs.EndLemmas.{put-join}
+use Rattle.rip_history.specs.Connections.{Act, puts, sends, loses, shuts, put_in, sent_in, lost_in, shut_in}
+use Rattle.rip_history.specs.Run.{Site, State, first_state, Coming, after_turn, turn_acts}
+use Rattle.rip_history.specs.Runs.{after_turns, turns_acts, knock_told, turns_told, knocks_by, turns_shut, AreAsked}
+use Rattle.rip_law_history.proofs.EndLemmas.{put-join}
 use Rattle.rip_server.specs.Acts.{shut_by}
-use Rattle.rip_turn.specs.Turning.{Source, Outer, Come, Gives, knocks_of, TellsTurn}
+use Rattle.rip_server.specs.Turning.{Source, Outer, Come, Gives, knocks_of, TellsTurn}
 use Rattle.rip_serve.specs.Serving.{moments_of, words_of, AreTimely, AreKnocks, Tells}
 use Rattle.rip_serve.proofs.TurnLemmas.{first-number, next-number}
 

@@ -1,7 +1,7 @@
 -- One turn more.
 use Rattle.std.proofs.Common.{◌≡◌, ℕ, suc, ◌+◌, List, [], ◌∷◌, ◌++◌, length, refl, sym, ap, subst, arith}
-use Rattle.rip_course.specs.Run.{Site, State, Coming, after_turn, IsTurn}
-use Rattle.rip_course.specs.Runs.{after_turns, AreTurns, IsOver, GoOn, EndsOver}
+use Rattle.rip_history.specs.Run.{Site, State, Coming, after_turn, IsTurn}
+use Rattle.rip_history.specs.Runs.{after_turns, AreTurns, IsOver, GoOn, EndsOver}
 
 -- a turn stands behind turns, the first of which has this number
 pub next-number : (turn last n : ℕ) → last ≡ turn + suc n → last ≡ turn + 1 + n

@@ -4,17 +4,17 @@ use Rattle.std.proofs.Common.{inl, inr}
 use Rattle.rip_outer.specs.Outside.{Front, also}
 use Rattle.rip_log.specs.Entries.{Recorded, ended}
 use Rattle.rip_log.specs.Histories.{history_text, IsHistory}
-use Rattle.rip_course.specs.Course.{IsCourse}
-use Rattle.rip_course.specs.Parts.{IsLawful}
-use Rattle.rip_course.specs.Run.{Site, first_state, Coming}
-use Rattle.rip_course.specs.Runs.{StopsWith}
-use Rattle.rip_course.specs.Standings.{standing_of}
-use Rattle.rip_course.specs.declared.standing.Standing.{Standing}
-use Rattle.rip_legal.specs.Broken.{BreaksOff}
-use Rattle.rip_legal.specs.Legal.{course_turns, told_in, history_of}
-use Rattle.rip_legal.specs.Streams.{IsStream}
-use Rattle.rip_ranged.specs.Ranged.{MeansInRange, RepliesInRange}
-use Rattle.rip_turn.specs.Turning.{Outer, Gives}
+use Rattle.rip_history.specs.Course.{IsCourse}
+use Rattle.rip_history.specs.Parts.{IsLawful}
+use Rattle.rip_history.specs.Run.{Site, first_state, Coming}
+use Rattle.rip_history.specs.Runs.{StopsWith}
+use Rattle.rip_history.specs.Standings.{standing_of}
+use Rattle.rip_history.specs.declared.standing.Standing.{Standing}
+use Rattle.rip_law_history.specs.Broken.{BreaksOff}
+use Rattle.rip_law_history.specs.Legal.{course_turns, told_in, history_of}
+use Rattle.rip_law_history.specs.Streams.{IsStream}
+use Rattle.rip_law_history.specs.Ranged.{MeansInRange, RepliesInRange}
+use Rattle.rip_server.specs.Turning.{Outer, Gives}
 use Rattle.rip_serve.specs.Serving.{moments_of, words_of, AreKnocks, Serves}
 use Rattle.rip_serve.specs.declared.serving.Stop.{Stop}
 use Rattle.rip_serve.specs.declared.serving.Stop.TheVariants.{Idle, TurnsSpent, Outside, Memory}

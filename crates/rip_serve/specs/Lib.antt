@@ -1,3 +1,4 @@
-pub mod Serving
 pub mod Legal
 pub mod Making
+pub mod Serving
+pub mod Sites

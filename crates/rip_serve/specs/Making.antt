@@ -1,12 +1,12 @@
 -- What the parts of serving do.
 use Rattle.std.specs.Prelude.{◌≡◌, ℕ, List, length, Some, Result, Ok, Err}
-use Rattle.rip_course.specs.Run.{Site, first_state, Coming}
-use Rattle.rip_course.specs.Runs.{turns_acts, AreTurns, StopsWith}
+use Rattle.rip_history.specs.Run.{Site, first_state, Coming}
+use Rattle.rip_history.specs.Runs.{turns_acts, AreTurns, StopsWith}
 use Rattle.rip_server.specs.declared.halt.Halt.{Halt}
 use Rattle.rip_server.specs.declared.halt.Halt.TheVariants as halts
-use Rattle.rip_turn.specs.Turning.{Outer}
-use Rattle.rip_turn.specs.declared.server.TurnEnd.{TurnEnd}
-use Rattle.rip_turn.specs.declared.server.TurnEnd.TheVariants.{On, Over}
+use Rattle.rip_server.specs.Turning.{Outer}
+use Rattle.rip_server.specs.declared.turn.server.TurnEnd.{TurnEnd}
+use Rattle.rip_server.specs.declared.turn.server.TurnEnd.TheVariants.{On, Over}
 use Rattle.rip_serve.specs.Serving.{Tells, Ran, BreaksInTurn, Breaks}
 use Rattle.rip_serve.specs.declared.serving.Stop.{Stop}
 use Rattle.rip_serve.specs.declared.serving.Stop.TheVariants.{Outside, Memory}

@@ -6,11 +6,11 @@ use Rattle.rip_outer.specs.Outside.{Rose, Front, also, before}
 use Rattle.rip_outer.specs.declared.connections.TraceKnock.{TraceKnock}
 use Rattle.rip_log.specs.Entries.{ended, entry_text}
 use Rattle.rip_log.specs.Histories.{history_text}
-use Rattle.rip_course.specs.Connections.{Act, put_in, sent_in}
-use Rattle.rip_course.specs.Run.{Site, State, first_state, Coming, after_turn, turn_acts}
-use Rattle.rip_course.specs.Runs.{after_turns, turns_acts, AreTurns, GoOn, IsRun, turns_told, turns_shut, AreAsked}
+use Rattle.rip_history.specs.Connections.{Act, put_in, sent_in}
+use Rattle.rip_history.specs.Run.{Site, State, first_state, Coming, after_turn, turn_acts}
+use Rattle.rip_history.specs.Runs.{after_turns, turns_acts, AreTurns, GoOn, IsRun, turns_told, turns_shut, AreAsked}
 use Rattle.rip_server.specs.Acts.{left_by}
-use Rattle.rip_turn.specs.Turning.{Outer, Gives, ClosedSo, knocks_of, Halted}
+use Rattle.rip_server.specs.Turning.{Outer, Gives, ClosedSo, knocks_of, Halted}
 use Rattle.rip_serve.specs.declared.serving.Stop.{Stop}
 use Rattle.rip_serve.specs.declared.serving.Stop.TheVariants.{Idle, TurnsSpent, Outside, Memory}
 

@@ -2,12 +2,14 @@
 //!
 //! | what | its definition in `specs/` |
 //! |---|---|
-//! | [`serve`] | `Serving.Serves`: with status 0 or 3 a whole run of the machine (`rip_course`'s `Runs.IsRun`), or one that breaks off (`Serving.Breaks`), and all that is told of it at the door, the clock, the words and the sink (`Serving.Tells`) |
+//! | [`serve`] | `Serving.Serves`: with status 0 or 3 a whole run of the machine (`rip_history`'s `Runs.IsRun`), or one that breaks off (`Serving.Breaks`), and all that is told of it at the door, the clock, the words and the sink (`Serving.Tells`) |
 //! | | `Legal.IsLegal`: what the sink holds is the text of a legal course and its status, or a front of one |
 //! | [`served_runs_are_legal`] | `Legal.ServedIsLegal`: the second follows from the first, whatever the sessions mean |
 //!
-//! A layer above may rest on this. Each turn takes the time of [`rip_turn::Server::turn`], and nothing is kept of one.
+//! A layer above may rest on this. Each turn takes the time of [`rip_server::turn::Server::turn`], and nothing is kept of one.
 #![tactic(auto)]
+
+pub mod site;
 
 ghost use Rattle.rip_serve.specs.Legal.{ServedIsLegal};
 

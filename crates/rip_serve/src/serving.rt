@@ -1,20 +1,20 @@
 ghost use Rattle.std.specs.Prelude.{◌≡◌, ◌≤◌, ◌<◌, ℕ, [], OnOk};
 ghost use Rattle.rip_log.specs.Entries.{ended, entry_text};
-ghost use Rattle.rip_course.specs.Run.{first_state};
-ghost use Rattle.rip_course.specs.Services.{Service as Meant};
+ghost use Rattle.rip_history.specs.Run.{first_state};
+ghost use Rattle.rip_history.specs.Services.{Service as Meant};
 ghost use Rattle.rip_server.specs.Acts.{seen};
 ghost use Rattle.rip_server.specs.Puts.{Counts, IsPut};
-ghost use Rattle.rip_turn.specs.Standing.{IsReady, IsServer};
-ghost use Rattle.rip_turn.specs.Turning.{Faults, outer, site_of, source};
+ghost use Rattle.rip_server.specs.Standing.{IsReady, IsServer};
+ghost use Rattle.rip_server.specs.Turning.{Faults, outer, site_of, source};
 ghost use Rattle.rip_serve.specs.Legal.{IsLegal};
 ghost use Rattle.rip_serve.specs.Making.{MakesTo, RunsTo, status_for, stop_for};
 ghost use Rattle.rip_serve.specs.Serving.{Serves};
 
-use rip_course::{Service, Sessions};
+use rip_history::{Service, Sessions};
 use rip_log::Entry;
 use rip_outer::{Clock, Door, Sink, Words};
+use rip_server::turn::{Server, Site, TurnEnd};
 use rip_server::{Halt, put_entry};
-use rip_turn::{Server, Site, TurnEnd};
 use std::alloc::Global;
 
 /// How serving stops.

@@ -9,7 +9,7 @@ use Rattle.rip_outer.specs.declared.connections.TraceKnock.{TraceKnock}
 use Rattle.rip_outer.proofs.Composing.{also-nil, also-also, Front-none}
 use Rattle.rip_log.specs.Entries.{Recorded, entry_text}
 use Rattle.rip_log.specs.Histories.{history_text}
-use Rattle.rip_course.specs.Connections.{Act, puts, sends, loses, shuts, put_in, sent_in, lost_in, answer_acts}
+use Rattle.rip_history.specs.Connections.{Act, puts, sends, loses, shuts, put_in, sent_in, lost_in, answer_acts}
 use Rattle.rip_server.specs.Acts.{Seen, left_by, shut_by, Did, InPart, Stopped, Acted}
 use Rattle.rip_server.specs.Sending.{found_gone, is_gone}
 use Rattle.rip_server.specs.declared.halt.Halt.{Halt}

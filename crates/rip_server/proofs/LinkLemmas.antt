@@ -3,7 +3,7 @@ use Rattle.std.proofs.Common.{◌≡◌, ◌≢◌, ℕ, zero, suc, ◌+◌, ◌
 use Rattle.std.specs.Prelude.{slice_get, slice_set, option_map}
 use Rattle.std.specs.List.{AllByRecursion, filter, list_any, remove}
 use Rattle.std.proofs.lemmas.Bool.{eqb-true, eqb-false, ne_eqb, eq-eqb, le-leb, lt-leb}
-use Rattle.rip_course.specs.Connections.{Owed, Connection as Link, Connections as Links, is_there, without, changed, owed_for, owing, shuts, opened_acts}
+use Rattle.rip_history.specs.Connections.{Owed, Connection as Link, Connections as Links, is_there, without, changed, owed_for, owing, shuts, opened_acts}
 use Rattle.rip_server.specs.Links.{owed_of, link_of, there_of, AreRising, AreLinks}
 use Rattle.rip_server.specs.declared.connection.Connection.{Connection}
 

@@ -4,8 +4,8 @@ use Rattle.std.specs.Prelude.{slice_get, slice_set, Result, Ok, Err, OnOk}
 use Rattle.std.specs.List.{AllByRecursion}
 use Rattle.rip_http.specs.Answers.{answer_text}
 use Rattle.rip_http.specs.declared.answer.HttpAnswer.{HttpAnswer}
-use Rattle.rip_course.specs.Connections.{Connection as Link, Connections as Links, without, changed, answer_acts}
-use Rattle.rip_course.specs.Run.{answered_there}
+use Rattle.rip_history.specs.Connections.{Connection as Link, Connections as Links, without, changed, answer_acts}
+use Rattle.rip_history.specs.Run.{answered_there}
 use Rattle.rip_server.specs.Acts.{Seen, Acted}
 use Rattle.rip_server.specs.Links.{AreRising, AreLinks, answered_with}
 use Rattle.rip_server.specs.Sending.{found_gone, is_gone}

@@ -3,7 +3,7 @@ use Rattle.std.proofs.Common.{◌≡◌, ℕ, zero, suc, ◌+◌, ◌<◌, ◌�
 use Rattle.std.specs.Prelude.{slice_get}
 use Rattle.std.specs.List.{AllByRecursion}
 use Rattle.std.proofs.lemmas.Bool.{eq-eqb, ne_eqb, lt-ltb, le-ltb}
-use Rattle.rip_course.specs.Connections.{Act, shuts, Connection as Link, Connections as Links, is_there, unread_of, without, changed, overflows, after_piece, piece_acts}
+use Rattle.rip_history.specs.Connections.{Act, shuts, Connection as Link, Connections as Links, is_there, unread_of, without, changed, overflows, after_piece, piece_acts}
 use Rattle.rip_server.specs.Links.{link_of, there_of, AreRising}
 use Rattle.rip_server.specs.declared.connection.Connection.{Connection}
 use Rattle.rip_server.proofs.LinkLemmas.{above_at, there-get}

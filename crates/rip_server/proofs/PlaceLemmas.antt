@@ -7,8 +7,8 @@ use Rattle.std.proofs.lemmas.Bool.{eqb-true, eqb-false, ne_eqb, eq-eqb}
 use Rattle.std.proofs.lemmas.List.{take_more, take_all, map-append}
 use Rattle.std.proofs.lemmas.List.Folds.{list_any-append}
 use Rattle.rip_http.specs.Stream.{waits, IsNext}
-use Rattle.rip_course.specs.Connections.{Owed, Connection as Link, is_there, owed_for, owing}
-use Rattle.rip_course.specs.Run.{IsQuiet, AreQuiet}
+use Rattle.rip_history.specs.Connections.{Owed, Connection as Link, is_there, owed_for, owing}
+use Rattle.rip_history.specs.Run.{IsQuiet, AreQuiet}
 use Rattle.rip_server.specs.Links.{owed_of, link_of, there_of}
 use Rattle.rip_server.specs.declared.connection.Connection.{Connection}
 use Rattle.rip_server.specs.declared.connection.Wait.{Wait}

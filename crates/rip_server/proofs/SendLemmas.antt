@@ -5,7 +5,7 @@ use Rattle.std.proofs.lemmas.Bool.{eqb-true, eqb-false}
 use Rattle.rip_outer.specs.Connections.{Told, lost, hushed, also_shut}
 use Rattle.rip_outer.specs.Outside.{also, Front}
 use Rattle.rip_outer.proofs.Composing.{also-nil}
-use Rattle.rip_course.specs.Connections.{Act, puts, sends, loses, shuts, answer_acts}
+use Rattle.rip_history.specs.Connections.{Act, puts, sends, loses, shuts, answer_acts}
 use Rattle.rip_server.specs.Acts.{Seen, Did, Stopped}
 use Rattle.rip_server.proofs.ActLemmas.{did_none, stopped_same}
 

@@ -5,7 +5,7 @@ use Rattle.rip_outer.specs.Outside.{also, Front}
 use Rattle.rip_outer.specs.declared.connections.TraceKnock.{TraceKnock}
 use Rattle.rip_log.specs.Entries.{entry_text}
 use Rattle.rip_log.specs.Histories.{history_text}
-use Rattle.rip_course.specs.Connections.{Act, puts, sends, loses, shuts, put_in, sent_in, lost_in}
+use Rattle.rip_history.specs.Connections.{Act, puts, sends, loses, shuts, put_in, sent_in, lost_in}
 use Rattle.rip_server.specs.declared.halt.Halt.{Halt}
 
 -- what a door tells, and what a sink holds, where they do: the bytes sent on each connection; what was told and is left; the

@@ -1,5 +1,13 @@
 pub mod Acts
+pub mod Advancing
+pub mod Asking
+pub mod Deciding
+pub mod Drawing
 pub mod Halts
+pub mod Handling
 pub mod Links
 pub mod Puts
+pub mod Saying
 pub mod Sending
+pub mod Standing
+pub mod Turning

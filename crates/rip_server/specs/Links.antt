@@ -3,7 +3,7 @@ use Rattle.std.specs.Prelude.{ℕ, ◌<◌, ◌≤◌, Bool, List, [], ◌∷◌
 use Rattle.std.specs.List.{AllByRecursion}
 use Rattle.rip_http.specs.Answers.{answer_text}
 use Rattle.rip_http.specs.declared.answer.HttpAnswer.{HttpAnswer}
-use Rattle.rip_course.specs.Connections.{Act, Owed, Connection as Link, Connections as Links, answer_acts}
+use Rattle.rip_history.specs.Connections.{Act, Owed, Connection as Link, Connections as Links, answer_acts}
 use Rattle.rip_server.specs.declared.connection.Connection.{Connection}
 use Rattle.rip_server.specs.declared.connection.Wait.{Wait}
 use Rattle.rip_server.specs.declared.connections.Connections.{Connections}

@@ -1,5 +1,5 @@
 ghost use Rattle.std.specs.Bool.{OnTrue, OnFalse};
-ghost use Rattle.rip_course.specs.Run.{IsQuiet};
+ghost use Rattle.rip_history.specs.Run.{IsQuiet};
 ghost use Rattle.rip_server.specs.Links.{link_of};
 
 use rip_http::Conn;

@@ -1,8 +1,8 @@
 ghost use Rattle.std.specs.Prelude.{◌≡◌, ◌||◌, if◌then◌else◌, [], ◌∷◌, ◌++◌, ℕ, ◌<◌, ◌≤◌, ◌+◌, ◌-◌, ◌^◌, length, slice_get, vec_len, Some, None, IfSome, IfNone, OnOk, IfOk, false};
 ghost use Rattle.std.specs.Bool.{OnTrue, OnFalse};
 ghost use Rattle.std.specs.List.{remove};
-ghost use Rattle.rip_course.specs.Connections.{is_there, without, owing, no_connections, after_opened, opened_acts, after_piece, piece_acts, answer_acts};
-ghost use Rattle.rip_course.specs.Run.{AreQuiet, answered_there};
+ghost use Rattle.rip_history.specs.Connections.{is_there, without, owing, no_connections, after_opened, opened_acts, after_piece, piece_acts, answer_acts};
+ghost use Rattle.rip_history.specs.Run.{AreQuiet, answered_there};
 ghost use Rattle.rip_http.specs.Answers.{answer_text};
 ghost use Rattle.rip_server.specs.Acts.{seen, Acted};
 ghost use Rattle.rip_server.specs.Links.{there_of, link_of, links_of, AreRising, AreLinks, answered_with};
@@ -13,9 +13,9 @@ ghost use Rattle.rip_server.specs.Sending.{is_gone};
 use crate::connection::{Connection, Wait, is_due};
 use crate::halt::Halt;
 use crate::send::{Reached, send_answer};
+use rip_base::NoMemory;
 use rip_http::{Conn, FeedRefused, HttpAnswer};
 use rip_outer::Door;
-use rip_values::NoMemory;
 use std::alloc::Global;
 
 /// The most connections that may be there.

@@ -1,7 +1,7 @@
 ghost use Rattle.std.specs.Prelude.{◌≡◌};
 
+use rip_base::NoMemory;
 use rip_outer::SinkError;
-use rip_values::NoMemory;
 
 /// Why a turn stops before its end.
 #[derive(Clone, Copy, Debug, PartialEq, Eq)]

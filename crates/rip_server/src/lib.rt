@@ -3,10 +3,10 @@
 //!
 //! | what | its definition in `specs/` |
 //! |---|---|
-//! | [`Connections`] | `Links.links_of`: those that are there, as the machine of `rip_course` has them; `Links.AreLinks`: in the order of their numbers, open at the door, at most 64 |
-//! | [`Connections::open`], [`Connections::feed`], [`Connections::lose`] | `rip_course`'s `after_opened`, `after_piece` and `without`, and what is done at the door, `opened_acts` and `piece_acts` |
-//! | [`Connections::send`], [`Connections::answer`] | `rip_course`'s `answer_acts`; `Links.answered_with`, an answer that is owed |
-//! | [`Connections::are_due`], [`is_due`] | `rip_course`'s `AreQuiet`, `IsQuiet`: nothing is to be handled |
+//! | [`Connections`] | `Links.links_of`: those that are there, as the machine of `rip_history` has them; `Links.AreLinks`: in the order of their numbers, open at the door, at most 64 |
+//! | [`Connections::open`], [`Connections::feed`], [`Connections::lose`] | `rip_history`'s `after_opened`, `after_piece` and `without`, and what is done at the door, `opened_acts` and `piece_acts` |
+//! | [`Connections::send`], [`Connections::answer`] | `rip_history`'s `answer_acts`; `Links.answered_with`, an answer that is owed |
+//! | [`Connections::are_due`], [`is_due`] | `rip_history`'s `AreQuiet`, `IsQuiet`: nothing is to be handled |
 //! | [`send_answer`] | what an answer does at a door; `Acts.Did`, all of some acts; `Acts.Stopped`, a front of them |
 //! | [`put_entry`], [`put_entries`] | `Puts.IsPut`, `Puts.Logged`: the lines of entries, or a front of them |
 //!
@@ -20,6 +20,7 @@ mod connections;
 mod halt;
 mod put;
 mod send;
+pub mod turn;
 
 pub use connection::{Connection, Wait, is_due};
 pub use connections::{Connections, MOST_CONNECTIONS};

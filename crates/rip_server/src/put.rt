@@ -3,9 +3,9 @@ ghost use Rattle.rip_log.specs.Entries.{recorded_of, entry_text};
 ghost use Rattle.rip_server.specs.Puts.{IsPut, Logged, Counts};
 
 use crate::halt::Halt;
+use rip_base::Bytes;
 use rip_log::{Entry, write_entry};
 use rip_outer::Sink;
-use rip_values::Bytes;
 use std::alloc::Global;
 
 /// Puts the line of an entry to the sink, in one put.

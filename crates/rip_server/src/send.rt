@@ -1,6 +1,6 @@
 ghost use Rattle.std.specs.Prelude.{◌≡◌, ◌≢◌, ℕ, true, false, Ok, Some, None, OnOk, IfOk, IsErrOf};
 ghost use Rattle.rip_http.specs.Answers.{answer_text};
-ghost use Rattle.rip_course.specs.Connections.{answer_acts};
+ghost use Rattle.rip_history.specs.Connections.{answer_acts};
 ghost use Rattle.rip_server.specs.Acts.{seen, Acted};
 ghost use Rattle.rip_server.specs.Puts.{Counts};
 ghost use Rattle.rip_server.specs.Sending.{is_gone};

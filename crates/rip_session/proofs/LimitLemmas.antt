@@ -3,12 +3,12 @@ use Rattle.std.proofs.Common.{◌≡◌, ℕ, ℤ, ◌≤◌, Bool, true, false,
 use Rattle.std.specs.Prelude.{◌+◌, max, nat_le, nat_lt, is_some, if◌then◌else◌}
 use Rattle.rip_values.specs.FixedTexts.{fixed_span}
 use Rattle.rip_values.specs.Pool.{Texts, with_text}
-use Rattle.rip_values.specs.declared.limits.Limits.{Limits}
-use Rattle.rip_values.specs.declared.page.Attribute.{Attribute}
-use Rattle.rip_values.specs.declared.page.PageNode.{PageNode}
-use Rattle.rip_values.specs.declared.value.Limit.{Limit}
-use Rattle.rip_values.specs.declared.value.Limit.TheVariants.{Cells, Units, Nodes}
-use Rattle.rip_values.specs.declared.value.Span.{Span}
+use Rattle.rip_base.specs.declared.limits.Limits.{Limits}
+use Rattle.rip_base.specs.declared.page.Attribute.{Attribute}
+use Rattle.rip_base.specs.declared.page.PageNode.{PageNode}
+use Rattle.rip_base.specs.declared.value.Limit.{Limit}
+use Rattle.rip_base.specs.declared.value.Limit.TheVariants.{Cells, Units, Nodes}
+use Rattle.rip_base.specs.declared.value.Span.{Span}
 use Rattle.rip_app.specs.App.{Loaded}
 use Rattle.rip_heap.specs.Growth.{Grows}
 use Rattle.rip_heap.specs.World.{World, empty_world}
@@ -16,19 +16,19 @@ use Rattle.rip_dom.specs.Opening.{Opening, attribute_step, attributes_in, count_
 use Rattle.rip_dom.proofs.OpeningLemmas.{bare_step, node-counts}
 use Rattle.rip_calls.specs.Calls.{used}
 use Rattle.rip_host.specs.Replies.{most_replies}
-use Rattle.rip_runs.specs.Evaluation.{Evaluation}
-use Rattle.rip_runner.specs.Going.{depth_in}
+use Rattle.rip_eval_rows.specs.Evaluation.{Evaluation}
+use Rattle.rip_replica.specs.Going.{depth_in}
 use Rattle.rip_machine.specs.Law.{Standing}
 use Rattle.rip_machine.specs.Plans.{HasRoom}
 use Rattle.rip_replica.specs.declared.replica.Place.TheVariants.{First}
 use Rattle.rip_replica.specs.declared.replica.Replica.{Replica}
 use Rattle.rip_replica.specs.Numbers.{open_at, open_of}
-use Rattle.rip_work.specs.declared.items.PageItems.{PageItems}
-use Rattle.rip_work.specs.Tasks.{Task}
+use Rattle.rip_session.specs.declared.work.items.PageItems.{PageItems}
+use Rattle.rip_session.specs.Tasks.{Task}
 use Rattle.rip_session.specs.Application.{IsPageWithin}
 use Rattle.rip_host.specs.declared.browser.Browser.{Browser}
 use Rattle.rip_machine.specs.Loading.{cost_of_literals, values_needed, world_loaded}
-use Rattle.rip_visit.specs.declared.opening.Start.TheVariants.{Passes, Loads}
+use Rattle.rip_browser.specs.declared.opening.Start.TheVariants.{Passes, Loads}
 use Rattle.rip_session.specs.declared.opening.Opened.{Opened}
 use Rattle.rip_session.specs.Limits.{HasLimits, HasPageLimits, PassesNoLimit}
 use Rattle.rip_session.specs.Opening.{browser_of, by_scope, document_of, heap_limits, idle_machine, loaded_machine, opened_of, texts_of, top_scope, with_page, with_scope, without_page}

@@ -7,15 +7,15 @@ use Rattle.rip_heap.specs.World.{World}
 use Rattle.rip_host.specs.Visit.{Fits}
 use Rattle.rip_session.specs.Kept.{GoesWith, goes-fits}
 use Rattle.rip_tree.specs.Program.{Code}
-use Rattle.rip_course.specs.Parts.{Meaning, Part, ends_session, has_ended}
-use Rattle.rip_course.specs.Services.{Called, Service}
-use Rattle.rip_course.specs.Stages.{IsProgress, Resumed, Stage, is_done, is_ended, parts_at}
-use Rattle.rip_course.specs.declared.sessions.Made.{Made}
-use Rattle.rip_course.specs.declared.sessions.Progress.{Progress}
-use Rattle.rip_course.specs.declared.sessions.Progress.TheVariants.{Busy, Finished}
-use Rattle.rip_runs.specs.Evaluation.{reached}
-use Rattle.rip_runs.specs.Run.{Answer, Completes, Stops, Cuts}
-use Rattle.rip_course.specs.declared.sessions.Slice.{Slice}
+use Rattle.rip_history.specs.Parts.{Meaning, Part, ends_session, has_ended}
+use Rattle.rip_history.specs.Services.{Called, Service}
+use Rattle.rip_history.specs.Stages.{IsProgress, Resumed, Stage, is_done, is_ended, parts_at}
+use Rattle.rip_history.specs.declared.sessions.Made.{Made}
+use Rattle.rip_history.specs.declared.sessions.Progress.{Progress}
+use Rattle.rip_history.specs.declared.sessions.Progress.TheVariants.{Busy, Finished}
+use Rattle.rip_eval_rows.specs.Evaluation.{reached}
+use Rattle.rip_eval_rows.specs.Run.{Answer, Completes, Stops, Cuts}
+use Rattle.rip_history.specs.declared.sessions.Slice.{Slice}
 use Rattle.rip_host.specs.declared.browser.Browser.{Browser}
 use Rattle.rip_host.specs.Replies.{most_replies}
 use Rattle.rip_machine.specs.Law.{Standing, loaded}
@@ -26,17 +26,17 @@ use Rattle.rip_replica.specs.declared.replica.Replica.{Replica}
 use Rattle.rip_replica.specs.Numbers.{HasNumberSo, KeepsServed, KeepsSteps, open_of}
 use Rattle.rip_replica.specs.Rooms.{IfLives, IsRoomed}
 use Rattle.rip_replica.specs.Standing.{spot}
-use Rattle.rip_work.specs.declared.items.PageItems.{PageItems}
+use Rattle.rip_session.specs.declared.work.items.PageItems.{PageItems}
 use Rattle.rip_app.specs.App.{Loaded}
 use Rattle.rip_host.specs.Answers.{answers}
-use Rattle.rip_counted.proofs.Counting.{counts}
-use Rattle.rip_lawful.specs.AtStage.{AreDoneBy, IsAtStage}
-use Rattle.rip_lawful.specs.Depth.{IsWithinSo, NestsWithin, PausesWithin}
-use Rattle.rip_lawful.proofs.Done.{busy_lives, not_done_busy}
-use Rattle.rip_work.specs.Endings.{ending_of}
-use Rattle.rip_work.specs.Plans.{left_of_work, room_of, work_plan}
-use Rattle.rip_work.specs.Serving.{may_serve, moment_of, served}
-use Rattle.rip_work.specs.Tasks.{Task, fact_of}
+use Rattle.rip_law_browser.proofs.CountingLemmas.{counts}
+use Rattle.rip_law_replica.specs.AtStage.{AreDoneBy, IsAtStage}
+use Rattle.rip_law_replica.specs.Depth.{IsWithinSo, NestsWithin, PausesWithin}
+use Rattle.rip_law_replica.proofs.Done.{busy_lives, not_done_busy}
+use Rattle.rip_session.specs.Endings.{ending_of}
+use Rattle.rip_session.specs.Plans.{left_of_work, room_of, work_plan}
+use Rattle.rip_session.specs.Serving.{may_serve, moment_of, served}
+use Rattle.rip_session.specs.Tasks.{Task, fact_of}
 use Rattle.rip_session.specs.declared.opening.Opened.{Opened}
 use Rattle.rip_session.specs.Application.{IsPageWithin, StandsAt, doing_of, meaning_of_app, runs_of}
 use Rattle.rip_session.specs.Limits.{HasLimits, HasPageLimits, PassesNoLimit, PassesNoPageLimit}

@@ -1,10 +1,10 @@
 -- The limits of a browser's document and of its calls stay, whatever its session does.
 use Rattle.std.proofs.Common.{◌≡◌, ℕ, zero, suc, ◌+◌, ◌-◌, Bool, true, false, List, [], ◌∷◌, length, Option, None, Some, Ok, Err, if◌then◌else◌, refl, ap₂, ◌∙◌}
-use Rattle.rip_values.specs.declared.report.BadReport.{BadReport}
-use Rattle.rip_values.specs.declared.report.Report.{Report}
-use Rattle.rip_values.specs.declared.value.Limit.TheVariants.{Units}
-use Rattle.rip_values.specs.declared.value.Span.{Span}
-use Rattle.rip_values.specs.declared.value.Value.{Value}
+use Rattle.rip_base.specs.declared.report.BadReport.{BadReport}
+use Rattle.rip_base.specs.declared.report.Report.{Report}
+use Rattle.rip_base.specs.declared.value.Limit.TheVariants.{Units}
+use Rattle.rip_base.specs.declared.value.Span.{Span}
+use Rattle.rip_base.specs.declared.value.Value.{Value}
 use Rattle.rip_heap.specs.Conversions.{span_of}
 use Rattle.rip_heap.specs.Host.{Request}
 use Rattle.rip_heap.specs.Objects.{new_of}
@@ -15,15 +15,15 @@ use Rattle.rip_convert.specs.Values.{Made, made_value}
 use Rattle.rip_events.specs.Flow.{Course, stations}
 use Rattle.rip_events.specs.declared.station.Station.{Station}
 use Rattle.rip_forms.specs.Reports.{is_past, refusal_of}
-use Rattle.rip_runs.specs.declared.close.Close.TheVariants.{Stopped}
-use Rattle.rip_runs.specs.declared.completion.Stop.TheVariants.{Limit as AtLimit}
-use Rattle.rip_runs.specs.Evaluation.{Reached, Passes, Breaks, Pauses}
-use Rattle.rip_runs.specs.Plan.{Plan, Over}
-use Rattle.rip_runner.specs.Numbers.{host_begun, host_reached}
+use Rattle.rip_eval_rows.specs.declared.close.Close.TheVariants.{Stopped}
+use Rattle.rip_eval_rows.specs.declared.completion.Stop.TheVariants.{Limit as AtLimit}
+use Rattle.rip_eval_rows.specs.Evaluation.{Reached, Passes, Breaks, Pauses}
+use Rattle.rip_eval_rows.specs.Plan.{Plan, Over}
+use Rattle.rip_replica.specs.SchedulerNumbers.{host_begun, host_reached}
 use Rattle.rip_tree.specs.Program.{Code}
 use Rattle.rip_machine.specs.Law.{loaded}
 use Rattle.rip_machine.specs.Plans.{evaluation}
-use Rattle.rip_language.specs.Table.{table}
+use Rattle.rip_eval_language.specs.Table.{table}
 use Rattle.rip_host.specs.Answers.{answers}
 use Rattle.rip_host.specs.EventMembers.{bubbles}
 use Rattle.rip_host.specs.Events.{event_of}
@@ -32,29 +32,29 @@ use Rattle.rip_host.specs.Replies.{due}
 use Rattle.rip_host.specs.declared.browser.Browser.{Browser}
 use Rattle.rip_host.specs.declared.events.Event.{Event}
 use Rattle.rip_host.specs.declared.replies.WaitingReply.{WaitingReply}
-use Rattle.rip_items.specs.Items.{call_plan, fine, item_plan, left_of_item, reply_plan}
-use Rattle.rip_items.specs.declared.page_host.Position.{Position}
-use Rattle.rip_items.specs.declared.page_host.Position.TheVariants as position
-use Rattle.rip_items.specs.declared.session.Item.{Item}
-use Rattle.rip_items.specs.declared.session.Item.TheVariants as item
-use Rattle.rip_items.specs.declared.session.UnderWay.{UnderWay}
-use Rattle.rip_items.specs.declared.session.UnderWay.TheVariants as under
-use Rattle.rip_visit.specs.Calls.{position_of}
-use Rattle.rip_visit.specs.Events.{Going, browser_after, dispatched, judged, left_of, put_back, settled, settling, turned_by, type_of, world_after}
-use Rattle.rip_visit.specs.Opening.{left_of_opening, left_of_scripts, load_at, loading, scripts}
-use Rattle.rip_visit.specs.Replies.{delivery, handed, taken_out}
-use Rattle.rip_visit.specs.Visits.{browser_rules}
-use Rattle.rip_visit.specs.declared.flow.Flow.{Flow}
-use Rattle.rip_visit.specs.declared.opening.Start.{Start}
-use Rattle.rip_visit.specs.declared.opening.Start.TheVariants.{Passes as PassesLimit, Loads}
-use Rattle.rip_visit.specs.declared.opening.StartStage.{StartStage}
-use Rattle.rip_visit.specs.declared.opening.StartStage.TheVariants as stage
+use Rattle.rip_replica.specs.Items.{call_plan, fine, item_plan, left_of_item, reply_plan}
+use Rattle.rip_replica.specs.declared.items.page_host.Position.{Position}
+use Rattle.rip_replica.specs.declared.items.page_host.Position.TheVariants as position
+use Rattle.rip_replica.specs.declared.items.session.Item.{Item}
+use Rattle.rip_replica.specs.declared.items.session.Item.TheVariants as item
+use Rattle.rip_replica.specs.declared.items.session.UnderWay.{UnderWay}
+use Rattle.rip_replica.specs.declared.items.session.UnderWay.TheVariants as under
+use Rattle.rip_browser.specs.Calls.{position_of}
+use Rattle.rip_browser.specs.Events.{Going, browser_after, dispatched, judged, left_of, put_back, settled, settling, turned_by, type_of, world_after}
+use Rattle.rip_browser.specs.Opening.{left_of_opening, left_of_scripts, load_at, loading, scripts}
+use Rattle.rip_browser.specs.Replies.{delivery, handed, taken_out}
+use Rattle.rip_browser.specs.Visits.{browser_rules}
+use Rattle.rip_browser.specs.declared.flow.Flow.{Flow}
+use Rattle.rip_browser.specs.declared.opening.Start.{Start}
+use Rattle.rip_browser.specs.declared.opening.Start.TheVariants.{Passes as PassesLimit, Loads}
+use Rattle.rip_browser.specs.declared.opening.StartStage.{StartStage}
+use Rattle.rip_browser.specs.declared.opening.StartStage.TheVariants as stage
 use Rattle.rip_replica.specs.Numbers.{KeepsSteps}
-use Rattle.rip_work.specs.declared.items.PageItems.{PageItems}
-use Rattle.rip_work.specs.Plans.{left_of_work}
-use Rattle.rip_work.specs.Tasks.{Task, opens, reports, item_of}
-use Rattle.rip_kept.proofs.KeepsAnswers.{limits_stay}
-use Rattle.rip_kept.proofs.KeepsRuns.{HasReached, left_has}
+use Rattle.rip_session.specs.declared.work.items.PageItems.{PageItems}
+use Rattle.rip_session.specs.Plans.{left_of_work}
+use Rattle.rip_session.specs.Tasks.{Task, opens, reports, item_of}
+use Rattle.rip_law_browser.proofs.KeepsAnswers.{limits_stay}
+use Rattle.rip_law_browser.proofs.KeepsRuns.{HasReached, left_has}
 
 -- what a page shows by both limits
 abbrev pub shown : (ℕ → ℕ → ℕ) → Browser → ℕ

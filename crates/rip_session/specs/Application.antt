@@ -1,10 +1,10 @@
 -- What the sessions of an application do.
 use Rattle.std.specs.Prelude.{◌≡◌, ℕ, false}
-use Rattle.rip_values.specs.declared.limits.Limits.{Limits}
+use Rattle.rip_base.specs.declared.limits.Limits.{Limits}
 use Rattle.rip_app.specs.App.{Loaded}
-use Rattle.rip_course.specs.Parts.{Meaning}
-use Rattle.rip_course.specs.Stages.{Stage, is_ended}
-use Rattle.rip_runs.specs.Evaluation.{Evaluation}
+use Rattle.rip_history.specs.Parts.{Meaning}
+use Rattle.rip_history.specs.Stages.{Stage, is_ended}
+use Rattle.rip_eval_rows.specs.Evaluation.{Evaluation}
 use Rattle.rip_machine.specs.Law.{Standing}
 use Rattle.rip_machine.specs.Plans.{evaluation}
 use Rattle.rip_replica.specs.declared.replica.Replica.{Replica}
@@ -12,12 +12,12 @@ use Rattle.rip_replica.specs.Numbers.{open_of}
 use Rattle.rip_replica.specs.Parts.{Doing, meaning_of}
 use Rattle.rip_host.specs.Answers.{answers}
 use Rattle.rip_host.specs.declared.browser.Browser.{Browser}
-use Rattle.rip_lawful.specs.AtStage.{IsAtStage}
-use Rattle.rip_work.specs.declared.items.PageItems.{PageItems}
-use Rattle.rip_work.specs.Endings.{ending_of}
-use Rattle.rip_work.specs.Plans.{left_of_work, work_plan}
-use Rattle.rip_work.specs.Serving.{may_serve, moment_of, served}
-use Rattle.rip_work.specs.Tasks.{Task, opens, fact_of, tasks_of}
+use Rattle.rip_law_replica.specs.AtStage.{IsAtStage}
+use Rattle.rip_session.specs.declared.work.items.PageItems.{PageItems}
+use Rattle.rip_session.specs.Endings.{ending_of}
+use Rattle.rip_session.specs.Plans.{left_of_work, work_plan}
+use Rattle.rip_session.specs.Serving.{may_serve, moment_of, served}
+use Rattle.rip_session.specs.Tasks.{Task, opens, fact_of, tasks_of}
 use Rattle.rip_session.specs.Limits.{HasLimits, HasPageLimits, PassesNoLimit, PassesNoPageLimit}
 use Rattle.rip_session.specs.Opening.{opened_of}
 use Rattle.rip_session.specs.Rooms.{HasRoomsIn}

@@ -1,6 +1,13 @@
 pub mod Application
+pub mod Copies
+pub mod Endings
 pub mod Kept
 pub mod Lawful
 pub mod Limits
 pub mod Opening
+pub mod Plans
 pub mod Rooms
+pub mod Serving
+pub mod Shapes
+pub mod Tasks
+pub mod Works

@@ -1,6 +1,6 @@
 -- What the heap and the page of a session may use, and that they use no more.
 use Rattle.std.specs.Prelude.{◌≡◌, ◌≤◌, ℕ, length}
-use Rattle.rip_values.specs.declared.limits.Limits.{Limits}
+use Rattle.rip_base.specs.declared.limits.Limits.{Limits}
 use Rattle.rip_calls.specs.Calls.{used}
 use Rattle.rip_heap.specs.World.{World}
 use Rattle.rip_host.specs.declared.browser.Browser.{Browser}

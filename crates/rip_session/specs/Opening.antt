@@ -1,11 +1,11 @@
 -- How a session of an application is opened: the charges of its top scope, of the nodes and the texts of its page and of the
 -- literals of its program, each whole or not at all, in this order; and the heap, the browser and the machine behind them.
 use Rattle.std.specs.Prelude.{◌≡◌, ℕ, ℤ, ◌+◌, max, nat_le, nat_lt, Option, None, Some, List, [], length, codes, if◌then◌else◌}
-use Rattle.rip_values.specs.declared.limits.Limits.{Limits}
-use Rattle.rip_values.specs.declared.page.PageNode.{PageNode}
-use Rattle.rip_values.specs.declared.value.Limit.{Limit}
-use Rattle.rip_values.specs.declared.value.Limit.TheVariants.{Cells, Units, Nodes}
-use Rattle.rip_values.specs.declared.value.Value.TheVariants.{Undefined}
+use Rattle.rip_base.specs.declared.limits.Limits.{Limits}
+use Rattle.rip_base.specs.declared.page.PageNode.{PageNode}
+use Rattle.rip_base.specs.declared.value.Limit.{Limit}
+use Rattle.rip_base.specs.declared.value.Limit.TheVariants.{Cells, Units, Nodes}
+use Rattle.rip_base.specs.declared.value.Value.TheVariants.{Undefined}
 use Rattle.rip_values.specs.Pool.{Texts, span_behind, with_text}
 use Rattle.rip_app.specs.App.{Loaded}
 use Rattle.rip_heap.specs.declared.limits.HeapLimits.{HeapLimits}
@@ -16,11 +16,11 @@ use Rattle.rip_dom.specs.Opening.{Opening, count_of_nodes, count_of_units, no_tr
 use Rattle.rip_forms.specs.States.{no_states}
 use Rattle.rip_host.specs.declared.browser.Browser.{Browser}
 use Rattle.rip_host.specs.Opening.{body_from}
-use Rattle.rip_runs.specs.declared.completion.Completion.TheVariants.{Normal}
-use Rattle.rip_runs.specs.declared.next.Control.TheVariants.{Give}
+use Rattle.rip_eval_rows.specs.declared.completion.Completion.TheVariants.{Normal}
+use Rattle.rip_eval_rows.specs.declared.next.Control.TheVariants.{Give}
 use Rattle.rip_machine.specs.Law.{Standing}
 use Rattle.rip_machine.specs.Loading.{cost_of_literals, spans_loaded, values_needed, world_loaded}
-use Rattle.rip_visit.specs.declared.opening.Start.TheVariants.{Passes, Loads}
+use Rattle.rip_browser.specs.declared.opening.Start.TheVariants.{Passes, Loads}
 use Rattle.rip_session.specs.declared.opening.Opened.{Opened}
 
 -- the longest text that a run makes, in units

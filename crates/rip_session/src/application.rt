@@ -3,23 +3,23 @@ ghost use Rattle.std.proofs.Props.{props};
 ghost use Rattle.rip_calls.specs.Calls.{used};
 ghost use Rattle.rip_host.specs.Replies.{most_replies};
 ghost use Rattle.rip_wire.specs.declared.ending.Ending.{Ending as Ends};
-ghost use Rattle.rip_course.specs.Services.{Called, Service as Meant};
-ghost use Rattle.rip_course.specs.Stages.{Resumed, Stage, is_done};
+ghost use Rattle.rip_history.specs.Services.{Called, Service as Meant};
+ghost use Rattle.rip_history.specs.Stages.{Resumed, Stage, is_done};
 ghost use Rattle.rip_replica.specs.Rooms.{IsCallAt};
 ghost use Rattle.rip_session.specs.Application.{StandsAt, meaning_of_app};
 ghost use Rattle.rip_session.specs.Kept.{GoesWith};
-ghost use Rattle.rip_work.specs.Tasks.{fact_of};
+ghost use Rattle.rip_session.specs.Tasks.{fact_of};
 
 use crate::opening::{Opened, open};
+use crate::work::{PageItems, Work, moment_of, works_of};
 use rip_app::App;
-use rip_course::{Made, Progress, Service, Sessions, Slice};
+use rip_base::NoMemory;
 use rip_heap::Heap;
+use rip_history::{Made, Progress, Service, Sessions, Slice};
 use rip_host::Browser;
 use rip_machine::Machine;
 use rip_replica::Replica;
-use rip_values::NoMemory;
 use rip_wire::Batch;
-use rip_work::{PageItems, Work, moment_of, works_of};
 use std::alloc::Global;
 
 /// An application, as sessions go by it.
@@ -75,14 +75,22 @@ impl<'a> Sessions for Application<'a> {
         let items = PageItems::make(alloc, limits.nodes)?;
         let opening = Work::opens(start);
         Ok(Session {
-            replica: rip_lawful::open(alloc, machine, items, opening, limits.fuel, heap, browser)?,
+            replica: rip_law_replica::stages::open(
+                alloc,
+                machine,
+                items,
+                opening,
+                limits.fuel,
+                heap,
+                browser,
+            )?,
         })
     }
 
     fn admit(&self, alloc: Global, session: &mut Session, batch: Batch) -> Result<(), Batch> {
         match works_of(alloc, &batch) {
             Ok(works) => {
-                rip_lawful::admit(&mut session.replica, batch.number, works);
+                rip_law_replica::stages::admit(&mut session.replica, batch.number, works);
                 Ok(())
             }
             Err(NoMemory) => Err(batch),
@@ -123,7 +131,14 @@ pub fn resume_session<V: Service>(
         (StandsAt app.now session.new.replica) (V.replies_as service.new replies) }
 {
     let program = app.program();
-    let progress = rip_lawful::resume(&mut session.replica, alloc, program, service, slice, made);
+    let progress = rip_law_replica::stages::resume(
+        &mut session.replica,
+        alloc,
+        program,
+        service,
+        slice,
+        made,
+    );
     is_within(&session.replica.heap);
     is_page_within(&session.replica.host);
     progress

@@ -4,11 +4,11 @@ ghost use Rattle.rip_host.specs.Visit.{Fits};
 ghost use Rattle.rip_session.specs.Opening.{IsBegun, idle_machine, opened_of, top_scope, with_page, with_scope, without_page};
 
 use rip_app::App;
+use rip_base::{LONGEST_TEXT, Limit, List, NoMemory, Page, Refused, Whole};
+use rip_browser::Start;
 use rip_heap::{Heap, HeapLimits};
 use rip_host::Browser;
 use rip_machine::Machine;
-use rip_values::{LONGEST_TEXT, Limit, List, NoMemory, Page, Refused, Whole};
-use rip_visit::Start;
 use std::alloc::Global;
 
 /// What a session has as it is opened, and what its first item is.

@@ -23,9 +23,9 @@ use Rattle.rip_data.specs.Written.{escaped_length}
 use Rattle.rip_data.proofs.SizeLemmas.{escaped_length-nil, escaped_length-ascii}
 use Rattle.std.specs.Char.{digit_char}
 use Rattle.serde_json.specs.Data.{items_depth}
-use Rattle.rip_values.specs.Whole.{IsWhole}
-use Rattle.rip_values.specs.Text.{IsUtf16, encode_utf16_all}
-use Rattle.rip_values.proofs.TextLemmas.{IsSameText-chars}
+use Rattle.rip_base.specs.Whole.{IsWhole}
+use Rattle.rip_base.specs.Text.{IsUtf16, encode_utf16_all}
+use Rattle.rip_base.proofs.TextLemmas.{IsSameText-chars}
 use Rattle.rip_data.specs.Datum.{Tree, null, boolean, number, text, array, object, Elements, no_elements, element, elements_of, no_fields, field, utf8_of, canonical_text, nesting, items_of, IsDatum, AreData}
 use Rattle.rip_manifest.specs.declared.function.Function.{Function}
 use Rattle.rip_manifest.specs.declared.function.Operation.{Operation}
@@ -36,7 +36,7 @@ use Rattle.rip_store.specs.Places.{Place, Stored, compare, IsStore, value_at, no
 use Rattle.rip_store.specs.Args.{place_of, one_key, key_and_value, key_and_number, no_key}
 use Rattle.rip_store.specs.Operations.{Outcome, ◌>>=◌, or_null, count, is_key, key_behind, keys_under, text_of, kept, is_full, operate, number_or_zero, whole_sum, list_or_empty, short_list, with_last, get, put, add, take, push, list}
 use Rattle.rip_store.specs.Apply.{function_named, answer, apply, settled, error, word}
-use Rattle.rip_values.specs.declared.memory.NoMemory.{NoMemory}
+use Rattle.rip_base.specs.declared.memory.NoMemory.{NoMemory}
 use Rattle.rip_store.specs.declared.store.Replies.{Replies}
 use Rattle.rip_store.specs.Outcomes.{AreReplies}
 use Rattle.rip_store.specs.Kept.{IsAccepted, AreAccepted, AreAcceptedReplies, IsKept, StaysKept}

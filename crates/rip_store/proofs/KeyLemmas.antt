@@ -12,8 +12,8 @@ use Rattle.std.proofs.lemmas.List.{map-append}
 use Rattle.std.proofs.lemmas.List.Elements.{filter_map-append}
 use Rattle.std.proofs.lemmas.Bool.Decides.{nat_tests}
 use Rattle.std.proofs.lemmas.Str.{IsUtf8-from_is_utf8, is_utf8-from_IsUtf8}
-use Rattle.rip_values.specs.Text.{IsSameText, encode_utf16_all}
-use Rattle.rip_values.proofs.TextLemmas.{IsSameText-chars}
+use Rattle.rip_base.specs.Text.{IsSameText, encode_utf16_all}
+use Rattle.rip_base.proofs.TextLemmas.{IsSameText-chars}
 use Rattle.rip_data.specs.Datum.{text}
 use Rattle.rip_store.specs.Places.{Place, compare}
 use Rattle.rip_store.specs.Operations.{key_behind, keys_under, is_key, text_of}

@@ -4,7 +4,7 @@ use Rattle.std.specs.Option.{ok_or}
 use Rattle.std.specs.List.{filter_map, starts_with}
 use Rattle.std.specs.Map.{keys_of}
 use Rattle.std.specs.Str.{is_utf8, chars}
-use Rattle.rip_values.specs.Text.{encode_utf16_all}
+use Rattle.rip_base.specs.Text.{encode_utf16_all}
 use Rattle.rip_data.specs.Datum.{Tree, null, boolean, number, text, array, Elements, no_elements, element, elements_of, canonical_text}
 use Rattle.rip_manifest.specs.declared.function.Operation.{Operation}
 use Rattle.rip_manifest.specs.declared.function.Operation.TheVariants.{Get, Put, Add, Take, Push, List as ListKeys}

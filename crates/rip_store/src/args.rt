@@ -8,8 +8,8 @@ ghost use Rattle.rip_store.specs.Outcomes.{IsCause, elements_in};
 use crate::failure::Failure;
 use crate::limits::LONGEST_KEY;
 use crate::refusal::Refusal;
+use rip_base::{Units, Whole};
 use rip_data::{Datum, DatumList};
-use rip_values::{Units, Whole};
 use std::alloc::{AllocError, Global};
 
 /// The UTF-8 of a text.

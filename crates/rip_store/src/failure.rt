@@ -1,5 +1,5 @@
 use crate::refusal::Refusal;
-use rip_values::NoMemory;
+use rip_base::NoMemory;
 use std::alloc::{AllocError, AllocFailed};
 
 /// Why a call gives nothing: it is refused, or memory ran out.

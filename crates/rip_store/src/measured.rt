@@ -4,8 +4,8 @@ ghost use Rattle.rip_store.specs.Args.{list_of};
 ghost use Rattle.rip_store.specs.Outcomes.{elements_in, with_item};
 
 use crate::args::list_of;
+use rip_base::NoMemory;
 use rip_data::{Datum, DatumList, datum_size};
-use rip_values::NoMemory;
 use std::marker::Model;
 use std::mem::replace;
 

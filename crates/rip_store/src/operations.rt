@@ -11,9 +11,9 @@ use crate::measured::Measured;
 use crate::outcome::{Done, ListSize, Write};
 use crate::places::Places;
 use crate::refusal::Refusal;
+use rip_base::{NoMemory, Whole};
 use rip_data::{Datum, DatumList, MAX_LENGTH, copy_datum, datum_size};
 use rip_manifest::Operation;
-use rip_values::{NoMemory, Whole};
 use std::alloc::Global;
 
 /// What an operation gives under a prefix.

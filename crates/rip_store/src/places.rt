@@ -8,8 +8,8 @@ ghost use Rattle.rip_store.specs.Outcomes.{change_of, key_text, pushed, with_any
 use crate::limits::{LONGEST_KEY, MOST_KEYS};
 use crate::measured::Measured;
 use crate::outcome::Write;
+use rip_base::{NoMemory, TextError, Units};
 use rip_data::{Datum, DatumList};
-use rip_values::{NoMemory, TextError, Units};
 use std::alloc::Global;
 use std::collections::BTreeMap;
 

@@ -3,8 +3,8 @@ ghost use Rattle.rip_data.specs.Datum.{tree_of};
 ghost use Rattle.rip_store.specs.Apply.{error, word};
 
 use crate::failure::Failure;
+use rip_base::{NoMemory, Units};
 use rip_data::{Datum, DatumFields};
-use rip_values::{NoMemory, Units};
 use std::alloc::Global;
 
 /// Why a call is refused. The order is that of the judgement: the first that holds is answered.

@@ -12,9 +12,9 @@ use crate::operations::operate;
 use crate::outcome::Done;
 use crate::places::Places;
 use crate::refusal::Refusal;
+use rip_base::{NoMemory, Units};
 use rip_data::{Datum, DatumList, copy_datum};
 use rip_manifest::{Function, Functions};
-use rip_values::{NoMemory, Units};
 use std::alloc::Global;
 
 /// The functions of an application, and the data that they keep.

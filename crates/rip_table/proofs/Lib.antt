@@ -1,1 +1,15 @@
+pub mod BusyLemmas
+pub mod CallLemmas
+pub mod CountLemmas
+pub mod HeldLemmas
+pub mod ListLemmas
+pub mod NameLemmas
+pub mod OwnLemmas
+pub mod ResultLemmas
+pub mod RiseLemmas
+pub mod RollLemmas
+pub mod SeatLemmas
+pub mod SliceLemmas
+pub mod StageLemmas
 pub mod TableLemmas
+pub mod TellLemmas

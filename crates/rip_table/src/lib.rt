@@ -20,6 +20,7 @@
 
 mod laws;
 mod refused;
+pub mod roll;
 mod table;
 
 pub use laws::lent_table_stays;

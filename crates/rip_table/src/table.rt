@@ -6,7 +6,7 @@ ghost use Rattle.std.specs.Borrow.{sem};
 
 use crate::refused::InsertRefused;
 use indexmap::IndexSet;
-use rip_values::NoMemory;
+use rip_base::NoMemory;
 use std::alloc::{AllocError, Global};
 
 /// The most sessions that are opened in a run.

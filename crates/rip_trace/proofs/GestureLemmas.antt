@@ -5,11 +5,11 @@ use Rattle.std.specs.List.{list_all}
 use Rattle.std.specs.Prelude.{IfOk, IfSome}
 use Rattle.std.proofs.lemmas.Fmt.{decimal_injective}
 use Rattle.std.proofs.lemmas.List.{append_cancel_left}
-use Rattle.rip_values.specs.Text.{IsSameText}
-use Rattle.rip_values.specs.declared.report.EventKind.{EventKind}
-use Rattle.rip_values.specs.declared.report.EventKind.TheVariants.{Click, Focus, Blur, Submit, Change, Input}
-use Rattle.rip_values.specs.declared.report.Report.{Report}
-use Rattle.rip_values.proofs.TextLemmas.{IsSameText-units}
+use Rattle.rip_base.specs.Text.{IsSameText}
+use Rattle.rip_base.specs.declared.report.EventKind.{EventKind}
+use Rattle.rip_base.specs.declared.report.EventKind.TheVariants.{Click, Focus, Blur, Submit, Change, Input}
+use Rattle.rip_base.specs.declared.report.Report.{Report}
+use Rattle.rip_base.proofs.TextLemmas.{IsSameText-units}
 use Rattle.rip_wire.specs.Items.{event_word, HasDetail}
 use Rattle.rip_wire.specs.declared.gesture.Gesture.{Gesture}
 use Rattle.rip_wire.specs.declared.gesture.Gesture.TheVariants.{Event, Flush}

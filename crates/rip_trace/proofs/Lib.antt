@@ -3,6 +3,7 @@ pub mod GestureTexts
 pub mod KnockLemmas
 pub mod LineLemmas
 pub mod RequestLemmas
+pub mod SaidLemmas
 pub mod SayLemmas
 pub mod Spaces
 pub mod StepLemmas

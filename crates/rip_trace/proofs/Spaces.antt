@@ -3,7 +3,7 @@ use Rattle.std.proofs.Common.{◌≡◌, ◌≢◌, ℕ, suc, ◌<◌, ◌^◌, 
 use Rattle.std.specs.Char.{is_ascii_digit}
 use Rattle.std.specs.List.{list_all, AllByRecursion}
 use Rattle.std.proofs.lemmas.Fmt.{decimal_injective}
-use Rattle.rip_numerals.proofs.Numerals.{decimal_passes}
+use Rattle.rip_words.proofs.NumeralsLemmas.{decimal_passes}
 use Rattle.rip_trace.specs.Spaces.{HasNoSpace}
 
 abbrev pub NoSpace : List ℕ → Type 0

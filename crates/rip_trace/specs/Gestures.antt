@@ -1,8 +1,8 @@
 -- Files of gestures: what a user does, line by line.
 use Rattle.std.specs.Prelude.{◌≡◌, ℕ, ◌+◌, ◌<◌, ◌^◌, List, [], ◌∷◌, ◌++◌, length, codes, decimal, Option, Some, None, ⊤}
-use Rattle.rip_values.specs.Text.{IsSameText}
-use Rattle.rip_values.specs.declared.report.EventKind.{EventKind}
-use Rattle.rip_values.specs.declared.report.Report.{Report}
+use Rattle.rip_base.specs.Text.{IsSameText}
+use Rattle.rip_base.specs.declared.report.EventKind.{EventKind}
+use Rattle.rip_base.specs.declared.report.Report.{Report}
 use Rattle.rip_wire.specs.Items.{event_word, HasDetail}
 use Rattle.rip_wire.specs.declared.gesture.Gesture.{Gesture}
 use Rattle.rip_wire.specs.declared.gesture.Gesture.TheVariants.{Event, Flush}

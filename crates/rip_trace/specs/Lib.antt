@@ -1,6 +1,7 @@
 pub mod Gestures
 pub mod Lines
 pub mod Requests
+pub mod Said
 pub mod Shown
 pub mod Spaces
 pub mod Spelling

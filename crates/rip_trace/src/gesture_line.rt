@@ -1,16 +1,16 @@
 //! The lines of a file of gestures, each read of its bytes.
 ghost use Rattle.std.specs.Prelude.{◌≡◌, ◌≢◌, ◌∷◌, ◌++◌, ◌<◌, ◌≤◌, ◌^◌, ℕ, List, decimal, Option, Some, None, IsNone, IfSome, IfOk, IsErrOf};
-ghost use Rattle.rip_values.specs.Text.{IsSameText};
-ghost use Rattle.rip_values.specs.declared.report.EventKind.{EventKind as Kind};
-ghost use Rattle.rip_values.specs.declared.report.Report.{Report as AnyReport};
+ghost use Rattle.rip_base.specs.Text.{IsSameText};
+ghost use Rattle.rip_base.specs.declared.report.EventKind.{EventKind as Kind};
+ghost use Rattle.rip_base.specs.declared.report.Report.{Report as AnyReport};
 ghost use Rattle.rip_wire.specs.Items.{event_word};
 ghost use Rattle.rip_wire.specs.declared.gesture.Gesture.{Gesture as AnyGesture};
 ghost use Rattle.rip_trace.specs.Gestures.{IsTarget, IsReported, IsGestureLine};
 
 use crate::text::{behind, number_then, split_space};
-use rip_numerals::read_number;
-use rip_values::{EventKind, Report, TextError, Units};
+use rip_base::{EventKind, Report, TextError, Units};
 use rip_wire::{Gesture, LineError};
+use rip_words::numerals::read_number;
 use std::alloc::Global;
 
 /// The gesture that a line spells, or none of a comment.

@@ -4,8 +4,8 @@ ghost use Rattle.rip_trace.specs.Gestures.{IsGestureLine, lined, AreGestures, Is
 
 use crate::gesture_line::read_gesture;
 use crate::trace::TraceRefusal;
+use rip_base::List;
 use rip_outer::lines;
-use rip_values::List;
 use rip_wire::{Gesture, LineError};
 use std::alloc::Global;
 

@@ -20,6 +20,7 @@ mod gesture_line;
 mod gestures;
 mod laws;
 mod line;
+pub mod lines;
 mod read;
 mod request;
 mod say;

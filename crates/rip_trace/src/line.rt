@@ -7,10 +7,10 @@ ghost use Rattle.rip_trace.specs.Spelling.{IsSpelled, IsWord, IsPiece, IsAsked};
 use crate::say::{Asked, asked_in};
 use crate::text::{behind, number_then};
 use hex::FromHexError;
-use rip_numerals::read_number;
+use rip_base::Bytes;
 use rip_outer::MAX_PIECE;
-use rip_values::Bytes;
 use rip_wire::LineError;
+use rip_words::numerals::read_number;
 use std::alloc::Global;
 
 /// The last moment, in milliseconds.

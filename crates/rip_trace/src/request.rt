@@ -5,7 +5,7 @@ ghost use Rattle.rip_trace.specs.Requests.{identifier, drawn, identifier_of, lin
 ghost use Rattle.rip_trace.specs.Shown.{asked_of};
 
 use crate::say::Asked;
-use rip_values::{Bytes, NoMemory, Writer};
+use rip_base::{Bytes, NoMemory, Writer};
 use std::alloc::Global;
 use uuid::{Builder, Uuid};
 

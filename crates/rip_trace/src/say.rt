@@ -5,7 +5,7 @@ ghost use Rattle.rip_trace.specs.Shown.{asked_of};
 ghost use Rattle.rip_trace.specs.Spelling.{IsAsked, IsSession};
 
 use crate::text::{behind, number_then, session_of};
-use rip_numerals::read_number;
+use rip_words::numerals::read_number;
 
 /// What a client asks for: the page, that a batch be admitted, or that a session be closed.
 #[derive(Clone, Copy)]

@@ -3,7 +3,7 @@ ghost use Rattle.std.specs.Prelude.{◌≡◌, ◌≢◌, ◌∷◌, ◌++◌, �
 ghost use Rattle.rip_trace.specs.Spaces.{HasNoSpace};
 ghost use Rattle.rip_trace.specs.Spelling.{IsSession};
 
-use rip_numerals::read_number;
+use rip_words::numerals::read_number;
 
 /// What stands behind the prefix.
 pub(crate) fn behind<'a>(bytes: &'a [u8], prefix: &[u8]) -> Option<&'a [u8]>

@@ -1,5 +1,5 @@
+use rip_base::NumberList;
 use rip_outer::KnockList;
-use rip_values::NumberList;
 use std::marker::Model;
 use thiserror::Error;
 

@@ -8,7 +8,7 @@ ghost use Rattle.rip_tree.specs.Joining.{grove_of, IsJoined};
 use crate::form::{Form, Key};
 use crate::joined::Joined;
 use crate::node::Piece;
-use rip_values::NoMemory;
+use rip_base::NoMemory;
 use std::alloc::Global;
 use std::collections::BTreeMap;
 

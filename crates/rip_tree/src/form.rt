@@ -1,5 +1,5 @@
 use crate::node::Piece;
-use rip_values::{BinaryOperator, LogicalOperator, StepOperator, UnaryOperator, Whole};
+use rip_base::{BinaryOperator, LogicalOperator, StepOperator, UnaryOperator, Whole};
 
 /// A text literal (ECMA-262 7.8.4).
 #[derive(Clone, Copy, Debug, PartialEq, Eq)]

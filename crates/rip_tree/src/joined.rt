@@ -6,7 +6,7 @@ ghost use Rattle.rip_tree.specs.Joining.{grove_of, IsJoined};
 use crate::moving::{Move, push_branches};
 use crate::node::{Node, Piece, Row, within};
 use crate::tree::{Tree, child_in, range_of};
-use rip_values::NoMemory;
+use rip_base::NoMemory;
 use std::alloc::Global;
 
 /// The trees of scripts, joined: the nodes, the children of all nodes, the units of all scripts and texts, and of each

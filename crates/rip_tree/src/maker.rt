@@ -4,7 +4,7 @@ ghost use Rattle.rip_tree.specs.Making.{with_branch, with_units, piece_behind};
 
 use crate::node::{Node, Piece, Row};
 use crate::tree::Tree;
-use rip_values::NoMemory;
+use rip_base::NoMemory;
 use std::alloc::Global;
 use std::marker::Model;
 

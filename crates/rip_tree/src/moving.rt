@@ -5,7 +5,7 @@ ghost use Rattle.rip_tree.specs.Program.{moved_piece, moved_branch, moved_child,
 use crate::form::{Form, FunctionHead, Key, TextLiteral};
 use crate::node::{Node, Piece, Row, within};
 use crate::tree::range_of;
-use rip_values::NoMemory;
+use rip_base::NoMemory;
 
 /// How a tree stands behind others: how many branches and units stand before it, and how many units it has.
 #[derive(Clone, Copy, Debug)]

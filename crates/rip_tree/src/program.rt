@@ -7,7 +7,8 @@ use crate::firsts::firsts_of;
 use crate::joined::Joined;
 use crate::node::{Node, Piece};
 use crate::tree::Tree;
-use rip_values::{Global as GlobalName, List, NoMemory, Units};
+use rip_base::{List, NoMemory, Units};
+use rip_values::Global as GlobalName;
 use std::alloc::Global;
 use std::marker::Model;
 

@@ -2,7 +2,7 @@ ghost use Rattle.std.specs.Prelude.{◌≡◌, ◌<◌, ◌≤◌, length, slice
 ghost use Rattle.rip_tree.specs.Branches.{ChildrenFollow, child_at, child_of, links_of, node_of, units_at};
 
 use crate::node::{Node, Piece, Row, within};
-use rip_values::List;
+use rip_base::List;
 use std::marker::Model;
 
 /// The tree of a script. Node 0 is the script, and the number of a child is above that of its parent.

@@ -1,9 +1,5 @@
 pub mod BuiltinLemmas
 pub mod BuiltinTableLemmas
-pub mod DecimalLemmas
 pub mod FixedLemmas
 pub mod FixedTableLemmas
-pub mod NumberLaws
-pub mod NumberLemmas
 pub mod PoolLemmas
-pub mod TextLemmas

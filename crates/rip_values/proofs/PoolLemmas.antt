@@ -4,7 +4,7 @@ use Rattle.std.specs.Prelude.{slice_range}
 use Rattle.std.proofs.lemmas.List.{length-take, length-take-le, length-drop, take-append-drop, take-append-le}
 use Rattle.std.proofs.Math.Seq.{take-length, take-append_seam, drop-append_seam}
 use Rattle.std.proofs.lemmas.Grind.{common_steps}
-use Rattle.rip_values.specs.declared.value.Span.{Span}
+use Rattle.rip_base.specs.declared.value.Span.{Span}
 use Rattle.rip_values.specs.declared.fixed.FixedText.{FixedText}
 use Rattle.rip_values.specs.FixedTable.{text_of, fixed_size, start_of}
 use Rattle.rip_values.specs.FixedTexts.{fixed_units, fixed_span}

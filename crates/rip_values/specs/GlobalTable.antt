@@ -3,8 +3,8 @@ use Rattle.std.specs.Prelude.{ℕ, ◌^◌, List, [], ◌∷◌, codes}
 use Rattle.rip_values.specs.declared.builtin.Builtin.TheVariants as builtin
 use Rattle.rip_values.specs.declared.global.Global.{Global}
 use Rattle.rip_values.specs.declared.global.Global.TheVariants.{Document, Ripley, Math, ParseInt, IsNaN, String, Number, Error, TypeError, RangeError, Undefined, NaN}
-use Rattle.rip_values.specs.declared.value.Value.{Value}
-use Rattle.rip_values.specs.declared.value.Value.TheVariants as value
+use Rattle.rip_base.specs.declared.value.Value.{Value}
+use Rattle.rip_base.specs.declared.value.Value.TheVariants as value
 use Rattle.rip_values.specs.Builtins.{number_of}
 
 -- the name of a global

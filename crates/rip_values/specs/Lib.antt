@@ -1,17 +1,7 @@
-pub mod Blank
 pub mod Builtins
 pub mod FixedSearch
 pub mod FixedTable
 pub mod FixedTexts
 pub mod GlobalTable
 pub mod Globals
-pub mod Limits
-pub mod NumberScan
-pub mod Numbers
-pub mod Page
 pub mod Pool
-pub mod Printed
-pub mod Text
-pub mod Units
-pub mod Values
-pub mod Whole

@@ -7,7 +7,7 @@ ghost use Rattle.rip_values.specs.FixedTexts.{fixed_span};
 ghost use Rattle.rip_values.specs.FixedSearch.{fixed_text, texts_of_length};
 
 use crate::fixed::{BY_LENGTH, FixedText};
-use crate::value::Span;
+use rip_base::Span;
 
 impl FixedText {
     /// The fixed text that is spelled so, if there is one. Only texts of the same length are looked at.

@@ -4,7 +4,7 @@ ghost use Rattle.rip_values.specs.GlobalTable.{global_name, global_value};
 
 use crate::builtin::Builtin;
 use crate::builtin_lookup::FIRST_NODE;
-use crate::value::Value;
+use rip_base::Value;
 
 /// A global name of the profile (ECMA-262 15.1).
 #[derive(Clone, Copy, Debug, PartialEq, Eq)]

@@ -6,8 +6,7 @@ ghost use Rattle.rip_values.specs.FixedTexts.{fixed_span, fixed_units};
 ghost use Rattle.rip_values.specs.declared.fixed.FixedText.{FixedText};
 
 use crate::fixed::{FIXED_TEXTS, FIXED_UNITS, FixedText};
-use crate::memory::NoMemory;
-use crate::value::{Limit, Refused, Span};
+use rip_base::{Limit, NoMemory, Refused, Span};
 use std::alloc::Global;
 use std::marker::Model;
 

@@ -4,7 +4,7 @@ use Rattle.std.specs.Prelude.{codes}
 use Rattle.serde_json.specs.Data.{Data, null, boolean, string, array, object, Items, item}
 use Rattle.serde_json.specs.Find.{as_str}
 use Rattle.serde_json.specs.View.{items_of}
-use Rattle.rip_values.specs.declared.report.EventKind.{EventKind}
+use Rattle.rip_base.specs.declared.report.EventKind.{EventKind}
 use Rattle.rip_data.specs.Datum.{Tree}
 use Rattle.rip_wire.specs.Items.{Reported, event, call, reply, list_of, event_values, call_values, reply_values, item_value, IsItem}
 

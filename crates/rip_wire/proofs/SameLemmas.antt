@@ -3,9 +3,9 @@ use Rattle.std.proofs.Common.{◌≡◌, ℕ, List, [], ◌∷◌, map, Option, 
 use Rattle.std.specs.Prelude.{codes}
 use Rattle.std.specs.List.{AllByRecursion}
 use Rattle.serde_json.specs.Data.{Data, string, object, member, no_members}
-use Rattle.rip_values.specs.Text.{IsUtf16}
-use Rattle.rip_values.specs.declared.report.EventKind.{EventKind}
-use Rattle.rip_values.specs.declared.report.EventKind.TheVariants as K
+use Rattle.rip_base.specs.Text.{IsUtf16}
+use Rattle.rip_base.specs.declared.report.EventKind.{EventKind}
+use Rattle.rip_base.specs.declared.report.EventKind.TheVariants as K
 use Rattle.rip_data.specs.Datum.{Tree, Elements, element, no_elements, elements_of, data_of}
 use Rattle.rip_data.specs.Datum as tree
 use Rattle.rip_data.proofs.TextLaws.{data_of-one}

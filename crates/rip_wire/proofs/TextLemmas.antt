@@ -3,7 +3,7 @@ use Rattle.std.proofs.Common.{◌≡◌, ℕ, zero, suc, ◌<◌, List, [], ◌�
 use Rattle.std.specs.List.{AllByRecursion, list_all}
 use Rattle.std.specs.Str.{all_scalars, encode_utf8_all}
 use Rattle.std.proofs.lemmas.Str.{IsUtf8-from_ascii, scalars-chars, chars-IsAscii, encodes-IsAscii}
-use Rattle.rip_values.specs.Text.{IsUtf16, IsSameText, encode_utf16_all}
+use Rattle.rip_base.specs.Text.{IsUtf16, IsSameText, encode_utf16_all}
 use Rattle.rip_data.specs.Datum.{utf8_of}
 use Rattle.rip_data.proofs.DataLemmas.{utf8_of-IsSameText}
 use Rattle.rip_wire.specs.Names.{is_name_letter, IsName}

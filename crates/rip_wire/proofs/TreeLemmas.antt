@@ -9,10 +9,10 @@ use Rattle.std.proofs.lemmas.Bool.{ltb-true}
 use Rattle.serde_json.specs.Data.{Data, string, number, unsigned, array, object, member, no_members, null, depth, items_depth}
 use Rattle.serde_json.specs.View.{items_of}
 use Rattle.serde_json.specs.Written.{compact_text}
-use Rattle.rip_values.specs.Whole.{IsWhole}
-use Rattle.rip_values.specs.Text.{IsUtf16}
-use Rattle.rip_values.specs.declared.report.EventKind.{EventKind}
-use Rattle.rip_values.specs.declared.report.EventKind.TheVariants as K
+use Rattle.rip_base.specs.Whole.{IsWhole}
+use Rattle.rip_base.specs.Text.{IsUtf16}
+use Rattle.rip_base.specs.declared.report.EventKind.{EventKind}
+use Rattle.rip_base.specs.declared.report.EventKind.TheVariants as K
 use Rattle.rip_data.specs.Datum.{Tree, Elements, element, no_elements, elements_of, data_of, utf8_of, IsDatum, AreData, nesting, canonical_text}
 use Rattle.rip_data.specs.Datum as tree
 use Rattle.rip_data.specs.Reading.{value_of}

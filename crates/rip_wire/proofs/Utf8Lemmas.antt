@@ -6,8 +6,8 @@ use Rattle.std.proofs.lemmas.Fmt.{IsAscii-decimal, IsAscii-signed}
 use Rattle.json.specs.Print.{quoted}
 use Rattle.json.proofs.Printed.Utf8.{are_ascii, IsUtf8-are_ascii, IsUtf8-quoted, IsUtf8-boolean}
 use Rattle.serde_json.specs.Written.{compact_text, items_text, members_text, comma_if, number_text}
-use Rattle.rip_values.specs.Whole.{IsWhole}
-use Rattle.rip_values.specs.Text.{IsUtf16}
+use Rattle.rip_base.specs.Whole.{IsWhole}
+use Rattle.rip_base.specs.Text.{IsUtf16}
 use Rattle.rip_data.specs.Datum.{Tree, Elements, no_elements, element, Fields, no_fields, field, utf8_of, number_of_whole, data_of, items_of, members_of, IsDatum, AreData, HaveData}
 use Rattle.rip_data.specs.Datum as tree
 use Rattle.rip_data.proofs.DataLemmas.{IsSameText-utf8_of}

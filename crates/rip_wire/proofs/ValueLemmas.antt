@@ -1,7 +1,7 @@
 -- What a value of JSON is not.
 use Rattle.std.proofs.Common.{◌≡◌, ℕ, ◌<◌, ◌≤◌, length, arith, List, false, true≢false, sym, ap, ◌∙◌}
 use Rattle.serde_json.specs.Data.{Data}
-use Rattle.rip_values.specs.Text.{IsUtf16}
+use Rattle.rip_base.specs.Text.{IsUtf16}
 use Rattle.rip_data.specs.Datum.{Tree, data_of, nesting, canonical_text, IsDatum}
 use Rattle.rip_data.specs.Datum as tree
 use Rattle.rip_data.specs.Reading.{all_whole}

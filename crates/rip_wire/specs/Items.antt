@@ -2,9 +2,9 @@
 use Rattle.std.specs.Prelude.{ℕ, ◌<◌, ◌≤◌, ◌^◌, ◌++◌, List, [], ◌∷◌, length, codes, Option, Some, None, ⊤}
 use Rattle.serde_json.specs.Data.{Data, string, number, unsigned, array}
 use Rattle.serde_json.specs.View.{items_of}
-use Rattle.rip_values.specs.Text.{IsUtf16}
-use Rattle.rip_values.specs.declared.report.EventKind.{EventKind}
-use Rattle.rip_values.specs.declared.report.EventKind.TheVariants as K
+use Rattle.rip_base.specs.Text.{IsUtf16}
+use Rattle.rip_base.specs.declared.report.EventKind.{EventKind}
+use Rattle.rip_base.specs.declared.report.EventKind.TheVariants as K
 use Rattle.rip_data.specs.Datum.{Tree, elements_of, trees_in, utf8_of, data_of, nesting, canonical_text, IsDatum}
 use Rattle.rip_data.specs.Datum as tree
 use Rattle.rip_wire.specs.declared.item.Item.{Item}

@@ -1,6 +1,6 @@
 use crate::ending::Ending;
+use rip_base::List;
 use rip_data::Datum;
-use rip_values::List;
 
 /// A call that was served: its number, when, and what was replied.
 #[derive(Drop)]

@@ -5,8 +5,8 @@ ghost use Rattle.rip_wire.specs.Tokens.{tokens_of, closed};
 use crate::answer::{Answer, ServedCall};
 use crate::ending::Reason;
 use json::Writer;
+use rip_base::{Bytes, NoMemory};
 use rip_data::write_value;
-use rip_values::{Bytes, NoMemory};
 use std::alloc::{AllocError, Global};
 
 /// The body of the answer.

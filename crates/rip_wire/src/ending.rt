@@ -1,7 +1,7 @@
 ghost use Rattle.std.specs.Prelude.{◌≡◌};
 ghost use Rattle.rip_wire.specs.Reasons.{reason_of, reason_word};
 
-use rip_values::{BadReport, Bytes, Fault, Limit};
+use rip_base::{BadReport, Bytes, Fault, Limit};
 
 /// Why a session ended. An item is counted from 1 within its batch.
 #[derive(Debug, Drop)]

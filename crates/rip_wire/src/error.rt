@@ -1,7 +1,7 @@
 ghost use Rattle.std.specs.Prelude.{◌≡◌};
 
+use rip_base::NoMemory;
 use rip_data::DataError;
-use rip_values::NoMemory;
 use std::alloc::{AllocError, AllocFailed};
 use thiserror::Error;
 

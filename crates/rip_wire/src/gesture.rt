@@ -1,4 +1,4 @@
-use rip_values::Report;
+use rip_base::Report;
 
 /// What a user does, as a client is told it.
 #[derive(Debug, Drop)]

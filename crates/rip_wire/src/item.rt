@@ -1,5 +1,5 @@
+use rip_base::{EventKind, List, Units};
 use rip_data::DatumList;
-use rip_values::{EventKind, List, Units};
 
 /// The most items that a batch has.
 pub const MOST_ITEMS: usize = 64;

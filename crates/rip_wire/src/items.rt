@@ -1,14 +1,14 @@
 ghost use Rattle.std.specs.Prelude.{◌≡◌, ◌≢◌, ◌∷◌, ℕ, List as Items, Option as Maybe, map, codes, IfSome, IfNone, IfOk, IsErrOf};
 ghost use Rattle.serde_json.specs.Data.{Data, string};
 ghost use Rattle.serde_json.specs.View.{view};
-ghost use Rattle.rip_values.specs.declared.report.EventKind.{EventKind as Kind};
+ghost use Rattle.rip_base.specs.declared.report.EventKind.{EventKind as Kind};
 ghost use Rattle.rip_data.specs.Datum.{Tree, trees_in};
 ghost use Rattle.rip_wire.specs.Items.{Reported, reported_of, list_of, detail_values, event_values, call_values, reply_values, item_value, HasDetail, AreArgs, IsItem};
 
 use crate::error::WireError;
 use crate::item::Item;
 use crate::values::{args_of, event_kind, name_of, number_of, text_of};
-use rip_values::{EventKind, Report, Units};
+use rip_base::{EventKind, Report, Units};
 use serde_json::Value;
 use std::alloc::Global;
 

@@ -16,8 +16,8 @@ use crate::read::{items_of, value_in};
 use crate::values::{args_of, name_of};
 use crate::write::{write_items, write_text};
 use json::Writer;
+use rip_base::{Bytes, NoMemory, Units};
 use rip_data::{DatumList, write_list};
-use rip_values::{Bytes, NoMemory, Units};
 use serde_json::Value;
 use std::alloc::{AllocError, Global};
 

@@ -9,8 +9,8 @@ ghost use Rattle.rip_wire.specs.Batches.{Contents, contents_of, batch_value, IsB
 use crate::error::WireError;
 use crate::item::{Batch, ItemList, MOST_BATCHES, MOST_ITEMS};
 use crate::items::item_of;
+use rip_base::List;
 use rip_data::{DataError, read_value};
-use rip_values::List;
 use serde_json::Value;
 use std::alloc::Global;
 

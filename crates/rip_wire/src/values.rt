@@ -1,15 +1,15 @@
 ghost use Rattle.std.specs.Prelude.{◌≡◌, ◌≢◌, ◌<◌, ◌^◌, ℕ, List as Items, IfSome, IfNone, IfOk, IsErrOf};
 ghost use Rattle.serde_json.specs.View.{view};
-ghost use Rattle.rip_values.specs.Text.{IsUtf16};
-ghost use Rattle.rip_values.specs.declared.report.EventKind.{EventKind as Kind};
+ghost use Rattle.rip_base.specs.Text.{IsUtf16};
+ghost use Rattle.rip_base.specs.declared.report.EventKind.{EventKind as Kind};
 ghost use Rattle.rip_data.specs.Datum.{Tree, tree_of, trees_in, data_of, IsDatum};
 ghost use Rattle.rip_wire.specs.Names.{IsName};
 ghost use Rattle.rip_wire.specs.Items.{event_word, text_value, number_value, args_tree, AreArgs};
 
 use crate::error::WireError;
 use crate::name::is_name;
+use rip_base::{EventKind, Units};
 use rip_data::{DataError, Datum, DatumList, MAX_DEPTH, MAX_LENGTH, datum_of, datum_size};
-use rip_values::{EventKind, Units};
 use serde_json::Value;
 use std::alloc::Global;
 

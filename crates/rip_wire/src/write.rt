@@ -6,8 +6,8 @@ ghost use Rattle.rip_wire.specs.Tokens.{tokens_of, tokens_of_all, closed};
 
 use crate::item::{Batch, Item};
 use json::Writer;
+use rip_base::{Bytes, EventKind, NoMemory, Units};
 use rip_data::{DatumList, write_list};
-use rip_values::{Bytes, EventKind, NoMemory, Units};
 use std::alloc::{AllocError, Global};
 
 /// The text of the batch, which a request's body may be.

@@ -1,1 +1,2 @@
+pub mod NumeralsLemmas
 pub mod WordLemmas

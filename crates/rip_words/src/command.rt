@@ -1,7 +1,7 @@
 ghost use Rattle.std.specs.Prelude.{◌≡◌, ◌≢◌, ◌∷◌, [], ◌<◌, ◌≤◌, ◌^◌, ℕ, List, codes, decimal, map, string_bytes, IsNone, IfSome};
 ghost use Rattle.rip_words.specs.Commands.{Task, checks, replays, serves, drives, generates, IsTurns, IsOption, IsTask, task_of};
 
-use rip_numerals::read_number;
+use crate::numerals::read_number;
 
 /// How many turns a replay has where no number is given.
 const REPLAYED_TURNS: u64 = 1_000_000_000;

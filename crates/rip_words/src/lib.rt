@@ -21,6 +21,7 @@
 
 mod command;
 mod laws;
+pub mod numerals;
 
 pub use command::{Command, command_of};
 pub use laws::words_are_one;

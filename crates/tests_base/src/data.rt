@@ -1,5 +1,5 @@
+use rip_base::NoMemory;
 use rip_data::*;
-use rip_values::NoMemory;
 use std::alloc::Global;
 use std::test::Fail;
 

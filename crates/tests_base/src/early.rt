@@ -1,7 +1,7 @@
 //! Nodes that are numbered in another order than that of the text, which the parser never does.
+use rip_base::NoMemory;
 use rip_early::check;
 use rip_tree::{Form, Node, Piece, Resolved, TextLiteral, Tree, TreeMaker, Trees};
-use rip_values::NoMemory;
 use std::alloc::Global;
 use std::test::Fail;
 

@@ -2,8 +2,8 @@ ghost use Rattle.std.specs.Prelude.{◌≡◌, ◌⊎◌, ◌∷◌, [], IfSome,
 ghost use Rattle.rip_outer.specs.Outside.{Rose, also, IsOver};
 ghost use Rattle.rip_outer.specs.Reading.{contents_of};
 
+use rip_base::{Bytes, NumberList};
 use rip_outer::*;
-use rip_values::{Bytes, NumberList};
 use std::alloc::Global;
 use std::test::Fail;
 

@@ -1,7 +1,7 @@
+use rip_base::{Limit, Refused};
 use rip_convert::*;
 use rip_data::read_datum;
 use rip_heap::{Heap, HeapLimits};
-use rip_values::{Limit, Refused};
 use std::alloc::Global;
 use std::test::Fail;
 

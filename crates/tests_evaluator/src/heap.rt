@@ -1,7 +1,7 @@
 ghost use Rattle.std.specs.Prelude.{◌<◌};
 
+use rip_base::{Value, Whole};
 use rip_heap::*;
-use rip_values::{Value, Whole};
 use std::test::Fail;
 
 const ROOMY: HeapLimits = HeapLimits {

@@ -1,5 +1,5 @@
-use rip_runs::*;
-use rip_values::Value;
+use rip_base::Value;
+use rip_eval_rows::*;
 use std::test::Fail;
 
 fn part(node: u32) -> Part {

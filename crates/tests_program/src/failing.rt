@@ -1,9 +1,9 @@
 //! The outside fails at a call of a run.
 use crate::knocks::connection;
 use crate::running::{APP, run, run_at, serve_failing};
+use rip_base::{Bytes, NoMemory};
 use rip_cli::Status;
 use rip_outer::{NoDoor, NoWords, PartSink, lines};
-use rip_values::{Bytes, NoMemory};
 use std::alloc::Global;
 use std::test::Fail;
 

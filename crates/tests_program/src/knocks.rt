@@ -1,6 +1,6 @@
 //! Doors in memory, and what comes at them.
+use rip_base::{Bytes, NoMemory, NumberList};
 use rip_outer::{KnockError, KnockList, MAX_PIECE, MemoryDoor, TraceKnock};
-use rip_values::{Bytes, NoMemory, NumberList};
 use std::alloc::Global;
 use std::test::Fail;
 

@@ -1,11 +1,11 @@
 //! How the tests run the program.
 use crate::knocks::door;
+use rip_base::{Bytes, List, NoMemory, NumberList};
 use rip_cli::{Status, ripley};
 use rip_outer::{
     Clock, Door, FileList, Files, KnockList, MemoryDoor, MemoryFiles, MemorySink, MemoryWords,
     NamedFile, NoClock, NoDoor, NoWords, Sink, Words,
 };
-use rip_values::{Bytes, List, NoMemory, NumberList};
 use std::alloc::Global;
 
 /// A manifest of no functions.

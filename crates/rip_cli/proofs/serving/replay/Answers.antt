@@ -2,9 +2,9 @@ use Rattle.std.proofs.Common.{◌∙◌, ◌<◌, ◌^◌, ℕ, List, Some, None
 use Rattle.std.specs.List.{All}
 use Rattle.rip_outer.specs.Moments.{new_clock, moment_at, new_words, word_at}
 use Rattle.rip_server.specs.Acts.{seen}
-use Rattle.rip_turn.specs.Turning.{outer, source}
+use Rattle.rip_server.specs.Turning.{outer, source}
 use Rattle.rip_serve.specs.declared.serving.Stop.{Stop}
-use Rattle.rip_site.specs.Sites.{ServesApp}
+use Rattle.rip_serve.specs.Sites.{ServesApp}
 use Rattle.rip_cli.specs.Service.{Replayed}
 use Rattle.rip_cli.specs.TraceDoor.{left_of}
 use Rattle.rip_cli.proofs.MomentLemmas.{moments_below}

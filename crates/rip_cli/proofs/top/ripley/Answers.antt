@@ -2,7 +2,7 @@ use Rattle.std.proofs.Common.{map, refl, inl}
 use Rattle.std.specs.Prelude.{string_bytes}
 use Rattle.rip_words.specs.Commands.{task_of}
 use Rattle.rip_server.specs.Acts.{seen}
-use Rattle.rip_turn.specs.Turning.{outer, source}
+use Rattle.rip_server.specs.Turning.{outer, source}
 use Rattle.rip_cli.proofs.RunLemmas.{usage_ran, settled_ran, stopped_reading}
 use Rattle.rip_cli.proofs.WordLemmas.{none_form, other_input}
 use Rattle.rip_cli.proofs.top.ripley.Goals as goal

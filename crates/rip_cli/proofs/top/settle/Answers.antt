@@ -1,6 +1,6 @@
 use Rattle.std.proofs.Common.{◌≡◌, sym, subst, rules}
 use Rattle.rip_server.specs.Acts.{seen}
-use Rattle.rip_turn.specs.Turning.{outer, source}
+use Rattle.rip_server.specs.Turning.{outer, source}
 use Rattle.rip_cli.specs.Settling.{Settles, with_sink}
 use Rattle.rip_cli.specs.declared.input.Input.{Input}
 use Rattle.rip_cli.specs.declared.input.Input.TheVariants.{Check, Drive, Generate, Replay}

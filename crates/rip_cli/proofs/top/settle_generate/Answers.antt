@@ -1,5 +1,5 @@
 use Rattle.std.proofs.Common.{◌≡◌, sym, subst, rules}
-use Rattle.rip_generate.specs.Generated.{IsGenerated}
+use Rattle.rip_gen.specs.Generated.{IsGenerated}
 use Rattle.rip_cli.proofs.SettleLemmas.{generated_settles}
 use Rattle.rip_cli.proofs.top.settle_generate.Goals as goal
 

@@ -1,6 +1,6 @@
 use Rattle.std.proofs.Common.{refl}
 use Rattle.rip_server.specs.Acts.{seen}
-use Rattle.rip_turn.specs.Turning.{outer, source}
+use Rattle.rip_server.specs.Turning.{outer, source}
 use Rattle.rip_cli.specs.declared.input.Input.TheVariants.{Serve}
 use Rattle.rip_cli.proofs.FileLemmas.{app_cause, is_app}
 use Rattle.rip_cli.proofs.SettleLemmas.{refusal_settles}

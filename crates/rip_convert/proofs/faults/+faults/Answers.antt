@@ -1,7 +1,7 @@
 use Rattle.std.proofs.Common.{◌≡◌, ◌<◌, ◌≤◌, ◌+◌, ◌∙◌, drop, unwrap_or, sym, ap, arith}
 use Rattle.std.proofs.lemmas.Option.{unwrap_or-slice_get}
 use Rattle.rip_values.specs.Pool.{text_at}
-use Rattle.rip_values.specs.declared.value.Value.TheVariants.{Undefined, Object}
+use Rattle.rip_base.specs.declared.value.Value.TheVariants.{Undefined, Object}
 use Rattle.rip_heap.specs.Arrays.{elements_at}
 use Rattle.rip_heap.specs.World.{object_at}
 use Rattle.rip_convert.specs.Arguments.{properties_of, or_fault, text_fault, elements_fault, fields_fault, fault_of}

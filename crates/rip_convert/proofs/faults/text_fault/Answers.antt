@@ -1,5 +1,5 @@
 use Rattle.std.proofs.Common.{None, Some, cond, sym, ap, ◌∙◌, arith}
-use Rattle.rip_values.specs.declared.value.Fault.TheVariants.{LoneSurrogate}
+use Rattle.rip_base.specs.declared.value.Fault.TheVariants.{LoneSurrogate}
 use Rattle.rip_convert.proofs.FirstFault.{fault_units}
 use Rattle.rip_convert.proofs.Utf16.{are_units_of}
 use Rattle.rip_convert.proofs.faults.text_fault.Goals as goal

@@ -2,7 +2,7 @@ use Rattle.std.proofs.Common.{◌≡◌, ℕ, ◌+◌, ◌-◌, ◌∙◌, Err, 
 use Rattle.std.proofs.lemmas.Option.{unwrap_or-slice_get}
 use Rattle.std.proofs.lemmas.Result.{err_from_is_err_and}
 use Rattle.rip_values.specs.Pool.{text_at}
-use Rattle.rip_values.specs.declared.value.Value.TheVariants.{Undefined}
+use Rattle.rip_base.specs.declared.value.Value.TheVariants.{Undefined}
 use Rattle.rip_heap.specs.Arrays.{elements_at}
 use Rattle.rip_convert.specs.Written.{then_left, spelled_left, elements_left, fields_left, left_after}
 use Rattle.rip_convert.proofs.Judging.{element_here, left_number, left_object, left_text}

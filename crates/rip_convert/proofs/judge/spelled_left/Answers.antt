@@ -1,5 +1,5 @@
 use Rattle.std.proofs.Common.{◌-◌, cond, Ok, Err, length, sym, ap, ◌∙◌, arith}
-use Rattle.rip_values.specs.declared.value.Fault.TheVariants.{LoneSurrogate}
+use Rattle.rip_base.specs.declared.value.Fault.TheVariants.{LoneSurrogate}
 use Rattle.rip_convert.proofs.Judging.{left_units}
 use Rattle.rip_convert.proofs.Utf16.{are_units_of}
 use Rattle.rip_convert.proofs.judge.spelled_left.Goals as goal

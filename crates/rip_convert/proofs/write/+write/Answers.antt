@@ -3,7 +3,7 @@ use Rattle.std.proofs.lemmas.Bool.{ne_eqb}
 use Rattle.std.proofs.lemmas.Option.{unwrap_or-slice_get}
 use Rattle.json.specs.Print.{quoted}
 use Rattle.serde_json.specs.Written.{compact_text, items_text}
-use Rattle.rip_values.specs.declared.value.Value.TheVariants.{Undefined}
+use Rattle.rip_base.specs.declared.value.Value.TheVariants.{Undefined}
 use Rattle.rip_values.specs.Pool.{text_at}
 use Rattle.rip_data.specs.Datum.{utf8_of}
 use Rattle.rip_heap.specs.Arrays.{elements_at}

@@ -1,5 +1,5 @@
 use Rattle.std.proofs.Common.{ap, ◌∙◌, ◌++◌, subst}
-use Rattle.rip_said.specs.Said.{ended_line, opening_lines}
+use Rattle.rip_trace.specs.Said.{ended_line, opening_lines}
 use Rattle.rip_session.proofs.OpeningLemmas.{on-ok}
 use Rattle.rip_wire.specs.declared.ending.Reason.{Reason}
 use Rattle.rip_drive.specs.Drivers.{IsDriven}

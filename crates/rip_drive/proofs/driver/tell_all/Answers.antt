@@ -1,9 +1,9 @@
 use Rattle.std.proofs.Common.{◌∙◌, ◌++◌, ap, arith, refl, subst, sym}
 use Rattle.std.specs.Prelude.{◌≡◌, IfErr, None, Option}
 use Rattle.std.proofs.lemmas.Result.{err_from_is_err_and}
-use Rattle.rip_runs.specs.declared.completion.Stop.{Stop}
+use Rattle.rip_eval_rows.specs.declared.completion.Stop.{Stop}
 use Rattle.rip_client.specs.Sizes.{IsGesture}
-use Rattle.rip_said.specs.Said.{ended_line}
+use Rattle.rip_trace.specs.Said.{ended_line}
 use Rattle.rip_trace.specs.declared.gestures.LinedGesture.{LinedGesture}
 use Rattle.rip_wire.specs.declared.ending.Reason.{Reason}
 use Rattle.rip_drive.specs.declared.driver.Driver.{Driver}

@@ -1,6 +1,6 @@
 use Rattle.std.proofs.Common.{arith}
 use Rattle.rip_wire.specs.Batches.{contents_of}
-use Rattle.rip_said.specs.Said.{batch_line}
+use Rattle.rip_trace.specs.Said.{batch_line}
 use Rattle.rip_client.specs.declared.list.ToldBatch.{ToldBatch}
 use Rattle.rip_drive.proofs.Lines.{lines_more}
 use Rattle.rip_drive.proofs.driver.write_batches.Goals as goal

@@ -1,8 +1,8 @@
 use Rattle.std.proofs.Common.{◌≡◌, ◌∙◌, ◌∷◌, ◌++◌, [], List, ap, refl, sym}
 use Rattle.rip_machine.specs.Law.{Standing}
-use Rattle.rip_work.specs.Plans.{work_plan}
-use Rattle.rip_work.specs.Serving.{moment_of}
-use Rattle.rip_work.specs.Tasks.{Task, opens}
+use Rattle.rip_session.specs.Plans.{work_plan}
+use Rattle.rip_session.specs.Serving.{moment_of}
+use Rattle.rip_session.specs.Tasks.{Task, opens}
 use Rattle.rip_session.specs.Application.{runs_of}
 use Rattle.rip_session.specs.Kept.{goes-fits}
 use Rattle.rip_session.specs.Opening.{opened_of}

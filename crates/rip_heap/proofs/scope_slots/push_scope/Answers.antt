@@ -1,6 +1,6 @@
 use Rattle.std.proofs.Common.{◌≡◌, ◌∙◌, ◌++◌, ◌∷◌, [], ap, subst, sym}
-use Rattle.rip_pages.specs.declared.for_rows.Row.TheVariants.{Scopes}
-use Rattle.rip_pages.specs.Pages.{row_of, with_row}
+use Rattle.rip_heap_region.specs.declared.pages.for_rows.Row.TheVariants.{Scopes}
+use Rattle.rip_heap_region.specs.Pages.{row_of, with_row}
 use Rattle.rip_heap.specs.ScopeSlots.{AreScopes, scopes_of, slot_of_scope}
 use Rattle.rip_heap.proofs.ScopeSlotLemmas.{are_pushed, scopes_pushed, with_scope_slots}
 use Rattle.rip_heap.proofs.scope_slots.push_scope.Goals as goal

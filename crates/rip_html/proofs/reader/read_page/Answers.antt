@@ -1,5 +1,5 @@
 use Rattle.std.proofs.Common.{◌≡◌, ◌^◌, length, arith, List, [], ◌∷◌, Option, Some, None, refl, sym, ap, ◌∙◌, subst}
-use Rattle.rip_values.specs.Page.{Contents}
+use Rattle.rip_base.specs.Page.{Contents}
 use Rattle.rip_markup.specs.Tokens.{IsTokens}
 use Rattle.rip_markup.specs.declared.input.PageText.{PageText}
 use Rattle.rip_markup.specs.declared.token.Placed.{Placed}

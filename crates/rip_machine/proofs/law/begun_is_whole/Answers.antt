@@ -1,6 +1,6 @@
 use Rattle.rip_machine.specs.Law.{loaded, run}
-use Rattle.rip_language.specs.Table.{table}
-use Rattle.rip_runs.proofs.Resumes.{begins_whole}
+use Rattle.rip_eval_language.specs.Table.{table}
+use Rattle.rip_eval_rows.proofs.Resumes.{begins_whole}
 use Rattle.rip_machine.proofs.law.begun_is_whole.Goals as goal
 
 pub returns : goal.returns

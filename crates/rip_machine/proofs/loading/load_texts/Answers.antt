@@ -1,7 +1,7 @@
 use Rattle.std.proofs.Common.{rules, ◌≡◌, ℕ, ◌+◌, ◌<◌, ◌≤◌, List, [], ◌∷◌, ◌++◌, Option, length, map, get_or, refl, ap, subst, sym, ◌∙◌, arith}
 use Rattle.std.specs.List.{range_with_len}
 use Rattle.std.proofs.lemmas.List.FromFn.{get_or-map-range_with_len, map-range_with_len_more}
-use Rattle.rip_values.specs.declared.value.Span.{Span}
+use Rattle.rip_base.specs.declared.value.Span.{Span}
 use Rattle.rip_values.specs.Pool.{KeepsTexts}
 use Rattle.rip_heap.specs.Growth.{Grows}
 use Rattle.rip_heap.specs.World.{World}
@@ -9,7 +9,7 @@ use Rattle.rip_tree.specs.Branches.{node_of}
 use Rattle.rip_tree.specs.Firsts.{first_named}
 use Rattle.rip_machine.specs.Back.{CutsTo}
 use Rattle.rip_machine.specs.Loading.{StandsIfAny, form_text, span_of}
-use Rattle.rip_language.specs.Reading.{form_in}
+use Rattle.rip_eval_language.specs.Reading.{form_in}
 use Rattle.rip_machine.proofs.TakenBack.{form_cuts}
 use Rattle.rip_machine.proofs.Loads.{all_stand, copied_span, copied_stand, copied_world, loaded_before, name_before, own_spans, own_world, spans_long, stand_more}
 use Rattle.rip_machine.proofs.loading.load_texts.Goals as goal

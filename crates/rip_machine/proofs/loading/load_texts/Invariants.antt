@@ -1,12 +1,12 @@
 use Rattle.std.proofs.Common.{◌≡◌, ℕ, ◌<◌, get_or, map}
 use Rattle.std.specs.List.{range_with_len}
-use Rattle.rip_values.specs.declared.value.Span.{Span}
+use Rattle.rip_base.specs.declared.value.Span.{Span}
 use Rattle.rip_heap.specs.Growth.{Grows}
 use Rattle.rip_heap.specs.World.{World}
 use Rattle.rip_tree.specs.Branches.{node_of}
 use Rattle.rip_machine.specs.Back.{CutsTo}
 use Rattle.rip_machine.specs.Loading.{StandsIfAny, form_text, span_of}
-use Rattle.rip_language.specs.Reading.{form_in}
+use Rattle.rip_eval_language.specs.Reading.{form_in}
 use Rattle.rip_machine.proofs.Loads.{loaded_before}
 use Rattle.rip_machine.proofs.loading.load_texts.Given as goal
 

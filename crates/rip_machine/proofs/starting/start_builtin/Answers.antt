@@ -1,11 +1,11 @@
 use Rattle.std.proofs.Common.{rules, ◌≡◌, ℕ, length, Some, ap, subst}
 use Rattle.rip_heap.specs.World.{World, charging}
-use Rattle.rip_runs.specs.declared.part.Part.{Part}
-use Rattle.rip_runs.specs.Law.{Begins}
-use Rattle.rip_runs.specs.Row.{Row}
-use Rattle.rip_language.specs.Rows.Calls.{answered_by, answerer_of}
+use Rattle.rip_eval_rows.specs.declared.part.Part.{Part}
+use Rattle.rip_eval_rows.specs.Law.{Begins}
+use Rattle.rip_eval_rows.specs.Row.{Row}
+use Rattle.rip_eval_language.specs.Rows.Calls.{answered_by, answerer_of}
 use Rattle.rip_machine.specs.Starting.{builtin_begun, outside}
-use Rattle.rip_language.specs.Table.{table}
+use Rattle.rip_eval_language.specs.Table.{table}
 use Rattle.rip_machine.proofs.starting.start_builtin.Goals as goal
 
 pub returns-clause-starts : goal.returns-clause-starts

@@ -1,17 +1,17 @@
 use Rattle.std.proofs.Common.{◌≡◌, ℕ, Some, refl, sym, ◌∙◌, subst}
-use Rattle.rip_runs.specs.declared.frame.Ending.TheVariants.{Call}
-use Rattle.rip_runs.specs.declared.part.Inner.{Inner}
-use Rattle.rip_runs.specs.declared.part.Part.{Part}
-use Rattle.rip_runs.specs.Frame.{inside}
-use Rattle.rip_runs.specs.Law.{Begins}
-use Rattle.rip_language.specs.declared.callee.Invocable.TheVariants.{OfScript}
-use Rattle.rip_language.specs.Rows.Calls.{running}
-use Rattle.rip_language.specs.Rows.Functions.{body, function_entered}
-use Rattle.rip_language.specs.Rows.Statements.{statements}
+use Rattle.rip_eval_rows.specs.declared.frame.Ending.TheVariants.{Call}
+use Rattle.rip_eval_rows.specs.declared.part.Inner.{Inner}
+use Rattle.rip_eval_rows.specs.declared.part.Part.{Part}
+use Rattle.rip_eval_rows.specs.Frame.{inside}
+use Rattle.rip_eval_rows.specs.Law.{Begins}
+use Rattle.rip_eval_language.specs.declared.callee.Invocable.TheVariants.{OfScript}
+use Rattle.rip_eval_language.specs.Rows.Calls.{running}
+use Rattle.rip_eval_language.specs.Rows.Functions.{body, function_entered}
+use Rattle.rip_eval_language.specs.Rows.Statements.{statements}
 use Rattle.rip_machine.specs.Starting.{function_part, outside}
-use Rattle.rip_language.specs.Table.{table}
+use Rattle.rip_eval_language.specs.Table.{table}
 use Rattle.rip_machine.proofs.Beginnings.{runs_function, stood}
-use Rattle.rip_statements.proofs.Declared.{entered_scope}
+use Rattle.rip_eval_statements.proofs.Declared.{entered_scope}
 use Rattle.rip_machine.proofs.starting.start_call.Goals as goal
 
 pub returns-in-Some-clause-starts : goal.returns-in-Some-clause-starts

@@ -1,8 +1,8 @@
 use Rattle.std.proofs.Common.{Ok, subst}
-use Rattle.rip_language.specs.declared.callee.Invocable.{Invocable}
+use Rattle.rip_eval_language.specs.declared.callee.Invocable.{Invocable}
 use Rattle.rip_machine.specs.Law.{StartsRun}
 use Rattle.rip_machine.specs.Starting.{call_begun}
-use Rattle.rip_language.specs.Table.{table}
+use Rattle.rip_eval_language.specs.Table.{table}
 use Rattle.rip_machine.proofs.starting.start_function.Goals as goal
 
 pub returns-in-OfScript-clause-starts : goal.returns-in-OfScript-clause-starts

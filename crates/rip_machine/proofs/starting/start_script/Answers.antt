@@ -1,14 +1,14 @@
 use Rattle.std.proofs.Common.{rules, ◌≡◌, ℕ, Some, Ok, ap, subst, sym}
-use Rattle.rip_runs.specs.declared.frame.Ending.TheVariants.{Script}
-use Rattle.rip_runs.specs.declared.part.Part.{Part}
-use Rattle.rip_runs.specs.Law.{Begins}
-use Rattle.rip_answers.specs.Does.{DoesPurely}
+use Rattle.rip_eval_rows.specs.declared.frame.Ending.TheVariants.{Script}
+use Rattle.rip_eval_rows.specs.declared.part.Part.{Part}
+use Rattle.rip_eval_rows.specs.Law.{Begins}
+use Rattle.rip_eval_language.specs.Does.{DoesPurely}
 use Rattle.rip_machine.specs.Law.{StartsRun}
-use Rattle.rip_language.specs.Reading.{children_from}
-use Rattle.rip_language.specs.Rows.Scripts.{script_entered, script_part, script_row}
-use Rattle.rip_language.specs.Rows.Statements.{statements}
+use Rattle.rip_eval_language.specs.Reading.{children_from}
+use Rattle.rip_eval_language.specs.Rows.Scripts.{script_entered, script_part, script_row}
+use Rattle.rip_eval_language.specs.Rows.Statements.{statements}
 use Rattle.rip_machine.specs.Starting.{script_begun}
-use Rattle.rip_language.specs.Table.{table}
+use Rattle.rip_eval_language.specs.Table.{table}
 use Rattle.rip_machine.proofs.Beginnings.{stood}
 use Rattle.rip_machine.proofs.starting.start_script.Goals as goal
 

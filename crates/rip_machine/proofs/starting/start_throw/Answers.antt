@@ -1,8 +1,8 @@
 use Rattle.std.proofs.Common.{ap, sym}
 use Rattle.rip_heap.specs.declared.class.Class.TheVariants.{ThrownTypeError}
-use Rattle.rip_language.specs.Rows.Names.{throws}
+use Rattle.rip_eval_language.specs.Rows.Names.{throws}
 use Rattle.rip_machine.specs.Starting.{Runs}
-use Rattle.rip_language.specs.Table.{table}
+use Rattle.rip_eval_language.specs.Table.{table}
 use Rattle.rip_machine.proofs.Beginnings.{stood_in}
 use Rattle.rip_machine.proofs.starting.start_throw.Goals as goal
 

@@ -1,6 +1,6 @@
 use Rattle.std.proofs.Common.{ℕ, Bool, ◌≡◌, ◌∙◌, ◌==◌, ◌&&◌, true, not, drop, codes, sym, ap}
 use Rattle.std.specs.List.{prefix_len}
-use Rattle.rip_values.specs.Units.{begins}
+use Rattle.rip_base.specs.Units.{begins}
 use Rattle.rip_markup.specs.Scans.{behind}
 use Rattle.rip_markup.specs.Forms.{begins_small}
 use Rattle.rip_markup.proofs.form.is_doctype.Goals as goal

@@ -1,5 +1,5 @@
 use Rattle.std.proofs.Common.{◌≡◌, ◌∙◌, false, ap, sym, subst, drop}
-use Rattle.rip_values.specs.Text.{IsSameText}
+use Rattle.rip_base.specs.Text.{IsSameText}
 use Rattle.rip_markup.specs.Input.{unmarked, lines}
 use Rattle.rip_markup.proofs.input.read_text.Goals as goal
 

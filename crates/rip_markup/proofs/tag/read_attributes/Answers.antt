@@ -1,7 +1,7 @@
 use Rattle.std.proofs.Common.{◌+◌, ◌≤◌, ◌∙◌, IfSome, option_map, ◌||◌, ◌++◌, ◌∷◌, [], length, sym, ap, subst, arith}
 use Rattle.rip_markup.specs.Tags.{AreRead}
 use Rattle.rip_markup.specs.Fault.{shifted, option_or}
-use Rattle.rip_values.specs.declared.page.Attribute.{Attribute}
+use Rattle.rip_base.specs.declared.page.Attribute.{Attribute}
 use Rattle.rip_markup.specs.declared.fault.Fault.{Fault}
 use Rattle.rip_markup.proofs.Turns.{read_more, read_all, names_of, names-append}
 use Rattle.rip_markup.specs.Words.{is_among}

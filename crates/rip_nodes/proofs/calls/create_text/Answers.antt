@@ -1,5 +1,5 @@
 use Rattle.std.proofs.Common.{None, Some}
-use Rattle.rip_values.specs.declared.page.NodeKind.TheVariants.{Text}
+use Rattle.rip_base.specs.declared.page.NodeKind.TheVariants.{Text}
 use Rattle.rip_nodes.proofs.LinkLemmas.{made-below}
 use Rattle.rip_nodes.proofs.calls.create_text.Goals as goal
 

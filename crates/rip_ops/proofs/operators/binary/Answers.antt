@@ -1,9 +1,9 @@
 use Rattle.std.proofs.Common.{◌≡◌, ◌⊎◌, inl, inr, Result, sym, subst}
-use Rattle.rip_values.specs.declared.operator.BinaryOperator.{BinaryOperator}
-use Rattle.rip_values.specs.declared.operator.BinaryOperator.TheVariants.{Multiply, Divide, Remainder, Subtract, ShiftLeft, ShiftRight, ShiftRightUnsigned, BitAnd, BitXor, BitOr}
-use Rattle.rip_values.specs.declared.value.Value.{Value}
-use Rattle.rip_values.specs.declared.value.Numeral.{Numeral}
-use Rattle.rip_values.specs.declared.value.Fault.{Fault}
+use Rattle.rip_base.specs.declared.operator.BinaryOperator.{BinaryOperator}
+use Rattle.rip_base.specs.declared.operator.BinaryOperator.TheVariants.{Multiply, Divide, Remainder, Subtract, ShiftLeft, ShiftRight, ShiftRightUnsigned, BitAnd, BitXor, BitOr}
+use Rattle.rip_base.specs.declared.value.Value.{Value}
+use Rattle.rip_base.specs.declared.value.Numeral.{Numeral}
+use Rattle.rip_base.specs.declared.value.Fault.{Fault}
 use Rattle.rip_heap.specs.declared.outcome.Abrupt.{Abrupt}
 use Rattle.rip_heap.specs.World.{World}
 use Rattle.rip_ops.specs.Numbers.{of_numbers}

@@ -1,7 +1,7 @@
 use Rattle.std.proofs.Common.{◌≡◌, ◌∙◌, refl, arith}
-use Rattle.rip_course.specs.Run.{first_state}
-use Rattle.rip_course.specs.Runs.{after_turns}
-use Rattle.rip_turn.specs.Turning.{site_of}
+use Rattle.rip_history.specs.Run.{first_state}
+use Rattle.rip_history.specs.Runs.{after_turns}
+use Rattle.rip_server.specs.Turning.{site_of}
 use Rattle.rip_serve.proofs.RunLemmas.{went_none, went_on, went_over, went_spent, went_broken, makes_err}
 use Rattle.rip_serve.proofs.serving.make_turns.Goals as goal
 

@@ -1,9 +1,9 @@
 use Rattle.std.proofs.Common.{◌≡◌, ◌≤◌, ◌-◌, []}
-use Rattle.rip_course.specs.Run.{State, first_state, called_so_far}
-use Rattle.rip_course.specs.Services.{Service}
+use Rattle.rip_history.specs.Run.{State, first_state, called_so_far}
+use Rattle.rip_history.specs.Services.{Service}
 use Rattle.rip_server.specs.Acts.{seen}
-use Rattle.rip_turn.specs.Standing.{IsReady, IsServer}
-use Rattle.rip_turn.specs.Turning.{outer, source, site_of}
+use Rattle.rip_server.specs.Standing.{IsReady, IsServer}
+use Rattle.rip_server.specs.Turning.{outer, source, site_of}
 use Rattle.rip_serve.proofs.RunLemmas.{Went}
 use Rattle.rip_serve.proofs.serving.make_turns.Given as goal
 

@@ -1,5 +1,5 @@
 use Rattle.rip_server.specs.Acts.{seen}
-use Rattle.rip_turn.specs.Turning.{outer, source, site_of}
+use Rattle.rip_server.specs.Turning.{outer, source, site_of}
 use Rattle.rip_serve.specs.declared.serving.Stop.TheVariants.{Idle, TurnsSpent}
 use Rattle.rip_serve.proofs.LegalLemmas.{served_is_legal}
 use Rattle.rip_serve.proofs.RunLemmas.{serves_idle, serves_spent, serves_halt}

@@ -1,5 +1,5 @@
 use Rattle.std.proofs.Common.{◌≡◌, false, take}
-use Rattle.rip_course.specs.Connections.{is_there}
+use Rattle.rip_history.specs.Connections.{is_there}
 use Rattle.rip_server.specs.Links.{there_of}
 use Rattle.rip_server.proofs.connections.place_of.Given as goal
 

@@ -1,5 +1,5 @@
 use Rattle.std.proofs.Common.{◌≡◌, List, ◌++◌, take}
-use Rattle.rip_course.specs.Connections.{Connection as Link, owing}
+use Rattle.rip_history.specs.Connections.{Connection as Link, owing}
 use Rattle.rip_server.specs.Links.{there_of}
 use Rattle.rip_server.proofs.connections.waiting_for.Given as goal
 

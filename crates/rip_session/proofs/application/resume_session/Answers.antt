@@ -3,10 +3,10 @@ use Rattle.rip_tree.specs.Program.{Code}
 use Rattle.rip_machine.specs.Plans.{evaluation}
 use Rattle.rip_host.specs.Answers.{answers}
 use Rattle.rip_session.specs.Application.{doing_of}
-use Rattle.rip_lawful.specs.AtStage.{IsAtStage}
-use Rattle.rip_work.specs.declared.items.PageItems.{PageItems}
-use Rattle.rip_work.specs.Plans.{left_of_work, work_plan}
-use Rattle.rip_work.specs.Serving.{may_serve}
+use Rattle.rip_law_replica.specs.AtStage.{IsAtStage}
+use Rattle.rip_session.specs.declared.work.items.PageItems.{PageItems}
+use Rattle.rip_session.specs.Plans.{left_of_work, work_plan}
+use Rattle.rip_session.specs.Serving.{may_serve}
 use Rattle.rip_session.proofs.SessionLemmas.{done_by, of_nodes, resume_stands, roomed_at, served-stays}
 use Rattle.rip_session.proofs.Staying.{steps_stay}
 use Rattle.rip_session.proofs.application.resume_session.Goals as goal

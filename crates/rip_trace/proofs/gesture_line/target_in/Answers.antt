@@ -1,5 +1,5 @@
 use Rattle.std.proofs.Common.{◌≡◌, ℕ, List, Option, sym, subst}
-use Rattle.rip_values.specs.declared.report.EventKind.{EventKind}
+use Rattle.rip_base.specs.declared.report.EventKind.{EventKind}
 use Rattle.rip_trace.specs.Gestures.{IsTarget}
 use Rattle.rip_trace.proofs.GestureLemmas.{NoTarget, bare_only, bare_kind, passed_on}
 use Rattle.rip_trace.proofs.LineLemmas.{none_is}

@@ -1,6 +1,6 @@
 use Rattle.std.proofs.Common.{◌≡◌, ℕ, List, [], Err, ap, subst, ◌∙◌}
 use Rattle.std.proofs.lemmas.Result.{err_from_is_err_and}
-use Rattle.rip_runs.specs.declared.close.Close.TheVariants.{Fine}
+use Rattle.rip_eval_rows.specs.declared.close.Close.TheVariants.{Fine}
 use Rattle.rip_client.specs.Sizes.{Comes, place_of}
 use Rattle.rip_client.specs.Truth.{TellsCalls, TellsEvent, TellsList, TellsReplies, Then}
 use Rattle.rip_client.proofs.Telling.{at_err, list_comes, then_comes, then_stops}

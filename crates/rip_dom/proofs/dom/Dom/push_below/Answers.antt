@@ -1,5 +1,5 @@
 use Rattle.std.proofs.Common.{◌≡◌, ◌≤◌, ◌-◌, ◌+◌, ◌∙◌, length, sym, ap, subst}
-use Rattle.rip_values.specs.declared.value.Span.{Span}
+use Rattle.rip_base.specs.declared.value.Span.{Span}
 use Rattle.rip_values.specs.Pool.{text_at}
 use Rattle.rip_dom.specs.Reading.{text_below}
 use Rattle.rip_dom.specs.Way.{span_at}

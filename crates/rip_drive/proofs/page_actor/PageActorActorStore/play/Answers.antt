@@ -1,7 +1,7 @@
 use Rattle.std.proofs.Common.{◌∙◌, [], ◌∷◌, ◌++◌, ap}
 use Rattle.rip_session.specs.Kept.{fits-goes, goes-fits}
 use Rattle.rip_wire.specs.Items.{reported_of}
-use Rattle.rip_work.specs.Tasks.{Task}
+use Rattle.rip_session.specs.Tasks.{Task}
 use Rattle.rip_drive.specs.Actors.{page_session}
 use Rattle.rip_drive.proofs.Played.{goes_same, played_so}
 use Rattle.rip_drive.proofs.page_actor.PageActorActorStore.play.Goals as goal

@@ -1,7 +1,7 @@
 use Rattle.std.proofs.Common.{◌≡◌, ◌∙◌, ◌+◌, ◌-◌, ◌<◌, Some, ap, arith, length, refl, slice_get, slice_range, subst, sym}
 use Rattle.std.proofs.lemmas.Option.{slice_get-get_or}
 use Rattle.std.specs.Option.{IsSome}
-use Rattle.rip_values.specs.declared.value.Value.TheVariants.{Undefined}
+use Rattle.rip_base.specs.declared.value.Value.TheVariants.{Undefined}
 use Rattle.rip_heap.specs.Arrays.{elements_of}
 use Rattle.rip_heap.specs.NamedObjects.{with_more, with_paid_edit}
 use Rattle.rip_heap.proofs.PieceLemmas.{piece_more, piece_none}

@@ -1,6 +1,6 @@
 use Rattle.std.proofs.Common.{◌≡◌, ◌+◌, ◌<◌, ap, arith, ◌∙◌, ◌++◌, ◌∷◌, [], subst, sym}
-use Rattle.rip_pages.specs.declared.for_rows.Row.TheVariants.{Objects}
-use Rattle.rip_pages.specs.Pages.{with_row}
+use Rattle.rip_heap_region.specs.declared.pages.for_rows.Row.TheVariants.{Objects}
+use Rattle.rip_heap_region.specs.Pages.{with_row}
 use Rattle.rip_heap.specs.Region.{IndexesStay, Kept, listed, with_bare}
 use Rattle.rip_heap.proofs.RegionLemmas.{indexes_added, listed_added, rows_added}
 use Rattle.rip_heap.proofs.region.Region.add.Goals as goal

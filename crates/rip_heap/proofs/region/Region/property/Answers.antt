@@ -1,8 +1,8 @@
 use Rattle.std.proofs.Common.{◌≡◌, None, ap, arith, ◌∙◌, slice_get, subst, sym, Some}
 use Rattle.std.specs.Prelude.{option_map}
-use Rattle.rip_chains.specs.Chains.{property_in}
-use Rattle.rip_chains.proofs.ChainLemmas.{place_within}
-use Rattle.rip_pages.specs.Pages.{slot_at}
+use Rattle.rip_heap_region.specs.Chains.{property_in}
+use Rattle.rip_heap_region.proofs.ChainLemmas.{place_within}
+use Rattle.rip_heap_region.specs.Pages.{slot_at}
 use Rattle.rip_heap.specs.HeadSlots.{chain_in}
 use Rattle.rip_heap.specs.Region.{Kept, properties_here}
 use Rattle.rip_heap.proofs.RegionLemmas.{chain_here, property_read}

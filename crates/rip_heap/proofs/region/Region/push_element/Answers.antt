@@ -1,7 +1,7 @@
 use Rattle.std.proofs.Common.{◌≡◌, ◌<◌, ◌+◌, ◌++◌, ◌∷◌, [], length, ap, arith, ◌∙◌, slice_index_or, subst, sym}
 use Rattle.std.specs.Prelude.{slice_set}
-use Rattle.rip_segments.specs.Segments.{AreLaid, lists_from}
-use Rattle.rip_pages.specs.Pages.{Paged, slot_at}
+use Rattle.rip_heap_region.specs.Segments.{AreLaid, lists_from}
+use Rattle.rip_heap_region.specs.Pages.{Paged, slot_at}
 use Rattle.rip_heap.specs.declared.class.Class.TheVariants.{Array as ArrayClass}
 use Rattle.rip_heap.specs.HeadSlots.{array_in, head_in}
 use Rattle.rip_heap.specs.Rooms.{spending}

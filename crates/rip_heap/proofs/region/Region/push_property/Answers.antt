@@ -2,11 +2,11 @@ use Rattle.std.proofs.Common.{◌≡◌, ◌≢◌, ◌+◌, ◌<◌, ℕ, [], �
 use Rattle.std.specs.Prelude.{map, slice_set}
 use Rattle.std.proofs.lemmas.List.{length-map}
 use Rattle.std.proofs.lemmas.Option.{slice_get-get_or}
-use Rattle.rip_pages.specs.declared.slot.Slot.{Slot}
-use Rattle.rip_pages.specs.declared.property.Property.{Property}
-use Rattle.rip_pages.specs.Pages.{Paged, slot_at}
-use Rattle.rip_chains.specs.Chains.{AreHung, chain_at, places_of, properties_of}
-use Rattle.rip_buckets.specs.NameIndex.{IsIndexAt}
+use Rattle.rip_heap_region.specs.declared.pages.slot.Slot.{Slot}
+use Rattle.rip_heap_region.specs.declared.pages.property.Property.{Property}
+use Rattle.rip_heap_region.specs.Pages.{Paged, slot_at}
+use Rattle.rip_heap_region.specs.Chains.{AreHung, chain_at, places_of, properties_of}
+use Rattle.rip_heap_region.specs.NameIndex.{IsIndexAt}
 use Rattle.rip_heap.specs.HeadSlots.{chain_in, index_in, with_chain}
 use Rattle.rip_heap.specs.Region.{AreIndexes, Kept, chains_in, listed, properties_here, with_properties}
 use Rattle.rip_heap.specs.Rooms.{spending}

@@ -1,6 +1,6 @@
 use Rattle.std.proofs.Common.{◌≡◌, ◌+◌, ◌≤◌, ◌++◌, ◌∷◌, [], None, ap, arith, subst, sym}
 use Rattle.std.specs.Prelude.{replicate}
-use Rattle.rip_pages.specs.Pages.{Paged}
+use Rattle.rip_heap_region.specs.Pages.{Paged}
 use Rattle.rip_heap.specs.Rooms.{spending}
 use Rattle.rip_heap.specs.Region.{IndexesStay, Kept, listed}
 use Rattle.rip_heap.proofs.RegionElementLemmas.{indexes_scoped, listed_scoped, rows_scoped}

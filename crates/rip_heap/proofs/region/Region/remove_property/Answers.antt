@@ -2,13 +2,13 @@ use Rattle.std.proofs.Common.{◌≡◌, ◌<◌, ◌^◌, ℕ, [], true, None, 
 use Rattle.std.specs.Prelude.{is_some, map, remove, slice_index, slice_set}
 use Rattle.std.proofs.lemmas.List.{length-map}
 use Rattle.std.proofs.lemmas.Option.{slice_get-get_or}
-use Rattle.rip_pages.specs.Pages.{Paged, slot_at}
+use Rattle.rip_heap_region.specs.Pages.{Paged, slot_at}
 use Rattle.rip_values.specs.Pool.{Texts}
-use Rattle.rip_chains.specs.declared.chain.Chain.{Chain}
-use Rattle.rip_chains.specs.Chains.{AreHung, IfOneOf, IsChain, chain_at, places_of, properties_of}
-use Rattle.rip_chains.proofs.ChainLemmas.{hung_by_links}
-use Rattle.rip_buckets.specs.NameIndex.{IsIndexAt, IsIndexOf}
-use Rattle.rip_buckets.specs.Blocks.{buckets_at}
+use Rattle.rip_heap_region.specs.declared.chains.chain.Chain.{Chain}
+use Rattle.rip_heap_region.specs.Chains.{AreHung, IfOneOf, IsChain, chain_at, places_of, properties_of}
+use Rattle.rip_heap_region.proofs.ChainLemmas.{hung_by_links}
+use Rattle.rip_heap_region.specs.NameIndex.{IsIndexAt, IsIndexOf}
+use Rattle.rip_heap_region.specs.Blocks.{buckets_at}
 use Rattle.rip_heap.specs.HeadSlots.{chain_in, index_in}
 use Rattle.rip_heap.specs.Names.{place_of}
 use Rattle.rip_heap.specs.Region.{AreIndexes, Kept, chains_in, listed, properties_here, with_properties, without}

@@ -2,8 +2,8 @@ use Rattle.std.proofs.Common.{◌≡◌, ◌<◌, ℕ, [], ap, arith, false, len
 use Rattle.std.specs.Prelude.{is_some, map, slice_set}
 use Rattle.std.proofs.lemmas.List.{length-map}
 use Rattle.std.proofs.lemmas.Option.{slice_get-get_or}
-use Rattle.rip_chains.specs.Chains.{AreHung, chain_at, places_of, properties_of}
-use Rattle.rip_chains.specs.Chains.{with_value as chain_with_value}
+use Rattle.rip_heap_region.specs.Chains.{AreHung, chain_at, places_of, properties_of}
+use Rattle.rip_heap_region.specs.Chains.{with_value as chain_with_value}
 use Rattle.rip_heap.specs.HeadSlots.{chain_in}
 use Rattle.rip_heap.specs.Names.{place_of}
 use Rattle.rip_heap.specs.Region.{IndexesStay, Kept, chains_in, listed, properties_here, valued, with_properties}

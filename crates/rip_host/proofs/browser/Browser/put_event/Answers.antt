@@ -1,5 +1,5 @@
 use Rattle.std.proofs.Common.{sym, subst, Some}
-use Rattle.rip_values.specs.declared.value.Value.TheVariants.{Undefined}
+use Rattle.rip_base.specs.declared.value.Value.TheVariants.{Undefined}
 use Rattle.rip_heap.specs.declared.host.HostDone.TheVariants.{Value}
 use Rattle.rip_host.specs.Events.{Occurred}
 use Rattle.rip_host.specs.Flow.{with_events}

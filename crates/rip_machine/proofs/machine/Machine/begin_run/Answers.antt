@@ -1,6 +1,6 @@
 use Rattle.rip_machine.specs.Law.{loaded}
 use Rattle.rip_machine.specs.Starting.{arguments_in, begun, started_of}
-use Rattle.rip_language.specs.Table.{table}
+use Rattle.rip_eval_language.specs.Table.{table}
 use Rattle.rip_machine.proofs.PlanLaws.{begins, same_run}
 use Rattle.rip_machine.proofs.Roomed.{started_room}
 use Rattle.rip_machine.proofs.machine.Machine.begin_run.Goals as goal

@@ -1,9 +1,9 @@
 use Rattle.std.proofs.Common.{List, subst}
-use Rattle.rip_values.specs.declared.value.Span.{Span}
+use Rattle.rip_base.specs.declared.value.Span.{Span}
 use Rattle.rip_machine.specs.Law.{Standing, Starts, loaded, standing}
-use Rattle.rip_language.specs.Reading.{Loaded}
+use Rattle.rip_eval_language.specs.Reading.{Loaded}
 use Rattle.rip_machine.specs.Starting.{begun}
-use Rattle.rip_language.specs.Table.{table}
+use Rattle.rip_eval_language.specs.Table.{table}
 use Rattle.rip_machine.proofs.Beginnings.{starts_machine}
 use Rattle.rip_machine.proofs.machine.Machine.start.Goals as goal
 

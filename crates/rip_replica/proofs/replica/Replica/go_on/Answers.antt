@@ -2,10 +2,10 @@ use Rattle.std.proofs.Common.{rules, ◌≡◌, ℕ, ◌+◌, List, ◌++◌, So
 use Rattle.rip_heap.specs.Growth.{Grows}
 use Rattle.rip_heap.specs.World.{World}
 use Rattle.rip_wire.specs.declared.ending.Ending.TheVariants.{Memory}
-use Rattle.rip_runs.specs.declared.close.Close.TheVariants.{Mismatch}
-use Rattle.rip_course.specs.Parts.{Fact, Given, ends_at_mismatch, serves, serves_call}
-use Rattle.rip_course.specs.Services.{Called, called_in}
-use Rattle.rip_course.specs.declared.sessions.Progress.TheVariants.{Finished}
+use Rattle.rip_eval_rows.specs.declared.close.Close.TheVariants.{Mismatch}
+use Rattle.rip_history.specs.Parts.{Fact, Given, ends_at_mismatch, serves, serves_call}
+use Rattle.rip_history.specs.Services.{Called, called_in}
+use Rattle.rip_history.specs.declared.sessions.Progress.TheVariants.{Finished}
 use Rattle.rip_replica.specs.Rooms.{IsCallAt}
 use Rattle.rip_replica.specs.Serving.{IsServed, given_to}
 use Rattle.rip_replica.specs.Standing.{Spot, Waits, spot}

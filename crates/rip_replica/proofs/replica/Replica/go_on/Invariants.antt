@@ -1,7 +1,7 @@
 use Rattle.std.proofs.Common.{◌≡◌, ℕ, ◌+◌, List, length, IsTrue}
 use Rattle.rip_heap.specs.Growth.{Grows}
-use Rattle.rip_runner.specs.Rooms.{HasRooms}
-use Rattle.rip_course.specs.Services.{Called, Service}
+use Rattle.rip_replica.specs.SchedulerRooms.{HasRooms}
+use Rattle.rip_history.specs.Services.{Called, Service}
 use Rattle.rip_replica.specs.Numbers.{KeepsServed, KeepsSteps}
 use Rattle.rip_replica.specs.Parts.{Doing}
 use Rattle.rip_replica.specs.Rooms.{IsRoomed}

@@ -1,5 +1,5 @@
 use Rattle.std.proofs.Common.{ap, subst, sym}
-use Rattle.rip_runner.specs.Going.{going}
+use Rattle.rip_replica.specs.Going.{going}
 use Rattle.rip_replica.specs.declared.replica.Place.{Place}
 use Rattle.rip_replica.specs.declared.replica.Place.TheVariants.{Idle}
 use Rattle.rip_replica.specs.declared.replica.Turn.{Turn}

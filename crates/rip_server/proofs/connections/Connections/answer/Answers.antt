@@ -1,7 +1,7 @@
 use Rattle.std.proofs.Common.{◌≡◌, ◌∙◌, ℕ, Bool, List, Some, None, ap, refl, subst, sym}
 use Rattle.std.specs.Prelude.{slice_get}
 use Rattle.rip_http.specs.declared.answer.HttpAnswer.{HttpAnswer}
-use Rattle.rip_course.specs.Connections.{Connection as Link, owing}
+use Rattle.rip_history.specs.Connections.{Connection as Link, owing}
 use Rattle.rip_server.specs.Links.{there_of}
 use Rattle.rip_server.specs.declared.connection.Connection.{Connection}
 use Rattle.rip_server.proofs.LinkLemmas.{same_at, there-changed}

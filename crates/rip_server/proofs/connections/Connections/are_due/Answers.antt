@@ -1,5 +1,5 @@
 use Rattle.std.proofs.Common.{List, ◌+◌, take, subst, sym}
-use Rattle.rip_course.specs.Run.{AreQuiet}
+use Rattle.rip_history.specs.Run.{AreQuiet}
 use Rattle.rip_server.specs.Links.{there_of}
 use Rattle.rip_server.specs.declared.connection.Connection.{Connection}
 use Rattle.rip_server.proofs.PlaceLemmas.{quiet_at, quiet_more}

@@ -1,5 +1,5 @@
 use Rattle.std.proofs.Common.{take}
-use Rattle.rip_course.specs.Run.{AreQuiet}
+use Rattle.rip_history.specs.Run.{AreQuiet}
 use Rattle.rip_server.specs.Links.{there_of}
 use Rattle.rip_server.proofs.connections.Connections.are_due.Given as goal
 

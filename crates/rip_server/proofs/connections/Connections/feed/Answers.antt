@@ -1,7 +1,7 @@
 use Rattle.std.proofs.Common.{◌≡◌, ◌∙◌, ◌+◌, ◌++◌, ◌<◌, ⊎_elim, ℕ, Bool, true, false, List, length, Some, ap, refl, subst, sym}
 use Rattle.std.specs.Prelude.{slice_get, option_map, Err}
 use Rattle.std.proofs.lemmas.Bool.{cases_lt, le-ltb, lt-ltb}
-use Rattle.rip_course.specs.Connections.{Connection as Link, Connections as Links, is_there, unread_of, without, changed}
+use Rattle.rip_history.specs.Connections.{Connection as Link, Connections as Links, is_there, unread_of, without, changed}
 use Rattle.rip_server.specs.Links.{owed_of, there_of, links_of}
 use Rattle.rip_server.specs.declared.connection.Connection.{Connection}
 use Rattle.rip_server.proofs.ActLemmas.{stopped_none, did_nothing, did_as}

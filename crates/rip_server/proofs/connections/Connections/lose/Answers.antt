@@ -1,6 +1,6 @@
 use Rattle.std.proofs.Common.{◌≡◌, ◌∙◌, ℕ, List, Bool, false, Some, ap, subst}
 use Rattle.std.specs.Prelude.{slice_get}
-use Rattle.rip_course.specs.Connections.{is_there, without}
+use Rattle.rip_history.specs.Connections.{is_there, without}
 use Rattle.rip_server.specs.Links.{there_of}
 use Rattle.rip_server.specs.declared.connection.Connection.{Connection}
 use Rattle.rip_server.proofs.LinkLemmas.{there-without, without-none}

@@ -1,6 +1,6 @@
 use Rattle.std.proofs.Common.{refl}
 use Rattle.rip_wire.specs.Batches.{contents_of}
-use Rattle.rip_course.specs.Stages.{with_batch}
+use Rattle.rip_history.specs.Stages.{with_batch}
 use Rattle.rip_session.specs.Application.{doing_of}
 use Rattle.rip_session.proofs.SessionLemmas.{admit_stands, done_by}
 use Rattle.rip_session.proofs.application.ApplicationSessions.admit.Goals as goal

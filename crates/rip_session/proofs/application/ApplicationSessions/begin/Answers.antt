@@ -1,7 +1,7 @@
 use Rattle.std.proofs.Common.{◌≡◌, sym, ap, ◌∙◌}
-use Rattle.rip_course.specs.Stages.{begun}
-use Rattle.rip_work.specs.Serving.{moment_of}
-use Rattle.rip_work.specs.Tasks.{opens}
+use Rattle.rip_history.specs.Stages.{begun}
+use Rattle.rip_session.specs.Serving.{moment_of}
+use Rattle.rip_session.specs.Tasks.{opens}
 use Rattle.rip_session.specs.declared.opening.Opened.{Opened}
 use Rattle.rip_session.specs.Application.{doing_of, runs_of}
 use Rattle.rip_session.specs.Opening.{opened_of}

@@ -1,5 +1,0 @@
-mod Applications
-mod Asking
-mod Due
-mod Going
-mod Rising

@@ -1,9 +1,0 @@
-use Rattle.rip_alike.proofs.Applications.{applications_ask}
-use Rattle.rip_alike.proofs.Due.{shorter_is_short}
-use Rattle.rip_alike.proofs.shorter_runs_are_short.Goals as goal
-
-pub returns-clause-due : goal.returns-clause-due
-returns-clause-due c = shorter_is_short
-
-pub returns-clause-applications : goal.returns-clause-applications
-returns-clause-applications c = applications_ask

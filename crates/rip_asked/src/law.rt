@@ -1,6 +1,0 @@
-ghost use Rattle.rip_asked.specs.Meant.{RequestsAreMeant};
-
-/// The requests in the bytes that a line stands for are the one that it means, and nothing is left behind it.
-pub fn requests_are_meant()
-    ensures { RequestsAreMeant }
-{}

@@ -1,0 +1,4 @@
+pub mod DecimalLemmas
+pub mod NumberLaws
+pub mod NumberLemmas
+pub mod TextLemmas

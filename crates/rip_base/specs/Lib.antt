@@ -1,0 +1,10 @@
+pub mod Blank
+pub mod Limits
+pub mod NumberScan
+pub mod Numbers
+pub mod Page
+pub mod Printed
+pub mod Text
+pub mod Units
+pub mod Values
+pub mod Whole

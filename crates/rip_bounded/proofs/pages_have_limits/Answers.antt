@@ -1,5 +1,0 @@
-use Rattle.rip_bounded.proofs.Ended.{pages_have_limits}
-use Rattle.rip_bounded.proofs.pages_have_limits.Goals as goal
-
-pub returns : goal.returns
-returns c = pages_have_limits

@@ -1,4 +1,0 @@
-pub mod BlockLemmas
-pub mod NameIndexLemmas
-pub mod PlaceLemmas
-pub mod KeptLemmas

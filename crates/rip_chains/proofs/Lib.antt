@@ -1,4 +1,0 @@
-pub mod ChainLemmas
-pub mod ChangeLemmas
-pub mod NameLemmas
-pub mod WalkLemmas

@@ -1,5 +1,0 @@
-mod Histories
-mod Keeping
-mod Openings
-mod Replies
-mod Runs

@@ -1,8 +1,0 @@
-use Rattle.rip_complete.proofs.Replies.{are_due, are_served}
-use Rattle.rip_complete.proofs.laws.replies_are_due.Goals as goal
-
-pub returns-clause-due : goal.returns-clause-due
-returns-clause-due c = are_due
-
-pub returns-clause-served : goal.returns-clause-served
-returns-clause-served c = are_served

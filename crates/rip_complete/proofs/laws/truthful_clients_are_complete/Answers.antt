@@ -1,5 +1,0 @@
-use Rattle.rip_complete.proofs.Runs.{are_complete}
-use Rattle.rip_complete.proofs.laws.truthful_clients_are_complete.Goals as goal
-
-pub returns : goal.returns
-returns c = are_complete

@@ -1,8 +1,0 @@
-use Rattle.rip_course.proofs.StandingLemmas.{standings_follow, standings_are_own}
-use Rattle.rip_course.proofs.laws.standings_follow.Goals as goal
-
-pub returns-clause-follow : goal.returns-clause-follow
-returns-clause-follow c = standings_follow
-
-pub returns-clause-own : goal.returns-clause-own
-returns-clause-own c = standings_are_own

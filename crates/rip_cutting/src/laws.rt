@@ -1,6 +1,0 @@
-ghost use Rattle.rip_cutting.specs.Cutting.{CutIsOne};
-
-/// A list is cut in one way.
-pub fn cut_is_one()
-    ensures { CutIsOne }
-{}

@@ -1,7 +1,0 @@
-ghost use Rattle.rip_due.specs.Due.{RepliesAreDue};
-
-/// A law, and no work: where a page keeps the replies to its served calls in order until they are delivered, each reply that
-/// a client tells of a user's gestures is due where it is told.
-pub fn replies_are_due<A, S>()
-    ensures { RepliesAreDue A S }
-{}

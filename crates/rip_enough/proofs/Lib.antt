@@ -1,3 +1,0 @@
-mod Costs
-mod Knocks
-pub mod InTime

@@ -1,5 +1,0 @@
-use Rattle.rip_enough.proofs.InTime.{applications_end_in_time}
-use Rattle.rip_enough.proofs.laws.applications_are_served_in_time.Goals as goal
-
-pub returns : goal.returns
-returns c = applications_end_in_time

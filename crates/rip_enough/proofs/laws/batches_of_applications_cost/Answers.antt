@@ -1,5 +1,0 @@
-use Rattle.rip_enough.proofs.Costs.{applications_cost}
-use Rattle.rip_enough.proofs.laws.batches_of_applications_cost.Goals as goal
-
-pub returns : goal.returns
-returns c = applications_cost

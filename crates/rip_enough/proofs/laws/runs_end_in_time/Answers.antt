@@ -1,5 +1,0 @@
-use Rattle.rip_enough.proofs.InTime.{runs_end_in_time}
-use Rattle.rip_enough.proofs.laws.runs_end_in_time.Goals as goal
-
-pub returns : goal.returns
-returns c = runs_end_in_time

@@ -1,0 +1,3 @@
+pub mod Abruptly
+pub mod Children
+pub mod Scopes

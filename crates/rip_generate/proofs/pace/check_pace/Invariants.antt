@@ -1,5 +1,0 @@
-use Rattle.rip_generate.proofs.PaceLemmas.{PacedTo}
-use Rattle.rip_generate.proofs.pace.check_pace.Given as goal
-
-abbrev pub invariant-loop-entry : goal.invariant-loop-entry
-invariant-loop-entry l = PacedTo l.entries l.entry-index l.answered

@@ -1,6 +1,0 @@
-use Rattle.rip_generate.specs.Form.{IsForm}
-use Rattle.rip_generate.proofs.page.load_form.Goals as goal
-
-pub returns-in-Ok : goal.returns-in-Ok
-unfolding IsForm
-returns-in-Ok c = c.in-Ok.ensures.loaded

@@ -1,9 +1,0 @@
-use Rattle.std.proofs.Common.{arith}
-use Rattle.rip_generate.specs.Working.{sessions_by}
-use Rattle.rip_generate.proofs.WorkLemmas.{opens_plays}
-use Rattle.rip_generate.proofs.work.Work.open_all.Goals as goal
-
-pub returns : goal.returns
-returns g c =
-    opens_plays (sessions_by g.A.Actor.session g.O.Opens.opens g.O.Opens.gives) c.args.plan.now c.loop-place.place c.loop-place.self c.loop-place.invariant
-    (omega (arith, c.loop-place-test.false, c.loop-place.auto.place-end, c.sessions-place-end.ensures))

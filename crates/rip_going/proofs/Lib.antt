@@ -1,6 +1,0 @@
-mod Deciding
-mod GoLemmas
-mod Handling
-mod OnLemmas
-pub mod ServeLemmas
-mod TurnLemmas

@@ -1,0 +1,16 @@
+pub mod Alike
+pub mod Bounded
+pub mod Broken
+pub mod Complete
+pub mod CompleteHistories
+pub mod Driven
+pub mod DueReplies
+pub mod Enough
+pub mod Lacks
+pub mod LeftToDo
+pub mod Matched
+pub mod PrefixHistories
+pub mod Prefixed
+pub mod Replays
+pub mod Sessions
+pub mod Within

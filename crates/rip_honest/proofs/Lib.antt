@@ -1,2 +1,0 @@
-pub mod AppItems
-pub mod NextCalls

@@ -1,5 +1,0 @@
-use Rattle.rip_items.proofs.ServedLaws.{one}
-use Rattle.rip_items.proofs.laws.served_is_one.Goals as goal
-
-pub returns : goal.returns
-returns g c = λ made reported n m a b. one made reported n m a b

@@ -1,4 +1,0 @@
-pub mod Batch
-pub mod Items
-pub mod Rules
-pub mod Served

@@ -1,4 +1,0 @@
-pub mod KeepsAnswers
-pub mod KeepsCalls
-pub mod KeepsRuns
-pub mod TreeLimits

@@ -1,5 +1,0 @@
-use Rattle.rip_kept.proofs.KeepsCalls.{calls_stay_in_range}
-use Rattle.rip_kept.proofs.laws.calls_stay_in_range.Goals as goal
-
-pub returns : goal.returns
-returns c = calls_stay_in_range

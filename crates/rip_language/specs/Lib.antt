@@ -1,4 +1,0 @@
-pub mod Reading
-pub mod Rows
-pub mod Table
-pub mod Worked

@@ -1,0 +1,5 @@
+pub mod CountingLemmas
+pub mod KeepsAnswers
+pub mod KeepsCalls
+pub mod KeepsRuns
+pub mod TreeLimits

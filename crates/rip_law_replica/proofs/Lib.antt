@@ -1,0 +1,17 @@
+pub mod Admitted
+pub mod Begun
+pub mod Behind
+pub mod Cut
+pub mod Done
+pub mod Honest
+pub mod InTurn
+pub mod Lawful
+pub mod Nested
+pub mod OneCut
+pub mod OneEnd
+pub mod PrefixLemmas
+pub mod Resting
+pub mod Rooms
+pub mod Seats
+pub mod Staging
+pub mod Told

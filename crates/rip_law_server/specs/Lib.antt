@@ -1,0 +1,10 @@
+pub mod Answered
+pub mod Asked
+pub mod Begun
+pub mod Ending
+pub mod Going
+pub mod Meant
+pub mod Opened
+pub mod Paced
+pub mod Rising
+pub mod Turned

@@ -1,0 +1,13 @@
+pub mod Bound
+pub mod Fronts
+pub mod Meaning
+pub mod Mending
+pub mod Naming
+pub mod Offending
+pub mod Placing
+pub mod Reaching
+pub mod RefusalPassing
+pub mod Refusing
+pub mod Rooted
+pub mod ScopingPassing
+pub mod Shapes

@@ -1,0 +1,4 @@
+pub mod Bound
+pub mod Fronts
+pub mod Offending
+pub mod Places

@@ -1,5 +1,0 @@
-use Rattle.rip_lawful.proofs.Admitted.{admitted_next}
-use Rattle.rip_lawful.proofs.laws.admitted_are_next.Goals as goal
-
-pub returns : goal.returns
-returns g c = λ e doing may at to st b sound stands ok is. admitted_next e doing may at to st b sound stands ok is

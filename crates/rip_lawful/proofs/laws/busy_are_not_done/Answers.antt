@@ -1,5 +1,0 @@
-use Rattle.rip_lawful.proofs.Done.{busy_not_done, not_done_busy}
-use Rattle.rip_lawful.proofs.laws.busy_are_not_done.Goals as goal
-
-pub returns : goal.returns
-returns g c = λ e doing may at st. (not_done_busy e doing may at st, busy_not_done e doing may at st)

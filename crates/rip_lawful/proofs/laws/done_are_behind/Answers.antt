@@ -1,7 +1,0 @@
-use Rattle.rip_lawful.proofs.Done.{done_idle}
-use Rattle.rip_lawful.proofs.laws.done_are_behind.Goals as goal
-
-pub returns : goal.returns
-returns g c = λ e doing may at st stands done lives.
-    let idle = done_idle e doing may at st stands done lives in
-    (idle.place, record { cost = idle.cost; behind = idle.behind })

@@ -1,5 +1,0 @@
-use Rattle.rip_matched.proofs.MatchedLemmas.{applications_serve}
-use Rattle.rip_matched.proofs.laws.applications_serve_prefixes.Goals as goal
-
-pub returns : goal.returns
-returns c = λ app seed time bs gs. applications_serve app seed time bs gs

@@ -1,5 +1,0 @@
-use Rattle.rip_matched.proofs.LackLemmas.{lacks_at_calls}
-use Rattle.rip_matched.proofs.laws.lacks_are_at_calls.Goals as goal
-
-pub returns : goal.returns
-returns c = λ app seed time bs gs l lack. lacks_at_calls app seed time bs gs l lack

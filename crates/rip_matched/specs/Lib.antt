@@ -1,4 +1,0 @@
-pub mod Broken
-pub mod Histories
-pub mod Lacks
-pub mod Matched

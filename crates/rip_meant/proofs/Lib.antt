@@ -1,3 +1,0 @@
-mod CloseLemmas
-mod MadeLemmas
-pub mod PartLemmas

@@ -1,4 +1,0 @@
-pub mod BuiltinLemmas
-pub mod ObjectLemmas
-pub mod PlainLemmas
-pub mod ArrayLemmas

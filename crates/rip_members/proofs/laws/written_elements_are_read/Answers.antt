@@ -1,5 +1,0 @@
-use Rattle.rip_members.proofs.ArrayLemmas.{written_read}
-use Rattle.rip_members.proofs.laws.written_elements_are_read.Goals as goal
-
-pub returns : goal.returns
-returns c = written_read

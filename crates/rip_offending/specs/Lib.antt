@@ -1,3 +1,0 @@
-pub mod Fronts
-pub mod Offending
-pub mod Places

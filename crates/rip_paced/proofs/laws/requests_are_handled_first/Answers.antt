@@ -1,5 +1,0 @@
-use Rattle.rip_paced.proofs.Turned.{turns_are_least}
-use Rattle.rip_paced.proofs.laws.requests_are_handled_first.Goals as goal
-
-pub returns : goal.returns
-returns c = turns_are_least

@@ -1,5 +1,0 @@
-use Rattle.rip_prefix.proofs.PrefixLemmas.{served_are_first}
-use Rattle.rip_prefix.proofs.laws.served_are_first.Goals as goal
-
-pub returns : goal.returns
-returns g c = λ rules d call tells reports counts bs gs. served_are_first rules d call tells reports counts bs gs

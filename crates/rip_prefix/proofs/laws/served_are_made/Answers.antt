@@ -1,5 +1,0 @@
-use Rattle.rip_prefix.proofs.PrefixLemmas.{served_are_made}
-use Rattle.rip_prefix.proofs.laws.served_are_made.Goals as goal
-
-pub returns : goal.returns
-returns g c = λ rules d call tells reports bs gs. served_are_made rules d call tells reports bs gs

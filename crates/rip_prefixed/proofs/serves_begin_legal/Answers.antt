@@ -1,5 +1,0 @@
-use Rattle.rip_prefixed.proofs.Begins.{serves_begin_legal}
-use Rattle.rip_prefixed.proofs.serves_begin_legal.Goals as goal
-
-pub returns : goal.returns
-returns c = serves_begin_legal

@@ -1,5 +1,0 @@
-mod DecidedLemmas
-mod IdentifierLemmas
-mod MadeLemmas
-pub mod RunLemmas
-pub mod ServiceLemmas

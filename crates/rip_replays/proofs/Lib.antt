@@ -1,2 +1,0 @@
-mod Replays
-mod Serves

@@ -1,5 +1,0 @@
-use Rattle.rip_replays.proofs.Serves.{serves_end_in_time}
-use Rattle.rip_replays.proofs.serves_end_in_time.Goals as goal
-
-pub returns : goal.returns
-returns c = serves_end_in_time

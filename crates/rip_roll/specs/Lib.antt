@@ -1,4 +1,0 @@
-pub mod Ordinals
-pub mod Rolls
-pub mod Seats
-pub mod Walks

@@ -1,6 +1,0 @@
-use Rattle.rip_runner.proofs.PlayLaws as laws
-use Rattle.rip_runner.proofs.laws.plans_fold.Goals as goal
-
-pub returns : goal.returns
-returns g c = λ full plan next gs fuel u.
-    laws.plans_fold ((g.E.Evaluator.evaluation c.args.program.now).run c.args.evaluator.now) full plan next gs fuel u

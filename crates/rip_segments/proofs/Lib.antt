@@ -1,5 +1,0 @@
-mod ValueLemmas
-mod SegmentLemmas
-mod ArrayLemmas
-mod CallLemmas
-pub mod ListLemmas

@@ -1,5 +1,0 @@
-use Rattle.rip_served.proofs.CountLemmas.{sessions_first}
-use Rattle.rip_served.proofs.laws.sessions_serve_first.Goals as goal
-
-pub returns : goal.returns
-returns c = λ d over bs gs. sessions_first d over bs gs

@@ -1,5 +1,0 @@
-use Rattle.rip_served.proofs.ServedLemmas.{sessions_serve}
-use Rattle.rip_served.proofs.laws.sessions_serve_prefixes.Goals as goal
-
-pub returns : goal.returns
-returns c = λ d plan fact bs gs. sessions_serve d plan fact bs gs
