@@ -120,6 +120,6 @@ fn work_of(alloc: Global, item: Item) -> Result<Work, NoMemory>
     let mut works = works_of(alloc, &batch)?;
     match works.pop() {
         Some(work) => Ok(work),
-        None => Err(NoMemory),
+        None => unreachable!(),
     }
 }

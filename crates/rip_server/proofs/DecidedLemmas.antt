@@ -17,14 +17,6 @@ use Rattle.rip_server.specs.Deciding.{Tells, Comes, ComesOr}
 use Rattle.rip_server.specs.declared.turn.decide.Decided.{Decided}
 use Rattle.rip_server.proofs.DecideLemmas.{comes_refused}
 
-value_or : {A : Type 0} → A → Option A → A
-value_or d None = d
-value_or d (Some a) = a
-
-pub same_some : {A : Type 0} (a b : A) → Some a ≡ Some b → a ≡ b
-unfolding value_or
-same_some a b e = ap (value_or a) e
-
 pub told_of : (turn time : ℕ) (close : Bool) (h : List Recorded) (stages : List Stage) (After : List Recorded → List Stage → Type 0) (d : Decision)
     (r : Result Decided NoMemory) → IfOk r (Tells turn time close d) → After (h ++ decided_entries turn time d) (decided_stages time d stages)
     → IfOk r (Comes turn time close h stages After d)

@@ -281,14 +281,15 @@ fn admission(at: Moment, session: u32, batch: Batch) -> Entry
     }
 }
 
-/// The batch of the entry, if it is that of an admission.
-fn batch_in(entry: Entry) -> Option<Batch>
+/// The batch of an admission.
+fn batch_in(entry: Entry) -> Batch
+    requires { (turn session : ℕ) × (batch : Batch) × (entry ≡ Entry.Admitted turn session batch) }
     ensures { (turn session : ℕ) (batch : Batch) → entry ≡ Entry.Admitted turn session batch
-        → result ≡ Some batch }
+        → result ≡ batch }
 {
     match entry {
-        Entry::Admitted { batch, .. } => Some(batch),
-        _ => None,
+        Entry::Admitted { batch, .. } => batch,
+        _ => unreachable!(),
     }
 }
 
@@ -316,10 +317,7 @@ fn admit<S: Sessions>(
 {
     let entry = admission(at, session, batch);
     let line = write_entry(&entry, alloc)?;
-    let Some(batch) = batch_in(entry) else {
-        return Err(NoMemory);
-    };
-    match roll.admit(alloc, sessions, session, batch) {
+    match roll.admit(alloc, sessions, session, batch_in(entry)) {
         Ok(()) => Ok(Decided {
             line: Some(line),
             reply: Reply::Later(session),

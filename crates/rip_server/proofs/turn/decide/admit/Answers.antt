@@ -11,7 +11,6 @@ use Rattle.rip_table.specs.Rolls.{IsRollOf}
 use Rattle.rip_server.specs.Deciding.{Comes}
 use Rattle.rip_history.specs.Run.{stage_of, with_batch_at}
 use Rattle.rip_server.proofs.DecideLemmas.{comes_memory, comes_or, comes_refused}
-use Rattle.rip_server.proofs.DecidedLemmas.{same_some}
 use Rattle.rip_server.proofs.turn.decide.admit.Goals as goal
 
 pub returns-in_err-line-clause-comes : goal.returns-in_err-line-clause-comes
@@ -27,7 +26,7 @@ returns-in-Ok-clause-comes g c = λ limit h stages st roll stands admit.
     let turn = c.args.at.turn in
     let time = c.args.at.time in
     let A = IsRollOf (s.stands c.args.sessions.now) (s.meaning c.args.sessions.now) limit c.admit.new.self in
-    let same : c.in-Some.batch ≡ c.args.batch = same_some c.in-Some.batch c.args.batch (c.in-Some.ensures turn c.args.session c.args.batch c.admission-entry.ensures) in
+    let same : c.batch_in.result ≡ c.args.batch = c.batch_in.ensures turn c.args.session c.args.batch c.admission-entry.ensures in
     let N : Batch → Type 0 = λ b. batch_decision st b.number ≡ Admit in
     let R : Batch → Type 0 = λ b. A (h ++ admitted turn c.args.session (contents_of b) ∷ []) (with_batch_at c.args.session (contents_of b) (stage_of c.args.session stages) stages) in
     comes_or turn time c.args.close h stages A (admits c.args.session (contents_of c.args.batch)) _ (record {
