@@ -27,7 +27,7 @@ use Rattle.rip_session.specs.Application.{doing_of, meaning_of_app}
 use Rattle.rip_headline.specs.PrefixHistories.{HistoriesServePrefixes, Serves, ServesIn, calls_among, calls_in, wants_at}
 use Rattle.rip_headline.proofs.CallLemmas.{AreCalm, clear_before, lack_serves_none, lacks_first, served_by}
 use Rattle.rip_headline.proofs.HistoryLemmas.{session_goes}
-use Rattle.rip_headline.proofs.MatchedLemmas.{applications_serve}
+use Rattle.rip_headline.proofs.MatchedLemmas.{applications_count, applications_serve}
 
 -- ---- the items of an application
 
@@ -147,7 +147,7 @@ serves_by app last high h n within s =
     (session_goes d last turns (deeds_in n h) s.lacking bs gs item_tells item_plain
     (λ q e. ap (wants_at q.batch q.item) s.deeds ∙ clear_before last turns s.lacking parts q (session_calm app s.seed s.time bs gs) e)
     (λ batch other late le cost. late_behind last 1 turns batch other cost (turns_rise n 1 high h within) late le)
-    first.made first.longest (applications_serve app s.seed s.time bs gs).1
+    first.made first.longest (applications_serve app s.seed s.time bs gs).1 (applications_count app s.seed s.time bs gs)
     (record { lacks = lacks_first s.lacking parts s.may_lack; told = λ test is. ap (list_any test) s.deeds ∙ is }))
 
 pub session_serves : (app : Loaded) (last high : ℕ) (h : List Recorded) (n : ℕ) → AreWithin 1 high h → IsSessionOf (meaning_of_app app) last h n

@@ -9,11 +9,12 @@ use Rattle.rip_browser.specs.Visits.{browser_rules}
 use Rattle.rip_replica.specs.Play.{Closes, Holds, Played}
 use Rattle.rip_history.specs.Parts.{finishes, Given, Lacking, Part, is_before, serves_call, tells_call}
 use Rattle.rip_history.specs.Sessions.{Deed, comes_by}
+use Rattle.rip_replica.specs.Rules.{HasNoRoom}
 use Rattle.rip_replica.specs.Parts.{Doing, after_item, first_given, given_behind, is_fine, items_parts, later_parts, part_of, session_parts, whole_item}
-use Rattle.rip_law_replica.specs.Prefix.{AreLongest, AreMade, AreNumbered, EndsBy, IsMade, MayBeServed, Placed, Reached, after, closes_fine, handled, items_of, left_by, next_number, opened, placed, placed_in, played}
+use Rattle.rip_law_replica.specs.Prefix.{AreCounted, AreLongest, AreMade, AreNumbered, EndsBy, IsMade, MayBeServed, Placed, Reached, after, closes_fine, handled, items_of, left_by, next_number, opened, placed, placed_in, played}
 use Rattle.rip_session.specs.Tasks.{Task}
 use Rattle.rip_law_served.specs.Served.{call_of}
-use Rattle.rip_headline.specs.PrefixHistories.{Serves, through, goes_on, is_served, ends_at, lacks_at, is_later, comes, part_by, spent_before, spent_by, spent_with, wants_at}
+use Rattle.rip_headline.specs.PrefixHistories.{MayBeServedAt, Serves, through, goes_on, is_served, ends_at, lacks_at, is_later, comes, part_by, spent_before, spent_by, spent_with, wants_at}
 use Rattle.rip_headline.proofs.CallLemmas.{Ahead, Lack, Lacks, ahead_behind, early, lacks_here, served_by, served_last, served_late, served_more, served_none, served_not_early, wanted_here}
 
 -- ---- a session, and what it did by the last turn
@@ -28,6 +29,7 @@ record Known (d : Doing Task Browser) (at : Reached Browser) (k : ℕ) (xs : Lis
   made : AreMade browser_rules d call_of at (handled d at xs)
   longest : AreLongest browser_rules d call_of at xs
   numbered : AreNumbered call_of k (handled d at xs)
+  counted : AreCounted browser_rules d call_of at k xs
 
 record KnownFine (d : Doing Task Browser) (at : Reached Browser) (k : ℕ) (p : Placed Task) (xs : List (Placed Task)) : Type 0 where
   made : IfSome (call_of p.item) (IsMade (browser_rules.made at.page))
@@ -48,13 +50,26 @@ known_fine d at k p xs fine known =
         made = made.1;
         longest = subst (λ (b : Bool). EndsBy b browser_rules call_of p.item at.page (AreLongest browser_rules d call_of (after d at p) xs)) fine known.longest;
         numbered = numbered.1;
+        counted = known.counted.1 fine;
       };
     }
 
+-- a call that the page may not serve next may not be served at the position that the page's count tells
+by_position : (s : Browser) (k : ℕ) (o : Option (ℕ × List ℕ)) → k ≡ browser_rules.taken s + 1 → IfSome o (λ c. ¬ (MayBeServed browser_rules s c)) → IfSome o (λ c. ¬ (MayBeServedAt k s c))
+by_position s k None next h = tt
+by_position s k (Some c) next h = λ may.
+    let at : k - 1 ≡ browser_rules.taken s = omega (arith, next) in
+    h (
+      may.0 ∙ next,
+      subst (λ (n : ℕ). slice_get (browser_rules.made s) n ≡ Some c.1) at may.1,
+      subst (λ (n : ℕ). ¬ (HasNoRoom (browser_rules.calls_back s) n (browser_rules.undelivered s))) at may.2,
+    )
+
 known_ends : (d : Doing Task Browser) (at : Reached Browser) (k : ℕ) (p : Placed Task) (xs : List (Placed Task)) → closes_fine (played d at p) ≡ false
-    → Known d at k (p ∷ xs) → IfSome (call_of p.item) (λ c. ¬ (MayBeServed browser_rules at.page c))
+    → Known d at k (p ∷ xs) → IfSome (call_of p.item) (λ c. ¬ (MayBeServedAt k at.page c))
 known_ends d at k p xs broken known =
-    subst (λ (b : Bool). EndsBy b browser_rules call_of p.item at.page (AreLongest browser_rules d call_of (after d at p) xs)) broken known.longest
+    by_position at.page k (call_of p.item) known.counted.0
+    (subst (λ (b : Bool). EndsBy b browser_rules call_of p.item at.page (AreLongest browser_rules d call_of (after d at p) xs)) broken known.longest)
 
 -- ---- an item at which it stops
 
@@ -263,11 +278,12 @@ pub session_goes : (d : Doing Task Browser) (last : ℕ) (turns : List ℕ) (did
     → AreMade browser_rules d call_of (opened d gs) (handled d (opened d gs) (items_of d bs))
     → AreLongest browser_rules d call_of (opened d gs) (items_of d bs)
     → AreNumbered call_of 1 (handled d (opened d gs) (items_of d bs))
+    → AreCounted browser_rules d call_of (opened d gs) 1 (items_of d bs)
     → Ahead last turns did o (session_parts d bs gs)
     → Serves d last turns did (opened d gs) 1 1 (items_of d bs) (served_by last turns o (session_parts d bs gs))
-session_goes d last turns did o bs gs tells plain clear order made longest numbered ahead =
+session_goes d last turns did o bs gs tells plain clear order made longest numbered counted ahead =
     let c : Case d did o = record { tells = tells; plain = plain; clear = clear } in
     items_go d last turns did o 0 (d.opening ∷ []) 1 1 (d.opening ∷ []) gs d.world d.page (λ hs x r. later_parts d 1 bs hs x r) (placed_in d 1 bs) 1 1 c (omega arith) refl
     (λ late at u m. late_serve_none d last turns did 1 bs at u m (λ other le. order 0 other late (omega arith)))
     (λ hs x r u m. later_go d last turns did o 1 bs hs x r u m c order)
-    (record { made = made; longest = longest; numbered = numbered }) ahead
+    (record { made = made; longest = longest; numbered = numbered; counted = counted }) ahead

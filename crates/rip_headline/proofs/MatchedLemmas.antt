@@ -9,10 +9,10 @@ use Rattle.rip_wire.specs.Batches.{Contents}
 use Rattle.rip_history.specs.Parts.{Given}
 use Rattle.rip_browser.specs.Visits.{browser_rules}
 use Rattle.rip_host.specs.declared.browser.Browser.{Browser}
-use Rattle.rip_law_replica.specs.Prefix.{AreNumbered, ServesPrefix, handled, items_of, opened}
+use Rattle.rip_law_replica.specs.Prefix.{AreCounted, AreNumbered, ServesPrefix, handled, items_of, opened}
 use Rattle.rip_session.specs.Serving.{moment_of}
 use Rattle.rip_law_served.specs.Served.{IsOverBrowser, call_of}
-use Rattle.rip_law_served.proofs.CountLemmas.{sessions_first}
+use Rattle.rip_law_served.proofs.CountLemmas.{sessions_count, sessions_first}
 use Rattle.rip_law_served.proofs.ServedLemmas.{sessions_serve}
 use Rattle.rip_session.specs.Application.{doing_of}
 use Rattle.rip_session.specs.Opening.{by_scope, opened_of, top_scope, with_page, with_scope}
@@ -55,3 +55,7 @@ applications_serve app seed time bs gs = (
   sessions_serve (doing_of app seed time) refl refl bs gs,
   sessions_first (doing_of app seed time) (over_browser app seed time) bs gs,
 )
+
+pub applications_count : (app : Loaded) (seed time : ℕ) (bs : List Contents) (gs : List Given)
+    → AreCounted browser_rules (doing_of app seed time) call_of (opened (doing_of app seed time) gs) 1 (items_of (doing_of app seed time) bs)
+applications_count app seed time bs gs = sessions_count (doing_of app seed time) (over_browser app seed time) bs gs

@@ -1,6 +1,6 @@
 -- Which calls a session serves, as the entries of a history tell them: the longest prefix of the reported ones that its script
 -- made, up to its ending, to want of memory or to the last turn.
-use Rattle.std.specs.Prelude.{◌≡◌, ℕ, ◌+◌, ◌-◌, ◌==◌, ◌&&◌, Bool, true, false, List, [], ◌∷◌, length, Option, None, Some, IfSome, is_some, if◌then◌else◌}
+use Rattle.std.specs.Prelude.{◌≡◌, ℕ, ◌+◌, ◌-◌, ◌==◌, ◌&&◌, Bool, true, false, List, [], ◌∷◌, length, Option, None, Some, IfSome, is_some, slice_get, if◌then◌else◌}
 use Rattle.std.specs.List.{list_any}
 use Rattle.rip_app.specs.App.{Loaded}
 use Rattle.rip_wire.specs.declared.ending.Ending.{Ending}
@@ -14,7 +14,8 @@ use Rattle.rip_replica.specs.Play.{Played, Closes, Holds}
 use Rattle.rip_host.specs.declared.browser.Browser.{Browser}
 use Rattle.rip_browser.specs.Visits.{browser_rules}
 use Rattle.rip_replica.specs.Parts.{Doing, part_of}
-use Rattle.rip_law_replica.specs.Prefix.{IsMade, MayBeServed, Placed, Reached, after, closes_fine, items_of, opened, played}
+use Rattle.rip_replica.specs.Rules.{HasNoRoom}
+use Rattle.rip_law_replica.specs.Prefix.{IsMade, Placed, Reached, after, closes_fine, items_of, opened, played}
 use Rattle.rip_session.specs.Tasks.{Task}
 use Rattle.rip_law_served.specs.Served.{call_of}
 use Rattle.rip_session.specs.Application.{doing_of, meaning_of_app}
@@ -73,10 +74,18 @@ comes last turns p = comes_by last p.cost (admission turns p)
 
 -- ---- which calls are served
 
+-- a reported call may be served at this position: it has that number, it is the call at that position of those that the script
+-- made on the items before it, and its reply may wait
+abbrev pub MayBeServedAt : ℕ → Browser → ℕ × List ℕ → Type 0
+MayBeServedAt k s c =
+    (c.0 ≡ k) × (slice_get (browser_rules.made s) (k - 1) ≡ Some c.1)
+    × ¬ (HasNoRoom (browser_rules.calls_back s) (k - 1) (browser_rules.undelivered s))
+
 -- of these items, from where a session stands, these calls are served, where the first has this number; so many units were
 -- spent, and `did` is all that the session did by the last turn. An item that is over and fine by then leads to the next,
 -- and if it reports a call, that is the call of the next number of those that the script made, and it is served, where
--- memory was not wanting. At any other item it stops: at one that ends the session, where a call may not be served; at a
+-- memory was not wanting. At any other item it stops: at one that ends the session, where a call may not be served at the
+-- next position; at a
 -- call for which memory was wanting; or at one that comes later
 pub data Serves (d : Doing Task Browser) (last : ℕ) (turns : List ℕ) (did : List Deed)
     : Reached Browser → ℕ → ℕ → List (Placed Task) → List Deed → Type 0 where
@@ -91,7 +100,7 @@ pub data Serves (d : Doing Task Browser) (last : ℕ) (turns : List ℕ) (did : 
       → Serves d last turns did (after d at p) (spent_by d at spent p) (k + 1) ps calls
       → Serves d last turns did at spent k (p ∷ ps) (deed_of turns (part_by d at spent p) ∷ calls)
   ends_at : (at : Reached Browser) (spent k : ℕ) (p : Placed Task) (ps : List (Placed Task))
-      → closes_fine (played d at p) ≡ false → IfSome (call_of p.item) (λ c. ¬ (MayBeServed browser_rules at.page c))
+      → closes_fine (played d at p) ≡ false → IfSome (call_of p.item) (λ c. ¬ (MayBeServedAt k at.page c))
       → Serves d last turns did at spent k (p ∷ ps) []
   lacks_at : (at : Reached Browser) (spent k : ℕ) (p : Placed Task) (ps : List (Placed Task))
       → is_some (call_of p.item) ≡ true → wants_at p.batch p.number did ≡ true

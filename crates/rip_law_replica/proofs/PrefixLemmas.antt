@@ -13,7 +13,7 @@ use Rattle.rip_replica.specs.declared.items.page_host.Position.{Position}
 use Rattle.rip_replica.specs.declared.items.page_host.Position.TheVariants as position
 use Rattle.rip_history.specs.Parts.{Fact, finishes, Given, Part, serves_call}
 use Rattle.rip_replica.specs.Parts.{Doing, after_item, first_given, given_behind, is_fine, items_parts, later_parts, part_of, session_parts, whole_item}
-use Rattle.rip_law_replica.specs.Prefix.{AreLongest, AreMade, EndsBy, IsMade, MayBeServed, Placed, Reached, ReportsBy, ServesPrefix, AreNumbered, CountsServed, next_number, after, closes_fine, handled, items_of, left_by, opened, placed, placed_in, played, reported_in, served_in}
+use Rattle.rip_law_replica.specs.Prefix.{AreCounted, AreLongest, AreMade, EndsBy, IsMade, MayBeServed, Placed, Reached, ReportsBy, ServesPrefix, AreNumbered, CountsServed, next_number, after, closes_fine, handled, items_of, left_by, opened, placed, placed_in, played, reported_in, served_in}
 
 -- ---- all calls that are reported before the end are served
 
@@ -169,3 +169,19 @@ pub served_are_first : {F A S : Type 0} (rules : Rules F S) (d : Doing A S) (cal
     → (bs : List Contents) (gs : List Given) → AreNumbered call 1 (handled d (opened d gs) (items_of d bs))
 served_are_first rules d call tells reports counts bs gs =
     all_numbered rules d call tells reports counts (opened d gs) 1 (items_of d bs) (omega (arith, counts.none))
+
+-- ---- positions
+
+all_counted : {F A S : Type 0} (rules : Rules F S) (d : Doing A S) (call : A → Option (ℕ × List ℕ)) → ((s : S) → TellsPositions rules s) → ReportsBy rules d call → CountsServed rules d call
+    → (at : Reached S) (k : ℕ) (ps : List (Placed A)) → k ≡ rules.taken at.page + 1 → AreCounted rules d call at k ps
+all_counted rules d call tells reports counts at k [] next = tt
+all_counted rules d call tells reports counts at k (p ∷ ps) next = (
+  next,
+  λ fine. (let one = number_at rules d call tells reports counts at p k (call p.item) next refl fine in
+      all_counted rules d call tells reports counts (after d at p) (next_number (call p.item) k) ps one.1),
+)
+
+pub served_are_counted : {F A S : Type 0} (rules : Rules F S) (d : Doing A S) (call : A → Option (ℕ × List ℕ)) → ((s : S) → TellsPositions rules s) → ReportsBy rules d call → CountsServed rules d call
+    → (bs : List Contents) (gs : List Given) → AreCounted rules d call (opened d gs) 1 (items_of d bs)
+served_are_counted rules d call tells reports counts bs gs =
+    all_counted rules d call tells reports counts (opened d gs) 1 (items_of d bs) (omega (arith, counts.none))

@@ -138,3 +138,17 @@ abbrev pub ServedAreFirst : Type 0 → Type 0 → Type 0 → Type 0
 ServedAreFirst F A S =
     (rules : Rules F S) (d : Doing A S) (call : A → Option (ℕ × List ℕ)) → ((s : S) → TellsPositions rules s) → ReportsBy rules d call → CountsServed rules d call
     → (bs : List Contents) (gs : List Given) → AreNumbered call 1 (handled d (opened d gs) (items_of d bs))
+
+-- before each of these items, up to the one at which the session ends, the number of the next call is one more than the page has
+-- counted, where it is this number before the first
+abbrev pub AreCounted : {F A S : Type 0} → Rules F S → Doing A S → (A → Option (ℕ × List ℕ)) → Reached S → ℕ → List (Placed A) → Type 0
+AreCounted rules d call at k [] = Unit {0}
+AreCounted rules d call at k (p ∷ ps) =
+    (k ≡ rules.taken at.page + 1)
+    × (closes_fine (played d at p) ≡ true → AreCounted rules d call (after d at p) (next_number (call p.item) k) ps)
+
+-- so it is of the items of a session: the position of the next call is told by the page's count
+abbrev pub ServedAreCounted : Type 0 → Type 0 → Type 0 → Type 0
+ServedAreCounted F A S =
+    (rules : Rules F S) (d : Doing A S) (call : A → Option (ℕ × List ℕ)) → ((s : S) → TellsPositions rules s) → ReportsBy rules d call → CountsServed rules d call
+    → (bs : List Contents) (gs : List Given) → AreCounted rules d call (opened d gs) 1 (items_of d bs)

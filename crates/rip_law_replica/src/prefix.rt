@@ -13,7 +13,8 @@
 //! |---|---|
 //! | [`served_are_made`] | `Prefix.ServedAreMade` |
 //! | [`served_are_first`]: they are numbered from 1, one after another | `Prefix.ServedAreFirst` |
+//! | [`served_are_counted`]: the position of the next call is told by the page's count | `Prefix.ServedAreCounted` |
 
 mod laws;
 
-pub use laws::{served_are_first, served_are_made};
+pub use laws::{served_are_counted, served_are_first, served_are_made};

@@ -21,9 +21,9 @@ use Rattle.rip_host.specs.declared.replies.WaitingReply.{WaitingReply}
 use Rattle.rip_browser.specs.Positions.{tells}
 use Rattle.rip_browser.specs.Visits.{browser_rules}
 use Rattle.rip_replica.specs.Parts.{Doing, first_given}
-use Rattle.rip_law_replica.specs.Prefix.{AreNumbered, CountsServed, Placed, after, handled, items_of, left_by, opened, played}
+use Rattle.rip_law_replica.specs.Prefix.{AreCounted, AreNumbered, CountsServed, Placed, after, handled, items_of, left_by, opened, played}
 use Rattle.rip_law_replica.specs.Prefix as prefix
-use Rattle.rip_law_replica.proofs.PrefixLemmas.{served_are_first}
+use Rattle.rip_law_replica.proofs.PrefixLemmas.{served_are_counted, served_are_first}
 use Rattle.rip_session.specs.Plans.{work_plan}
 use Rattle.rip_session.specs.Tasks.{Task, opens, reports}
 use Rattle.rip_law_served.specs.Served.{IsOverBrowser, call_of}
@@ -74,3 +74,6 @@ counts_served d over = record {
 
 pub sessions_first : (d : Doing Task Browser) → IsOverBrowser d → (bs : List Contents) (gs : List Given) → AreNumbered call_of 1 (handled d (opened d gs) (items_of d bs))
 sessions_first d over bs gs = served_are_first browser_rules d call_of tells (reports_by d over.plan over.fact) (counts_served d over) bs gs
+
+pub sessions_count : (d : Doing Task Browser) → IsOverBrowser d → (bs : List Contents) (gs : List Given) → AreCounted browser_rules d call_of (opened d gs) 1 (items_of d bs)
+sessions_count d over bs gs = served_are_counted browser_rules d call_of tells (reports_by d over.plan over.fact) (counts_served d over) bs gs

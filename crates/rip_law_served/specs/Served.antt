@@ -12,7 +12,7 @@ use Rattle.rip_host.specs.Answers.{answers}
 use Rattle.rip_host.specs.declared.browser.Browser.{Browser}
 use Rattle.rip_browser.specs.Visits.{browser_rules}
 use Rattle.rip_replica.specs.Parts.{Doing}
-use Rattle.rip_law_replica.specs.Prefix.{AreNumbered, ServesPrefix, handled, items_of, opened}
+use Rattle.rip_law_replica.specs.Prefix.{AreCounted, AreNumbered, ServesPrefix, handled, items_of, opened}
 use Rattle.rip_session.specs.Plans.{work_plan}
 use Rattle.rip_session.specs.Serving.{served}
 use Rattle.rip_session.specs.Tasks.{Task, opens, reports, fact_of}
@@ -47,3 +47,9 @@ abbrev pub SessionsServeFirst : Type 0
 SessionsServeFirst =
     (d : Doing Task Browser) → IsOverBrowser d → (bs : List Contents) (gs : List Given)
     → AreNumbered call_of 1 (handled d (opened d gs) (items_of d bs))
+
+-- and before each item the position of the next call is one more than the browser has counted
+abbrev pub SessionsCount : Type 0
+SessionsCount =
+    (d : Doing Task Browser) → IsOverBrowser d → (bs : List Contents) (gs : List Given)
+    → AreCounted browser_rules d call_of (opened d gs) 1 (items_of d bs)
