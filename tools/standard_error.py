@@ -53,26 +53,15 @@ RUNS = [
     ("replay page.html app.json none.txt", 4, "", "none.txt: No such file or directory"),
     ("drive page.html app.json none.txt", 4, "", "none.txt: No such file or directory"),
     ("serve none.html app.json 127.0.0.1:0", 4, "", "none.html: No such file or directory"),
-    ("check long.html app.json", 2, "refused page TooLong\n", f"long.html: longer than {LONGEST} bytes"),
-    ("check page.html long.html", 2, "refused app TooLong\n", f"long.html: longer than {LONGEST} bytes"),
-    ("check crossed.html app.json", 2, "refused page Misnested 31\n", "crossed.html: byte 31: Misnested; see docs/PAGES.md"),
-    ("check eval.html app.json", 2, "refused script 1 BadBinding 13\n", "eval.html: script 1, unit 13: BadBinding; see docs/SCRIPTS.md"),
-    ("check page.html version.json", 2, "refused app Version\n", "version.json: Version; see docs/APPLICATIONS.md"),
-    ("serve page.html version.json 127.0.0.1:0", 2, "refused app Version\n", "version.json: Version; see docs/APPLICATIONS.md"),
-    ("replay page.html app.json bad.txt", 2, "refused trace 2\n", "bad.txt: line 2: no line of a trace"),
-    ("drive page.html app.json gestures.txt", 2, "refused gestures 1\n", "gestures.txt: line 1: no gesture, or none that can be made there"),
     ("replay page.html app.json true.txt --turns=1", 3, "end 1 3\n", "the turns are spent, and not all is done: give more by --turns=N"),
     ("serve page.html app.json 127.0.0.1:99999", 4, "", "127.0.0.1:99999: invalid port value"),
     ("serve page.html app.json 127.0.0.1", 4, "", "127.0.0.1: invalid socket address"),
     ("serve page.html app.json 203.0.113.1:0", 4, "", "203.0.113.1:0: Cannot assign requested address"),
 ]
 SCRIPT_RUNS = [
-    ("", 1, f"usage: script {SCRIPT_FORMS.replace(' | ', ' | script ')}\n", f"no such arguments; they are {SCRIPT_FORMS}"),
+    ("", 1, f"usage: script {SCRIPT_FORMS.replace(' | ', ' | script ')}\n", f"no such arguments; they are {SCRIPT_FORMS} | nodes PAGE"),
     ("tokens none.js", 4, "", "none.js: No such file or directory"),
     ("tree folder", 4, "", "folder: Is a directory"),
-    ("run eval.js", 2, "refused BadBinding 13\n", "eval.js: unit 13: BadBinding; see docs/SCRIPTS.md"),
-    ("run long.html", 2, "refused TooLong 0\n", f"long.html: longer than {LONGEST} bytes"),
-    ("run bytes.js", 2, "refused NotUtf8 0\n", "bytes.js: the bytes are not UTF-8"),
     ("run good.js 1000 4000000000", 5, "", "out of memory: give it more, or lower the limits of the run"),
 ]
 

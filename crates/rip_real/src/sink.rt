@@ -6,19 +6,13 @@ use std::io;
 use std::io::{ErrorKind, Write};
 use std::marker::Model;
 
-/// Of what was put last, so many bytes are kept.
-const KEPT: usize = 80;
-
-/// A writer as a sink. It tells the bytes that the writer took; and, to people, how what was put last begins, and why
-/// putting failed last.
+/// A writer as a sink. It tells the bytes that the writer took; and, to people, why putting failed last.
 #[derive(Drop)]
 pub struct HostSink<W> {
     writer: W,
     history: History,
     faults: u64,
     failure: Option<io::Error>,
-    last: [u8; KEPT],
-    kept: usize,
 }
 
 impl<W> Model for HostSink<W> {
@@ -42,8 +36,6 @@ impl<W> HostSink<W> {
             history: History::new(),
             faults: 0,
             failure: None,
-            last: [0; KEPT],
-            kept: 0,
         }
     }
 
@@ -51,18 +43,6 @@ impl<W> HostSink<W> {
     pub fn failure(&self) -> Option<io::Error> {
         self.failure
     }
-
-    /// How what was put last begins.
-    pub fn last(&self) -> &[u8] {
-        self.last.get(..self.kept).unwrap_or(b"")
-    }
-}
-
-/// Keeps the first of these bytes, and says how many.
-fn keep(last: &mut [u8; KEPT], bytes: &[u8]) -> usize {
-    let kept = bytes.len().min(KEPT);
-    last[..kept].copy_from_slice(&bytes[..kept]);
-    kept
 }
 
 /// Writes the bytes, and says how many of them the writer took: all where none of its calls failed. A write that was
@@ -103,7 +83,6 @@ impl<W: Write> Sink for HostSink<W> {
     }
 
     fn put(&mut self, bytes: &[u8]) -> Result<(), SinkError> {
-        self.kept = keep(&mut self.last, bytes);
         let count = write_front(&mut self.writer, bytes, &mut self.failure);
         self.history = self.history.then(&Deed::Put(&bytes[..count]));
         if count < bytes.len() {

@@ -2,10 +2,12 @@
 //! TCP door, handed to the top call. What people are told of it goes to standard error.
 #![tactic(auto)]
 
+mod diagnostics;
 mod messages;
 
 use messages::{Ending, say_end, say_no_memory};
 use rip_cli::{Status, ripley};
+use rip_diagnostics::Noting;
 use rip_real::{HostFiles, HostSink, RealOutside, real_outside};
 use rip_words::{Command, command_of};
 use std::alloc::Global;
@@ -44,7 +46,8 @@ fn main(rt: HostRuntime) -> ExitCode {
     };
     let random_failure = Cell::new(None);
     let mut files = HostFiles::new(&rt);
-    let mut sink = HostSink::new(io::writer(&rt));
+    let mut noting = Noting::new(alloc, io::writer(&rt));
+    let mut sink = HostSink::new(&mut noting);
     let RealOutside {
         mut door,
         mut clock,
@@ -70,8 +73,8 @@ fn main(rt: HostRuntime) -> ExitCode {
         output: sink.failure(),
         random: random_failure.get(),
         door: door.failure(),
-        last: sink.last(),
     };
     say_end(&rt, alloc, words.as_slice(), status, &ending);
+    diagnostics::print(&rt, words.as_slice(), &mut files, status, noting.line());
     ExitCode::from(status as u8)
 }

@@ -1,7 +1,6 @@
 //! What the program says to people on standard error, by how the run ended. Nothing else depends on it: where it can't be
 //! written, status and output are the same.
 use rip_cli::Status;
-use rip_outer::MAX_FILE;
 use rip_real::{Unread, say_failure, say_unread};
 use std::alloc::Global;
 use std::io;
@@ -13,18 +12,17 @@ const PROGRAM: &str = "ripley";
 const FORMS: &str =
     "check PAGE APP | replay PAGE APP TRACE [--turns=N] | serve PAGE APP ADDRESS [--turns=N] | drive PAGE APP GESTURES | generate N";
 
-/// What is known of how a run ended: why files, output, random words and door failed, where they did, and how what was
-/// put last begins.
+/// What is known of how a run ended: why files, output, random words and door failed, where they did.
 #[derive(Drop)]
 pub struct Ending<'a> {
     pub file: Option<&'a Unread>,
     pub output: Option<io::Error>,
     pub random: Option<io::Error>,
     pub door: Option<io::Error>,
-    pub last: &'a [u8],
 }
 
-/// Says how the run ended that the arguments ask for, unless all was done.
+/// Says how the run ended that the arguments ask for, unless all was done. What is wrong with input that is refused is said
+/// by `diagnostics`.
 pub fn say_end<R: Eprint>(
     rt: &R,
     alloc: Global,
@@ -33,9 +31,8 @@ pub fn say_end<R: Eprint>(
     ending: &Ending<'_>,
 ) {
     let _said = match status {
-        Status::Read => Ok(()),
+        Status::Read | Status::BadInput => Ok(()),
         Status::BadWords => eprintln!(rt; "{PROGRAM}: no such arguments; they are {FORMS}"),
-        Status::BadInput => say_refused(rt, words, ending.last),
         Status::TurnsSpent => {
             eprintln!(rt;
                 "{PROGRAM}: the turns are spent, and not all is done: give more by --turns=N"
@@ -72,43 +69,5 @@ fn say_outside<R: Eprint>(rt: &R, alloc: Global, words: &[String], ending: &Endi
         say_failure(rt, alloc, PROGRAM, "random numbers of the system", error);
     } else if let Some(error) = ending.door {
         say_failure(rt, alloc, PROGRAM, argument(words, 3), error);
-    }
-}
-
-/// Says which file is refused, where, and what of the documents tells more.
-fn say_refused<R: Eprint>(rt: &R, words: &[String], line: &[u8]) -> io::Result<()> {
-    let line = str::from_utf8(line).unwrap_or("");
-    let mut parts = line.trim_end().split(' ').skip(1);
-    let what = parts.next().unwrap_or("");
-    let place = match what {
-        "app" => 2,
-        "trace" | "gestures" => 3,
-        _ => 1,
-    };
-    let name = argument(words, place);
-    match (what, parts.next(), parts.next(), parts.next()) {
-        (_, Some("TooLong"), _, _) => {
-            eprintln!(rt; "{PROGRAM}: {name}: longer than {MAX_FILE} bytes")
-        }
-        ("page", Some(kind), Some(byte), _) => {
-            eprintln!(rt; "{PROGRAM}: {name}: byte {byte}: {kind}; see docs/PAGES.md")
-        }
-        ("script", Some(script), Some(kind), Some(unit)) => {
-            eprintln!(rt;
-                "{PROGRAM}: {name}: script {script}, unit {unit}: {kind}; see docs/SCRIPTS.md"
-            )
-        }
-        ("app", Some(kind), _, _) => {
-            eprintln!(rt; "{PROGRAM}: {name}: {kind}; see docs/APPLICATIONS.md")
-        }
-        ("trace", Some(number), _, _) => {
-            eprintln!(rt; "{PROGRAM}: {name}: line {number}: no line of a trace")
-        }
-        ("gestures", Some(number), _, _) => {
-            eprintln!(rt;
-                "{PROGRAM}: {name}: line {number}: no gesture, or none that can be made there"
-            )
-        }
-        _ => eprintln!(rt; "{PROGRAM}: refused"),
     }
 }

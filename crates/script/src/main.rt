@@ -1,7 +1,8 @@
-//! The program `script`: the words of the command line, real files and standard output, handed to the top call. What
-//! people are told of it goes to standard error.
+//! The program `script`: the words of the command line, real files and standard output, handed to the top call; `nodes PAGE`
+//! lists the nodes of a page. What people are told of it goes to standard error.
 #![tactic(auto)]
 
+mod diagnostics;
 mod messages;
 
 use messages::{say_end, say_no_memory};
@@ -34,7 +35,15 @@ fn main(rt: HostRuntime) -> ExitCode {
     };
     let mut files = HostFiles::new(&rt);
     let mut sink = HostSink::new(io::writer(&rt));
+    if let Some(page) = diagnostics::page_of(words.as_slice()) {
+        let status = diagnostics::nodes(&rt, page, &mut files, &mut sink);
+        say_end(&rt, alloc, words.as_slice(), status, &files, &sink);
+        return ExitCode::from(status as u8);
+    }
     let status = script(alloc, words.as_slice(), &mut files, &mut sink);
     say_end(&rt, alloc, words.as_slice(), status, &files, &sink);
+    if matches!(status, Status::BadScript) {
+        diagnostics::print(&rt, words.as_slice(), &mut files);
+    }
     ExitCode::from(status as u8)
 }

@@ -1,6 +1,5 @@
 //! What the program says to people on standard error, by how the run ended. Nothing else depends on it: where it can't be
 //! written, status and output are the same.
-use rip_outer::MAX_FILE;
 use rip_real::{HostFiles, HostSink, say_failure, say_unread};
 use rip_script::Status;
 use std::alloc::Global;
@@ -9,7 +8,8 @@ use std::io;
 /// The program's name in what it says.
 const PROGRAM: &str = "script";
 
-/// Says how the run ended that the arguments ask for, unless all was done.
+/// Says how the run ended that the arguments ask for, unless all was done. What is wrong with a script that is refused is said
+/// by `diagnostics`.
 pub fn say_end<R: Eprint, W>(
     rt: &R,
     alloc: Global,
@@ -19,13 +19,12 @@ pub fn say_end<R: Eprint, W>(
     sink: &HostSink<W>,
 ) {
     let _said = match status {
-        Status::Done => Ok(()),
+        Status::Done | Status::BadScript => Ok(()),
         Status::BadWords => {
             eprintln!(rt;
-                "{PROGRAM}: no such arguments; they are tokens FILE | tree FILE | run FILE [FUEL [CELLS [UNITS [DEPTH]]]]"
+                "{PROGRAM}: no such arguments; they are tokens FILE | tree FILE | run FILE [FUEL [CELLS [UNITS [DEPTH]]]] | nodes PAGE"
             )
         }
-        Status::BadScript => say_refused(rt, words, sink.last()),
         Status::Outside => {
             say_outside(rt, alloc, files, sink);
             Ok(())
@@ -45,23 +44,5 @@ fn say_outside<R: Eprint, W>(rt: &R, alloc: Global, files: &HostFiles<'_, R>, si
         say_unread(rt, alloc, PROGRAM, unread);
     } else if let Some(error) = sink.failure() {
         say_failure(rt, alloc, PROGRAM, "standard output", error);
-    }
-}
-
-/// Says where the script is refused, and what of the documents tells more.
-fn say_refused<R: Eprint>(rt: &R, words: &[String], line: &[u8]) -> io::Result<()> {
-    let name = match words.get(1) {
-        Some(word) => word.as_str(),
-        None => "",
-    };
-    let line = str::from_utf8(line).unwrap_or("");
-    let mut parts = line.trim_end().split(' ').skip(1);
-    match (parts.next(), parts.next()) {
-        (Some("TooLong"), _) => eprintln!(rt; "{PROGRAM}: {name}: longer than {MAX_FILE} bytes"),
-        (Some("NotUtf8"), _) => eprintln!(rt; "{PROGRAM}: {name}: the bytes are not UTF-8"),
-        (Some(kind), Some(unit)) => {
-            eprintln!(rt; "{PROGRAM}: {name}: unit {unit}: {kind}; see docs/SCRIPTS.md")
-        }
-        _ => eprintln!(rt; "{PROGRAM}: {name}: refused"),
     }
 }
