@@ -19,6 +19,7 @@ anew. A visitor whose session was closed sees so in the page, at the next report
 import http.client
 import json
 import os
+import select
 import socket
 import sys
 import time
@@ -52,6 +53,13 @@ class Openings:
                 return
             if len(words) > 1 and len(words[-1]) == 36:
                 self.known[words[-1]] = (words[-2], now)
+
+    def wait(self, seconds: float) -> None:
+        """Reads what comes for so long: a datagram that finds the queue full is lost."""
+        end = time.monotonic() + seconds
+        while (left := end - time.monotonic()) > 0:
+            if select.select([self.socket], [], [], left)[0]:
+                self.read(time.monotonic())
 
     def forget(self, alive: set[str], now: float) -> None:
         for name in [name for name, (_, at) in self.known.items() if name not in alive and at < now - EARLY]:
@@ -132,7 +140,7 @@ def main() -> None:
         if spent and watch.sessions.opened >= SESSIONS_OF_A_RUN and not os.path.exists(spent):
             print(f"all {SESSIONS_OF_A_RUN} sessions of this run are opened", flush=True)
             open(spent, "w").close()
-        time.sleep(ROUND)
+        openings.wait(ROUND)
 
 
 if __name__ == "__main__":

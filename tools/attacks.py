@@ -14,6 +14,7 @@ import collections
 import contextlib
 import importlib
 import json
+import logging
 import multiprocessing
 import os
 import pathlib
@@ -151,7 +152,7 @@ async def openings(crowd: Crowd, source: str) -> None:
 
 
 async def reports(crowd: Crowd, source: str) -> None:
-    """Sends batches of 64 items as fast as it can."""
+    """Sends batches as fast as it can."""
 
     async def sends() -> None:
         client, answer = Client(source), None
@@ -651,11 +652,14 @@ def in_namespace() -> None:
     subprocess.run(["ip", "link", "set", "lo", "up"], check=True)
     subprocess.run(["ip", "-6", "route", "add", "local", "fd00:66::/64", "dev", "lo", "table", "local"], check=True)
     pathlib.Path("/proc/sys/net/ipv6/ip_nonlocal_bind").write_text("1")
+    # As systemd sets it for a machine.
+    pathlib.Path("/proc/sys/net/unix/max_dgram_qlen").write_text("512")
     resource.setrlimit(resource.RLIMIT_NOFILE, (16384, 16384))
 
 
 def main() -> None:
     in_namespace()
+    logging.getLogger("asyncio").setLevel(logging.CRITICAL)
     words = dict(word[2:].split("=", 1) for word in sys.argv[2:])
     attacks = Attacks(os.path.abspath(sys.argv[1]), TOP / words.get("page", "examples/shop"), float(words.get("seconds", 15)))
     for part in words.get("parts", ",".join(PARTS)).split(","):

@@ -10,8 +10,10 @@ Of each example: `true.txt` is the trace that `drive` puts of `gestures.txt`, `t
 Then of each example visits of a hundred gestures are made up from the seeds below: what is not legal at its place is left
 out, which `drive` tells, and the trace of the rest, replayed, ends no session. What `gestures_of` makes of each true log,
 driven, has the log's calls. A visit of a day, 2,500 gestures at the controls of an example, ends by no limit, and its
-manifest allows for 250 sessions. The status is 0 where all is so.
+manifest allows for 250 sessions. Such a visit makes ten orders, one vote or holds three seats, as the page says; of a browser
+in which the bound was rewritten no more is served, and its session ends. The status is 0 where all is so.
 """
+import collections
 import json
 import pathlib
 import random
@@ -118,25 +120,50 @@ def again(program, folder):
     return [] if status == 0 and driven == in_log else [f"{folder.name}: driven again, the visit of true.log has other calls"]
 
 
-def day(program, folder, page, seed):
-    """Drives a visit of a day, in which the replies behind a button are awaited; answers what is wrong."""
-    draw, lines, off = random.Random(seed), [], set()
+def greedy(draw, page, bound):
+    """The gestures of a day, in which the replies behind a button are awaited. So many buttons stay off, once they are pressed."""
+    lines, off = [], set()
     while len(lines) < LINES_OF_A_DAY:
         line = made_up(draw, page)
         if line in off:
             continue
         if line.startswith("click"):
             lines += [line, "flush", "flush"]
-            off |= {line} if len(off) < STAY_OFF.get(folder.name, 0) else set()
+            off |= {line} if len(off) < bound else set()
         else:
             lines.append(line)
+    return "".join(f"{line}\n" for line in lines)
+
+
+def day(program, folder, page, seed):
+    """Drives a visit of a day; answers what is wrong."""
+    bound = BOUNDS.get(folder.name)
     with tempfile.TemporaryDirectory() as room:
         file = pathlib.Path(room) / "gestures.txt"
-        file.write_text("".join(f"{line}\n" for line in lines))
+        file.write_text(greedy(random.Random(seed), page, bound.off if bound else 0))
         status, text = ran(program, "drive", folder, file)
-    sessions = json.loads((folder / "app.json").read_text())["limits"].get("sessions")
-    wrong = [] if status == 0 and "# ended" not in text else [f"{folder.name}: the day of seed {seed} ends: {status} {text[-60:]}"]
-    return wrong if sessions == SESSIONS else [*wrong, f"{folder.name}: the manifest is for {sessions} sessions"]
+    wrong = [] if status == 0 and "# ended" not in text else [f"the day of seed {seed} ends: {status} {text[-60:]}"]
+    if bound and text.count(f'"{bound.call}",[') != bound.most:
+        wrong.append(f"the day of seed {seed} has {text.count(bound.call)} calls of {bound.call}")
+    if json.loads((folder / "app.json").read_text())["limits"].get("sessions") != SESSIONS:
+        wrong.append(f"the manifest is not for {SESSIONS} sessions")
+    return [f"{folder.name}: {each}" for each in wrong]
+
+
+def rewritten(program, folder, page, bound):
+    """Drives a day over the page with another bound, and replays it over the page as it is; answers what is wrong."""
+    text = (folder / "page.html").read_text()
+    with tempfile.TemporaryDirectory() as name:
+        room = pathlib.Path(name)
+        (room / "page.html").write_text(text.replace(*bound.rewritten))
+        (room / "app.json").write_text((folder / "app.json").read_text())
+        (room / "gestures.txt").write_text(greedy(random.Random(SEEDS[0]), page, bound.off_then))
+        status, trace = ran(program, "drive", room, room / "gestures.txt")
+        (room / "trace.txt").write_text(trace)
+        _, log = ran(program, "replay", folder, room / "trace.txt")
+    served = len(re.findall(rf'^serve (?:\d+ ){{4}}"{bound.call}" ', log, re.M))
+    is_so = text.count(bound.rewritten[0]) == 1 and status == 0 and served == bound.most and len(ends(log)) == 1
+    return [] if is_so else [f"{folder.name}: with its bound rewritten, {served} calls of {bound.call} are served: {status} {ends(log)}"]
 
 
 # The controls of each page: the number of a node, and what a user may do there.
@@ -147,8 +174,14 @@ CONTROLS = {
     "votes": [(14, "button")],
 }
 
-# How many buttons stay off, the first that are pressed: the one vote, the three seats.
-STAY_OFF = {"votes": 1, "booking": 3}
+# What a visit may do of one thing at the most: the call, how often, and how many buttons that were pressed stay off; then
+# what a browser with another bound has in the page's place, and how many buttons stay off there.
+Bound = collections.namedtuple("Bound", "call most off rewritten off_then")
+BOUNDS = {
+    "shop": Bound("order", 10, 0, ("mostOrders = 10", "mostOrders = 1000"), 0),
+    "votes": Bound("vote", 1, 1, ("vote.disabled = true", "vote.disabled = false"), 0),
+    "booking": Bound("hold", 3, 3, ("most = 3", "most = 30"), 8),
+}
 
 
 def main():
@@ -160,6 +193,8 @@ def main():
         for seed in SEEDS if folder.name in CONTROLS else []:
             wrong += visit(program, folder, CONTROLS[folder.name], seed)
             wrong += day(program, folder, CONTROLS[folder.name], seed)
+        if folder.name in BOUNDS:
+            wrong += rewritten(program, folder, CONTROLS[folder.name], BOUNDS[folder.name])
     print("\n".join(wrong) or "the examples are as they stand")
     return 1 if wrong else 0
 

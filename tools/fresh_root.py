@@ -29,7 +29,7 @@ LOOKS = [
     ("for unit in ripley@8080 ripley-idle@8080 ripley-metrics@8080 ripley-logs; do systemd-analyze security --no-pager "
      "--threshold=25 $unit.service > /dev/null || echo $unit is exposed; done", ""),
     ("systemctl start ripley-logs && echo rotated", "rotated"),
-    ("nft list ruleset | grep -c 'ct count over 100'", "2"),
+    ("nft list ruleset | grep -c 'dport.*ct count over 100'", "2"),
     # A visitor, and what close_idle.py and the metrics know of it.
     ("id=$(curl -sk -D - -o /dev/null -H 'Ripley-Open: 1' https://localhost/ | tr -d '\\r' | sed -n 's/^ripley-session: //p'); sleep 3; "
      "curl -sk --data-binary '{\"batch\":1,\"items\":[]}' https://localhost/e/$id | cut -c 1-10", '{"batch":1'),
@@ -47,6 +47,7 @@ LOOKS = [
     ("id=$(curl -sk -D - -o /dev/null -H 'Ripley-Open: 1' https://localhost/ | tr -d '\\r' | sed -n 's/^ripley-session: //p'); sleep 2; "
      "cat /var/log/nginx/*.log | grep -c $id", "0"),
     ("journalctl -q -p err -u 'ripley*' --no-pager | grep -v 'Main process exited\\|Failed with result'", ""),
+    ("journalctl -q --no-pager | grep 'systemd.*ripley.*ignoring' | head -n 2", ""),
     ("sleep 20; curl -s 'http://127.0.0.1:9090/api/v1/query?query=up' | grep -o '\"value\":.*\"1\"' | wc -l", "1"),
 ]
 LOOKS_AT_SEVERAL = [

@@ -57,7 +57,8 @@ class Player:
 
     def run(self, verb: str, limits: dict[str, int], text: str) -> str:
         """What the program puts for a file of gestures or a trace, with the manifest under these limits."""
-        (self.room / "app.json").write_text(json.dumps({**self.manifest, "limits": {**limits, "sessions": 1}}))
+        limits = {**self.manifest["limits"], **limits, "sessions": 1}
+        (self.room / "app.json").write_text(json.dumps({**self.manifest, "limits": limits}))
         (self.room / "text").write_text(text, encoding="utf-8")
         words = [self.program, verb, self.page, self.room / "app.json", self.room / "text"]
         done = subprocess.run(words, capture_output=True, encoding="utf-8", timeout=SECONDS)

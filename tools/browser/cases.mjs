@@ -3,7 +3,7 @@
 import { join } from "node:path";
 import { pause, until } from "./chromium.mjs";
 import { itemsOf, ports, servedOf, site } from "./stack.mjs";
-import { Draw, examples, hazards, letter, shop } from "./visits.mjs";
+import { Draw, hazards, letter, shop } from "./visits.mjs";
 
 const inputs = (visit) => itemsOf(visit.lines()).filter((item) => item[1] === "input").length;
 
@@ -230,7 +230,7 @@ const TRANSLATE = `(() => {
   const texts = [];
   while (walker.nextNode()) { texts.push(walker.currentNode); }
   for (const text of texts) {
-    if (text.data.trim() === "" || text.parentNode.closest("script, textarea, font")) { continue; }
+    if (text.data.trim() === "" || text.parentNode.closest("script, textarea, font, [translate=no]")) { continue; }
     const place = new DOMParser().parseFromString("<font><font></font></font>", "text/html").querySelector("font");
     place.firstChild.append(text.data.toUpperCase());
     text.replaceWith(place);
@@ -275,8 +275,8 @@ export const inEach = {
 };
 
 // A phone: the width of the window, and touches.
-async function phone({ browser, begin, withStack, tellWrong, into }) {
-  for (const kind of examples) {
+async function phone({ browser, begin, withStack, tellWrong, into, pages }) {
+  for (const kind of pages) {
     await withStack(kind, async (stack, log) => {
       const visit = await begin(browser, log, kind, (page) => page.bePhone());
       await kind.play(visit);
@@ -309,8 +309,8 @@ async function unexpected({ browser, begin, withStack, tellWrong }) {
 }
 
 // A day of one visitor in each page: 2,500 gestures.
-async function day({ browser, begin, withStack, tellWrong }) {
-  for (const kind of examples) {
+async function day({ browser, begin, withStack, tellWrong, pages }) {
+  for (const kind of pages) {
     await withStack(kind, async (stack, log) => {
       const visit = await begin(browser, log, kind);
       const draw = new Draw(11);
@@ -318,9 +318,10 @@ async function day({ browser, begin, withStack, tellWrong }) {
         await kind.gesture(visit.page, draw);
         if (await visit.page.notice() !== null) { break; }
       }
-      tellWrong(`a day, ${kind.name}`, await visit.compare());
+      const wrong = await visit.compare();
+      tellWrong(`a day, ${kind.name}`, wrong);
       console.log(`a day: ${kind.name}, ${itemsOf(visit.lines()).length} items`);
-      await visit.leave();
+      await (wrong.length === 0 ? visit.leave() : visit.page.close());
     });
   }
 }

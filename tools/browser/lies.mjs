@@ -2,7 +2,7 @@
 // Each is to be refused, and `due` is the end of the log's line, or null where a refusal leaves no line.
 import { randomUUID } from "node:crypto";
 import { pause, until } from "./chromium.mjs";
-import { site } from "./stack.mjs";
+import { servedOf, site } from "./stack.mjs";
 
 // Rewrites the page on its way into the browser, and lets the browser run what is not the page's.
 export async function rewrite(page, from, to) {
@@ -53,13 +53,13 @@ const POT = { cup: 0, name: "", pot: 1, tea: 0 };
 export const lies = [
   {
     what: "a price rewritten in the page",
-    due: /^done \d+ \d+ \d+ mismatch \d+ 1 \["order",.*"total":539\}\]\] \["order",.*"total":5390\}\]\]$/,
+    due: /^done \d+ \d+ \d+ mismatch \d+ \d+ \["order",.*"total":539\}\]\] \["order",.*"total":5390\}\]\]$/,
     before: (page) => rewrite(page, "pot: 4900", "pot: 49"),
     lie: order,
   },
   {
     what: "a price set at the console",
-    due: /^done \d+ \d+ \d+ mismatch \d+ 1 \["order",.*"total":1490\}\]\] \["order",.*"total":5390\}\]\]$/,
+    due: /^done \d+ \d+ \d+ mismatch \d+ \d+ \["order",.*"total":1490\}\]\] \["order",.*"total":5390\}\]\]$/,
     async lie(visit) {
       await visit.page.run("void (prices.pot = 1000)");
       return order(visit);
@@ -133,6 +133,6 @@ export async function tell({ what, due, before, lie }, visit, open) {
   const lines = visit.lines();
   const wrong = [];
   if (!due.test(lines.at(-1))) { wrong.push(`${what}: ${lines.at(-1)}`); }
-  if (lines.some((line) => line.startsWith("serve "))) { wrong.push(`${what}: a call was served`); }
+  if (servedOf(lines).some(({ name }) => name === "order")) { wrong.push(`${what}: an order was served`); }
   return { line: lines.at(-1), wrong };
 }

@@ -4,7 +4,7 @@
 //
 //   apt-get install nginx haproxy chromium firefox-esr nodejs openssl
 //   tools/browser/run.mjs RIPLEY [--visits=50] [--seed=1] [--engines=chromium,firefox] [--parts=visits,hazards,lies,..]
-//                         [--into=FOLDER]
+//                         [--pages=shop,booking,game,votes,letter] [--into=FOLDER]
 //
 // RIPLEY is the program. The servers' ports are counted from RIPLEY_PORT, or from 18000. Visit N of a page draws its
 // gestures from the seed `SEED + N`. Pictures of the pages and the logs of the servers are left in FOLDER. The status
@@ -26,6 +26,7 @@ const ripley = process.argv[2];
 const visits = Number(words.visits ?? 50);
 const seed = Number(words.seed ?? 1);
 const into = words.into ?? mkdtempSync(join(tmpdir(), "ripley-"));
+const pages = examples.filter(({ name }) => (words.pages ?? name).split(",").includes(name));
 const wrong = [];
 
 function tellWrong(what, differences) {
@@ -113,7 +114,7 @@ async function playLies(browser) {
 // Two browsers at once, at one server.
 async function playPair() {
   const pair = [new Browser(), new Browser()];
-  for (const kind of examples) {
+  for (const kind of pages) {
     await withStack(kind, async (stack, log) => {
       await Promise.all(pair.map(async (browser, number) => {
         for (let at = 0; at < 3; at++) { await randomVisit(browser, log, kind, 1000 + 10 * at + number); }
@@ -222,7 +223,7 @@ async function playRestart(browser) {
 
 // What is done in each engine, and what needs Chromium's own means.
 const parts = {
-  visits: (browser) => playAll(browser, examples),
+  visits: (browser) => playAll(browser, pages),
   hazards: (browser) => playAll(browser, [hazards]),
   ...Object.fromEntries(Object.entries(cases.inEach).map(([name, play]) => [name, playCase(play)])),
 };
@@ -238,7 +239,7 @@ const chromiumParts = {
 
 // A case of cases.mjs.
 function playCase(play) {
-  return (browser) => play({ browser, begin, withStack, tellWrong, into });
+  return (browser) => play({ browser, begin, withStack, tellWrong, into, pages });
 }
 
 async function playIn(name, browser, known) {

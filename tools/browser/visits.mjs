@@ -153,7 +153,7 @@ export const game = {
   async gesture(page, draw) {
     switch (draw.below(5)) {
       case 0: await page.key("Tab"); return page.key(draw.of(["Enter", " "]));
-      case 1: return page.click("state");
+      case 1: return page.click(await page.run(`document.getElementById("again") === null`) ? "state" : "again");
       default: return page.click(draw.of(FIELDS));
     }
   },
