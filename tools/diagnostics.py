@@ -264,6 +264,19 @@ def try_all(table: Table) -> None:
         table.faults.append("colours where standard error is no terminal")
 
 
+def try_script(table: Table, program: str) -> None:
+    """Tries what `script` says of a script alone, and its list of nodes."""
+    write(table.folder, "script.js", '"use strict";\r\nvar \U0001f600 = 1;\n')
+    told = run(program, ["tokens", "script.js"], table.folder)
+    table.judge("script.js", told, "refused BadCharacter 19\n", [" --> script.js:2:5\n", "outside texts"])
+    write(table.folder, "script.js", '"use strict";\nfoo();\n')
+    told = run(program, ["run", "script.js"], table.folder)
+    table.judge("script.js", told, "refused UnknownGlobal 14\n", [" --> script.js:2:1\n", "`foo`"])
+    write(table.folder, "page.html", '<html><head></head><body><p id="a">b</p></body></html>')
+    nodes = '0 #document\n1   html\n2     head\n3     body\n4       p id="a"\n5         #text "b"\n'
+    table.judge("nodes", run(program, ["nodes", "page.html"], table.folder), nodes, [])
+
+
 def kinds_of(page: str) -> set[str]:
     """The kinds that the tables of a page of the docs name."""
     with open(os.path.join(TOP, "docs", page), encoding="utf-8") as file:
@@ -282,6 +295,8 @@ def main() -> int:
         try_checks(table)
         try_files(table)
         try_all(table)
+        if len(sys.argv) > 2:
+            try_script(table, os.path.abspath(sys.argv[2]))
     untold = set.union(*map(kinds_of, ["PAGES.md", "SCRIPTS.md", "APPLICATIONS.md"])) - table.kinds
     table.faults += [f"no case is refused as {kind}" for kind in sorted(untold)]
     for fault in table.faults:
