@@ -5,7 +5,8 @@
 
 What was written since the copy is put behind it, up to the last line's end. While the last of it is, the processes that
 have LOG open for writing stand still, some milliseconds. The server opens its log by append, and so goes on at the start
-of the file. Where LOG.1 is no beginning of LOG, nothing is done, and the status is 1.
+of the file. Where LOG.1 is no beginning of LOG, nothing is done, and the status is 1. Processes are found by what they
+have open, so this runs as the server's user and in the same user namespace; where it finds none it says so.
 """
 
 import contextlib
@@ -92,7 +93,10 @@ def cut(log: str) -> None:
         while os.fstat(source.fileno()).st_size - source.tell() > LITTLE:
             target.write(source.read(PIECE))
         os.fsync(target.fileno())
-        with stopped(writers(os.fstat(source.fileno()))), open(log, "ab") as emptied:
+        pids = writers(os.fstat(source.fileno()))
+        if not pids:
+            print(f"{log}: no process has it open", file=sys.stderr)
+        with stopped(pids), open(log, "ab") as emptied:
             shutil.copyfileobj(source, target)
             rest = begun(target)
             target.truncate(target.tell() - len(rest))

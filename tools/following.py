@@ -8,6 +8,7 @@ Each round draws a log, and writes it by pieces while it is followed and rotated
 deploy/logrotate.conf. Each line is to come once and in order, and a follower that begins late is to have them all.
 """
 
+import contextlib
 import gzip
 import importlib
 import os
@@ -20,7 +21,8 @@ sys.path.insert(0, os.path.join(os.path.dirname(os.path.dirname(os.path.abspath(
 follow, cut_log, close_idle = map(importlib.import_module, ["follow", "cut_log", "close_idle"])
 
 # The writer is this process, which does not write while it cuts.
-cut_log.writers = lambda log: []
+cut_log.writers = lambda log: [0]
+cut_log.stopped = lambda pids: contextlib.nullcontext()
 
 
 def drawn(draw: random.Random, number: int) -> bytes:

@@ -29,6 +29,9 @@ LOOKS = [
     ("for unit in ripley@8080 ripley-idle@8080 ripley-metrics@8080 ripley-logs; do systemd-analyze security --no-pager "
      "--threshold=25 $unit.service > /dev/null || echo $unit is exposed; done", ""),
     ("systemctl start ripley-logs && echo rotated", "rotated"),
+    # A log of more than 100 MB is cut, while the server that writes it stands still.
+    ("runuser -u ripley -- sh -c 'yes filler | head -n 15000000 >> /var/log/ripley/8080.log'; systemctl start ripley-logs; "
+     "stat -c %s /var/log/ripley/8080-*Z.log | awk '$1 < 100000'| wc -l; journalctl -q -u ripley-logs | grep -c 'no process'", "1\n0"),
     ("nft list ruleset | grep -c 'dport.*ct count over 100'", "2"),
     # A visitor, and what close_idle.py and the metrics know of it.
     ("id=$(curl -sk -D - -o /dev/null -H 'Ripley-Open: 1' https://localhost/ | tr -d '\\r' | sed -n 's/^ripley-session: //p'); sleep 3; "

@@ -63,7 +63,7 @@ export class Stack {
     mkdirSync(home, { recursive: true });
     let page = readFileSync(join(ROOT, folder, "page.html"), "utf8");
     if (!isPlain) {
-      page = page.replace("<script>", `<p><button id="mirror">Mirror</button></p>\n<script>`);
+      page = page.replace("<script>", `<p><button id="mirror" tabindex="-1">Mirror</button></p>\n<script>`);
       page = page.replace(/\s*<\/body>/, () => `<script>${MIRROR}</script></body>`);
     }
     const manifest = JSON.parse(readFileSync(join(ROOT, folder, "app.json"), "utf8"));
