@@ -31,7 +31,7 @@ def table_of(path: Path) -> dict[str, list[str]]:
 
 
 def purpose(crate: str) -> str:
-    """The first sentence of a crate's root file."""
+    """The first sentence of a crate's root file; of a long one what stands before its details."""
     folder = ROOT / "crates" / crate / "src"
     root = folder / "lib.rt" if (folder / "lib.rt").exists() else folder / "main.rt"
     text = []
@@ -40,7 +40,8 @@ def purpose(crate: str) -> str:
         if not line.startswith("//!") or not words:
             break
         text.append(words)
-    return re.split(r"(?<=\.) ", " ".join(text))[0]
+    sentence = re.split(r"(?<=\.) ", " ".join(text))[0]
+    return sentence if len(sentence.split()) <= 40 else re.split(r", from|: ", sentence)[0] + "."
 
 
 def hundreds(crate: str, part: str) -> int:
