@@ -31,4 +31,5 @@ mod Replies
 mod Rises
 mod Rising
 mod Runs
+mod ServedListLemmas
 mod Serves

@@ -12,5 +12,6 @@ pub mod Matched
 pub mod PrefixHistories
 pub mod Prefixed
 pub mod Replays
+pub mod ServedLists
 pub mod Sessions
 pub mod Within

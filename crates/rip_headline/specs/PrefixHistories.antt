@@ -85,8 +85,7 @@ MayBeServedAt k s c =
 -- spent, and `did` is all that the session did by the last turn. An item that is over and fine by then leads to the next,
 -- and if it reports a call, that is the call of the next number of those that the script made, and it is served, where
 -- memory was not wanting. At any other item it stops: at one that ends the session, where a call may not be served at the
--- next position; at a
--- call for which memory was wanting; or at one that comes later
+-- next position; at a call for which memory was wanting; or at one that comes later
 pub data Serves (d : Doing Task Browser) (last : ℕ) (turns : List ℕ) (did : List Deed)
     : Reached Browser → ℕ → ℕ → List (Placed Task) → List Deed → Type 0 where
   through : (at : Reached Browser) (spent k : ℕ) → Serves d last turns did at spent k [] []

@@ -5,6 +5,7 @@
 //! |---|---|
 //! | [`applications_serve_prefixes`] | `Matched.ApplicationsServePrefixes` |
 //! | [`histories_serve_prefixes`]: so it is of the entries of each legal course, up to the last turn | `Histories.HistoriesServePrefixes`, by `Histories.Serves`; they are one list: `Histories.CallsAreOne` |
+//! | [`sessions_serve_by_lists`]: their number is that of two whole lists, by `Served.IsServed` (`rip_replica`) | `ServedLists.ServeByLists`, `ServedLists.HistoriesServeByLists` |
 //! | [`broken_runs_serve_prefixes`]: so it is where a run breaks off, of the history of which it put a front | `Broken.BrokenRunsServePrefixes`, by `Broken.ServesFirst` |
 //! | [`lacks_are_at_calls`] | `Lacks.LacksAreAtCalls` |
 
@@ -12,5 +13,5 @@ mod laws;
 
 pub use laws::{
     applications_serve_prefixes, broken_runs_serve_prefixes, histories_serve_prefixes,
-    lacks_are_at_calls,
+    lacks_are_at_calls, sessions_serve_by_lists,
 };

@@ -2,6 +2,7 @@ ghost use Rattle.rip_headline.specs.Broken.{BrokenRunsServePrefixes};
 ghost use Rattle.rip_headline.specs.PrefixHistories.{CallsAreOne, HistoriesServePrefixes};
 ghost use Rattle.rip_headline.specs.Lacks.{LacksAreAtCalls};
 ghost use Rattle.rip_headline.specs.Matched.{ApplicationsServePrefixes};
+ghost use Rattle.rip_headline.specs.ServedLists.{HistoriesServeByLists, ServeByLists};
 
 /// A law, and no work: whatever an application is, and whatever its sessions are opened with, report and are given, they
 /// serve the longest prefix of the reported calls that its script made.
@@ -28,4 +29,13 @@ pub fn histories_serve_prefixes()
 /// first of them.
 pub fn broken_runs_serve_prefixes()
     ensures { BrokenRunsServePrefixes }
+{}
+
+/// A law, and no work: the number of the served calls, which are told item by item, is that of two whole lists: the longest
+/// prefix of the calls that the items report, up to the one at which the session ended, in which each is the call at its
+/// position of those that the script made on the items before it; but for a call for whose reply there was no room, want of
+/// memory, or the last turn. So it is of each session in each legal course of an application.
+pub fn sessions_serve_by_lists()
+    ensures lists { ServeByLists }
+    ensures histories { HistoriesServeByLists }
 {}
