@@ -12,6 +12,7 @@ pub mod DueTold
 mod Ended
 mod Given
 mod Going
+mod HeadlineLemmas
 mod Histories
 pub mod HistoryLaw
 pub mod HistoryLemmas

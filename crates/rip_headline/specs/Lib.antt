@@ -6,6 +6,7 @@ pub mod CompleteHistories
 pub mod Driven
 pub mod DueReplies
 pub mod Enough
+pub mod Headline
 pub mod Lacks
 pub mod LeftToDo
 pub mod Matched

@@ -2,6 +2,7 @@
 //!
 //! | module | what |
 //! |---|---|
+//! | [`headline`] | the three theorems over a run of the program: served calls match, honest clients are served, sessions are isolated |
 //! | [`prefixes`] | each session's served calls are a longest matching prefix |
 //! | [`limits`] | no session passes a limit |
 //! | [`pages`] | the page of a session passes no limit, also once the session has ended |
@@ -19,6 +20,7 @@ pub mod completeness;
 pub mod driven;
 pub mod due;
 pub mod ends;
+pub mod headline;
 pub mod isolation;
 pub mod limits;
 pub mod pages;

@@ -1,0 +1,27 @@
+//! What holds of each run of the program that serves an application, in a replay or at an address.
+//!
+//! | theorem | its definition in `specs/` |
+//! |---|---|
+//! | [`served_calls_match`] | `Headline.ServedCallsMatch`: unless it stops before it serves anything, a run writes the log of turns, which is a legal history, or with status 4 or 5 a prefix of it; and the served calls of each session in that history are its longest matching prefix. `PrefixHistories.CallsAreOne`: they are one list. `Headline.NoLimitIsPassed`: wherever a session stands, its heap, and while it lives its page and its runs pass no limit of the manifest |
+//!
+//! What these definitions cite, and what of it a reader may skip:
+//!
+//! | definition | what it says | may be skipped |
+//! |---|---|---|
+//! | `rip_cli` `Run.Ran`, `Laws.AreAccepted` | what the program did, by its status; the files are an application, and a trace | all but the statuses 0, 3, 4 and 5 |
+//! | `rip_serve` `Legal.AreLegal` | the log is a legal history (`rip_history` `Course.IsCourse`) of the requests that came | `streams`, for the calls |
+//! | `rip_serve` `Legal.AreGiven`, `rip_law_server` `Begun.IsGivenTo` | the turns are given the connection pieces, moments and random words of the outside, in order | all, if the input is taken as given |
+//! | `PrefixHistories.ServesIn` | the calls that are served, item by item | the sums of units (`spent_by`, `comes`), which say in which turn an item comes |
+//! | `rip_session` `Application.doing_of` | what the page's script does | all above the semantics of scripts |
+//! | `rip_session` `Application.StandsAt`, `rip_replica` `Cuts.CutAfter` | where a session stands that is run in slices | the stage; which of the running sessions stand so [`crate::limits::sessions_stay_within`] says |
+ghost use Rattle.rip_headline.specs.Headline.{NoLimitIsPassed, ServedCallsMatch};
+ghost use Rattle.rip_headline.specs.PrefixHistories.{CallsAreOne};
+
+/// A theorem, and no work: of each run, unless it stopped before it served anything, the output is the text of a legal history,
+/// or a prefix of one, and in that the served calls of each session are its longest matching prefix, which is one list; and
+/// no session passes a limit of the manifest.
+pub fn served_calls_match()
+    ensures served { ServedCallsMatch }
+    ensures one { CallsAreOne }
+    ensures limits { NoLimitIsPassed }
+{}
