@@ -1,8 +1,10 @@
 -- What a run wrote that serves an application, and what is so of it.
 use Rattle.std.proofs.Common.{◌≡◌, ◌⊎◌, inl, inr, ℕ, ◌+◌, suc, ◌<◌, ◌≤◌, List, [], ◌∷◌, ◌++◌, length, Option, Some, refl, sym, ap, subst, arith}
+use Rattle.std.specs.Prelude.{unwrap_or}
 use Rattle.std.proofs.lemmas.List.{length-append}
 use Rattle.std.proofs.lemmas.List.Concat.{flat_map-append}
 use Rattle.rip_outer.specs.Outside.{Front}
+use Rattle.rip_outer.specs.declared.connections.TraceKnock.{TraceKnock}
 use Rattle.rip_outer.specs.declared.reading.NamedFile.{NamedFile}
 use Rattle.rip_outer.proofs.Composing.{Front-longer, Front-whole}
 use Rattle.rip_words.specs.Commands.{IsTask, Task, checks, drives, generates, replays, serves}
@@ -11,7 +13,8 @@ use Rattle.rip_log.specs.Entries.{ended, entry_text}
 use Rattle.rip_log.specs.Histories.{history_text}
 use Rattle.rip_history.specs.Run.{Coming}
 use Rattle.rip_history.specs.Runs.{StopsWith, over, spent}
-use Rattle.rip_history.specs.Sessions.{opening_in}
+use Rattle.rip_history.specs.Sessions.{IsSessionOf, opening_in}
+use Rattle.rip_history.proofs.CourseLemmas.{courses_isolate}
 use Rattle.rip_law_history.specs.Legal.{course_turns, told_in}
 use Rattle.rip_law_replica.proofs.Cut.{busy_cut}
 use Rattle.rip_law_replica.proofs.Done.{not_done_busy}
@@ -21,7 +24,8 @@ use Rattle.rip_serve.specs.Sites.{site_of_app}
 use Rattle.rip_law_server.specs.Begun.{IsBetweenTurns, IsWithinTurn}
 use Rattle.rip_replica.specs.Standing.{spot}
 use Rattle.rip_session.specs.declared.work.items.PageItems.{PageItems}
-use Rattle.rip_session.specs.Application.{doing_of, runs_of}
+use Rattle.rip_session.specs.Application.{doing_of, meaning_of_app, runs_of}
+use Rattle.rip_session.specs.Lawful.{app_is_lawful}
 use Rattle.rip_session.specs.Plans.{left_of_work, work_plan}
 use Rattle.rip_session.specs.Serving.{may_serve}
 use Rattle.rip_cli.specs.Laws.{AreAccepted}
@@ -29,12 +33,16 @@ use Rattle.rip_cli.specs.Run.{Ran, Told}
 use Rattle.rip_cli.specs.Service.{brought}
 use Rattle.rip_cli.specs.declared.status.Status.{Status}
 use Rattle.rip_cli.specs.declared.status.Status.TheVariants.{BadInput, BadWords, NoMemory, Outside, Read, TurnsSpent}
-use Rattle.rip_headline.specs.Headline.{AreGivenAll, CallsMatch, InEachRun, IsServed, NoLimitIsPassed, ServedCallsMatch, Writes, Wrote, broken, log_of, outside_of, turns_of, whole}
+use Rattle.rip_headline.specs.Headline.{AreGivenAll, AreIsolated, AreSliced, CallsMatch, EndsInTime, HonestClientsAreServed, HonestServed, InEachRun, IsServed, NoLimitIsPassed, ServedCallsMatch, SessionsAreIsolated, Writes, Wrote, broken, log_of, outside_of, turns_of, whole}
+use Rattle.rip_headline.specs.Enough.{AreEnough, batch_cost}
 use Rattle.rip_headline.specs.PrefixHistories.{ServesIn}
 use Rattle.rip_headline.specs.Prefixed.{PutsLegal, ReplayPutsLegal, StopsFirst}
 use Rattle.rip_headline.proofs.Begins.{replays_begin_legal, serves_begin_legal}
 use Rattle.rip_headline.proofs.Ended.{pages_have_limits}
+use Rattle.rip_headline.proofs.Histories.{truth_is_served}
 use Rattle.rip_headline.proofs.HistoryLaw.{histories_serve}
+use Rattle.rip_headline.proofs.ReplaysLemmas.{replays_end_in_time}
+use Rattle.rip_headline.proofs.Serves.{serves_end_in_time}
 
 -- ---- what a run wrote
 
@@ -166,4 +174,60 @@ no_limit_is_passed app r st at = record {
   cut = λ undone.
       let to = spot (λ (items : PageItems). work_plan items.batches.batch) left_of_work r in
       busy_cut (runs_of app) (doing_of app) may_serve to st (not_done_busy (runs_of app) (doing_of app) may_serve to st at.stage.stands undone);
+}
+
+-- ---- honest clients
+
+honest : (app : Loaded) (turns : List Coming) → AreLegal (site_of_app app) turns → HonestServed app turns
+honest app turns legal n truthful =
+    let site = site_of_app app in
+    truth_is_served app site.service site.limit (told_in turns) (course_turns 1 turns) (log_of app turns) n legal.course truthful
+
+pub honest_clients_are_served : HonestClientsAreServed
+honest_clients_are_served = in_each HonestServed honest
+
+-- ---- isolation
+
+isolated : (app : Loaded) (turns : List Coming) → AreLegal (site_of_app app) turns → AreIsolated app turns
+isolated app turns legal others other_legal n k g =
+    let site = site_of_app app in
+    let lawful = app_is_lawful app in
+    courses_isolate (meaning_of_app app) lawful.reads site.service site.service site.limit site.limit (told_in turns) (told_in others)
+    (course_turns 1 turns) (course_turns 1 others) (log_of app turns) (log_of app others) n k g.start legal.course other_legal.course
+    g.opening g.other_opening g.calm g.other_calm g.batches g.given
+
+sliced : (app : Loaded) (turns : List Coming) → AreLegal (site_of_app app) turns → AreSliced app turns
+sliced app turns legal n opening there =
+    subst (λ (last : ℕ). IsSessionOf (meaning_of_app app) last (log_of app turns) n) (count 1 turns) (let c = legal.course in c.sessions n opening there)
+
+same_knocks : (xs ys : List TraceKnock) → Some xs ≡ Some ys → xs ≡ ys
+same_knocks xs ys e = ap (λ (o : Option (List TraceKnock)). unwrap_or o xs) e
+
+end_by_task : (status : Status) (words : List (List ℕ)) (app : Loaded) (old new : Told) (knocks : List TraceKnock) (files : List NamedFile) (task : Task)
+    → old.held ≡ Some files → IsTask words task → (hold : AreAccepted files task) → IsServed files task hold app → Ran status words old new
+    → (let outside = outside_of files task hold old.outer in outside.seen.telling.left) ≡ Some knocks
+    → AreEnough (batch_cost app.manifest.limits.fuel) knocks (turns_of task)
+    → (status ≡ Read) ⊎ (status ≡ Outside) ⊎ (status ≡ NoMemory)
+end_by_task status words app old new knocks files (checks page manifest) held asked hold is ran left enough = absurd is
+end_by_task status words app old new knocks files (replays page manifest trace turns) held asked hold is ran left enough =
+    replays_end_in_time status words page manifest trace turns old new files held asked hold
+    (subst (λ (ks : List TraceKnock). AreEnough (batch_cost hold.0.app.manifest.limits.fuel) ks turns) (sym (same_knocks hold.1.given.knocks knocks left))
+    (subst (λ (a : Loaded). AreEnough (batch_cost a.manifest.limits.fuel) knocks turns) (sym is) enough))
+    ran
+end_by_task status words app old new knocks files (serves page manifest address turns) held asked hold is ran left enough =
+    serves_end_in_time status words page manifest address turns old new files knocks held left asked hold
+    (subst (λ (a : Loaded). AreEnough (batch_cost a.manifest.limits.fuel) knocks turns) (sym is) enough)
+    ran
+end_by_task status words app old new knocks files (drives page manifest gestures) held asked hold is ran left enough = absurd is
+end_by_task status words app old new knocks files (generates n) held asked hold is ran left enough = absurd is
+
+ends_in_time : EndsInTime
+ends_in_time status words app old new knocks run left enough =
+    end_by_task status words app old new knocks run.files run.task run.held run.asked run.accepted run.serves run.ran left enough
+
+pub sessions_are_isolated : SessionsAreIsolated
+sessions_are_isolated = record {
+  isolated = in_each AreIsolated isolated;
+  sliced = in_each AreSliced sliced;
+  in_time = ends_in_time;
 }

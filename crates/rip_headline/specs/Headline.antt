@@ -1,15 +1,18 @@
 -- What is so of each run of the program that serves an application: what it wrote is the log of turns, or a prefix of one, and in
 -- these turns the calls of each session match, honest clients are served, and sessions are isolated.
 use Rattle.std.specs.Prelude.{◌≡◌, ◌⊎◌, ℕ, ◌≤◌, false, List, [], ◌∷◌, ◌++◌, length, Option, Some}
+use Rattle.std.specs.List.{AllByRecursion}
 use Rattle.rip_outer.specs.Outside.{Front, also}
+use Rattle.rip_outer.specs.declared.connections.TraceKnock.{TraceKnock}
 use Rattle.rip_outer.specs.declared.reading.NamedFile.{NamedFile}
 use Rattle.rip_words.specs.Commands.{IsTask, Task, checks, drives, generates, replays, serves}
 use Rattle.rip_app.specs.App.{Loaded}
 use Rattle.rip_log.specs.Entries.{Recorded, ended}
 use Rattle.rip_log.specs.Histories.{history_text}
 use Rattle.rip_history.specs.Run.{Coming}
-use Rattle.rip_history.specs.Sessions.{opening_in}
+use Rattle.rip_history.specs.Sessions.{Agree, IsSessionOf, opening_in, story_in}
 use Rattle.rip_history.specs.Stages.{Stage, is_done, is_ended}
+use Rattle.rip_law_history.specs.Alone.{IsGivenAlike}
 use Rattle.rip_law_history.specs.Legal.{history_of}
 use Rattle.rip_server.specs.Turning.{Outer}
 use Rattle.rip_replica.specs.Cuts.{CutAfter}
@@ -25,6 +28,8 @@ use Rattle.rip_cli.specs.Service.{brought}
 use Rattle.rip_cli.specs.declared.status.Status.{Status}
 use Rattle.rip_cli.specs.declared.status.Status.TheVariants.{BadInput, BadWords, NoMemory, Outside, Read, TurnsSpent}
 use Rattle.rip_headline.specs.Bounded.{PageReplica}
+use Rattle.rip_headline.specs.CompleteHistories.{HasNoLie, IsTruthfulIn}
+use Rattle.rip_headline.specs.Enough.{AreEnough, batch_cost}
 use Rattle.rip_headline.specs.PrefixHistories.{ServesIn}
 use Rattle.rip_headline.specs.Prefixed.{StopsFirst}
 
@@ -131,3 +136,39 @@ pub record IsHeld (app : Loaded) (r : PageReplica) (st : Stage) : Type 0 where
 -- so it is of each session of each application
 abbrev pub NoLimitIsPassed : Type 0
 NoLimitIsPassed = (app : Loaded) (r : PageReplica) (st : Stage) → StandsAt app r st → IsHeld app r st
+
+-- a session whose admitted batches are those of an honest client is ended by no mismatch and by no bad report: by a limit, by a
+-- fault of its script, by its own close or by out of memory alone
+abbrev pub HonestServed : Loaded → List Coming → Type 0
+HonestServed app turns = (n : ℕ) → IsTruthfulIn app (log_of app turns) n → AllByRecursion (HasNoLie n) (log_of app turns)
+
+-- (b) so it is in each run
+abbrev pub HonestClientsAreServed : Type 0
+HonestClientsAreServed = InEachRun HonestServed
+
+-- a session that is given the same in these turns and in others, whatever other sessions do there, does the same in both, each so
+-- many turns after the admission of its batch, as far as both go
+abbrev pub AreIsolated : Loaded → List Coming → Type 0
+AreIsolated app turns =
+    (others : List Coming) → AreLegal (site_of_app app) others → (n k : ℕ) → IsGivenAlike (log_of app turns) (log_of app others) n k
+    → Agree (story_in n (log_of app turns)) (story_in k (log_of app others))
+
+-- each session is run in slices: what it does comes in the turn by whose end its batch got the units that it costs, 1,000 in each
+-- turn from that of its admission on
+abbrev pub AreSliced : Loaded → List Coming → Type 0
+AreSliced app turns =
+    (n : ℕ) (opening : ℕ × ℕ) → opening_in n (log_of app turns) ≡ Some opening → IsSessionOf (meaning_of_app app) (length turns) (log_of app turns) n
+
+-- a run whose turns are enough for what is told on its connections comes to its end, unless the outside fails or memory is wanting
+abbrev pub EndsInTime : Type 0
+EndsInTime =
+    (status : Status) (words : List (List ℕ)) (app : Loaded) (old new : Told) (knocks : List TraceKnock) → (run : Serving status words app old new)
+    → (let outside = outside_of run.files run.task run.accepted old.outer in outside.seen.telling.left) ≡ Some knocks
+    → AreEnough (batch_cost app.manifest.limits.fuel) knocks (turns_of run.task)
+    → (status ≡ Read) ⊎ (status ≡ Outside) ⊎ (status ≡ NoMemory)
+
+-- (c) in each run the sessions are isolated and sliced; and with turns enough it comes to its end
+pub record SessionsAreIsolated : Type 0 where
+  pub isolated : InEachRun AreIsolated
+  pub sliced : InEachRun AreSliced
+  pub in_time : EndsInTime
