@@ -77,11 +77,9 @@ def try_edits(rt: types.ModuleType, crate: object, edits: list[str]) -> int:
     failed = 0
     with tempfile.TemporaryDirectory() as room:
         for edit in edits:
-            texts, why = rt.read_edit(edit, crate.folder)
-            ran = None if why else rt.checked(crate, texts, ["--jobs", "1"], room)
-            refused = ran is not None and ran.returncode != 0
-            failed += not refused
-            print(os.path.basename(edit), "refused" if refused else why or "NOT REFUSED", flush=True)
+            came_to, said = rt.must_fail(crate, edit, ["--jobs", "1"], room)
+            failed += came_to not in (rt.REFUSED, rt.AT_LIMIT)
+            print(said, flush=True)
     return 1 if failed else 0
 
 
