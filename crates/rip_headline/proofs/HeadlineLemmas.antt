@@ -33,7 +33,7 @@ use Rattle.rip_cli.specs.Run.{Ran, Told}
 use Rattle.rip_cli.specs.Service.{brought}
 use Rattle.rip_cli.specs.declared.status.Status.{Status}
 use Rattle.rip_cli.specs.declared.status.Status.TheVariants.{BadInput, BadWords, NoMemory, Outside, Read, TurnsSpent}
-use Rattle.rip_headline.specs.Headline.{AreGivenAll, AreIsolated, AreSliced, CallsMatch, EndsInTime, HonestClientsAreServed, HonestServed, InEachRun, IsServed, NoLimitIsPassed, ServedCallsMatch, SessionsAreIsolated, Writes, Wrote, broken, log_of, outside_of, turns_of, whole}
+use Rattle.rip_headline.specs.Headline.{AreGivenAll, AreIsolated, AreSliced, CallsMatch, EndsInTime, HonestClientsAreServed, HonestServed, InEachRun, IsServed, NoLimitIsPassed, ServedCallsMatch, SessionsAreIsolated, Writes, Wrote, broken, log_of, outside_of, text_of, turns_of, whole}
 use Rattle.rip_headline.specs.Enough.{AreEnough, batch_cost}
 use Rattle.rip_headline.specs.PrefixHistories.{ServesIn}
 use Rattle.rip_headline.specs.Prefixed.{PutsLegal, ReplayPutsLegal, StopsFirst}
@@ -46,20 +46,16 @@ use Rattle.rip_headline.proofs.Serves.{serves_end_in_time}
 
 -- ---- what a run wrote
 
--- the text of a log and its last line
-abbrev lined : Loaded → List Coming → ℕ → List ℕ
-lined app turns code = history_text (log_of app turns ++ ended (length turns) code ∷ [])
-
 -- a prefix of a log is one of the log and its last line
 log_front : (app : Loaded) (turns : List Coming) (code : ℕ) (old new : Option (List ℕ)) → Front (history_text (log_of app turns)) old new
-    → Front (lined app turns code) old new
+    → Front (text_of app turns code) old new
 log_front app turns code old new f =
     subst (λ (t : List ℕ). Front t old new) (sym (flat_map-append entry_text (log_of app turns) (ended (length turns) code ∷ [])))
     (Front-longer (history_text (log_of app turns)) (history_text (ended (length turns) code ∷ [])) old new f)
 
 -- a status is 0 or 3
 either : (app : Loaded) (most : ℕ) (turns : List Coming) (code : ℕ) (old new : Option (List ℕ)) → StopsWith (site_of_app app) (Some most) turns code
-    → Front (lined app turns code) old new → Front (lined app turns 0) old new ⊎ Front (lined app turns 3) old new
+    → Front (text_of app turns code) old new → Front (text_of app turns 0) old new ⊎ Front (text_of app turns 3) old new
 either app most turns code old new (over e m) f = inl f
 either app most turns code old new (spent g e) f = inr f
 
@@ -80,7 +76,7 @@ module _ (app : Loaded) (most : ℕ) (old end : Outer) (held : Option (List ℕ)
   Begun = IsBetweenTurns (site_of_app app) most old end ⊎ IsWithinTurn (site_of_app app) most old end ⊎ IsCutRun (site_of_app app) most old end
 
   abbrev Puts : List Coming → Option (List ℕ) → Type 0
-  Puts turns h = Front (lined app turns 0) old.seen.held h ⊎ Front (lined app turns 3) old.seen.held h
+  Puts turns h = Front (text_of app turns 0) old.seen.held h ⊎ Front (text_of app turns 3) old.seen.held h
 
   broke : Begun → Wrote Outside app most old held × Wrote NoMemory app most old held
   broke (inl b) =

@@ -75,14 +75,22 @@ pub record Serving (status : Status) (words : List (List ℕ)) (app : Loaded) (o
 abbrev pub log_of : Loaded → List Coming → List Recorded
 log_of app turns = history_of (site_of_app app) turns
 
--- with status 0 or 3 the output is exactly the log and a last line of that status; with 4 or 5 it is a prefix of such a text
+-- the text of that log and of a last line with this status
+abbrev pub text_of : Loaded → List Coming → ℕ → List ℕ
+text_of app turns status = history_text (log_of app turns ++ ended (length turns) status ∷ [])
+
+-- a prefix of the text with the one or the other status was added to the output
+abbrev pub WritesPrefix : Loaded → List Coming → Option (List ℕ) → Option (List ℕ) → Type 0
+WritesPrefix app turns old new = Front (text_of app turns 0) old new ⊎ Front (text_of app turns 3) old new
+
+-- with status 0 or 3 exactly that text was added to the output; with 4 or 5 a prefix of it
 abbrev pub Writes : Status → Loaded → List Coming → Option (List ℕ) → Option (List ℕ) → Type 0
-Writes Read app turns old new = new ≡ also (history_text (log_of app turns ++ ended (length turns) 0 ∷ [])) old
+Writes Read app turns old new = new ≡ also (text_of app turns 0) old
 Writes BadWords app turns old new = ⊥
 Writes BadInput app turns old new = ⊥
-Writes TurnsSpent app turns old new = new ≡ also (history_text (log_of app turns ++ ended (length turns) 3 ∷ [])) old
-Writes Outside app turns old new = Front (history_text (log_of app turns ++ ended (length turns) 0 ∷ [])) old new ⊎ Front (history_text (log_of app turns ++ ended (length turns) 3 ∷ [])) old new
-Writes NoMemory app turns old new = Front (history_text (log_of app turns ++ ended (length turns) 0 ∷ [])) old new ⊎ Front (history_text (log_of app turns ++ ended (length turns) 3 ∷ [])) old new
+Writes TurnsSpent app turns old new = new ≡ also (text_of app turns 3) old
+Writes Outside app turns old new = WritesPrefix app turns old new
+Writes NoMemory app turns old new = WritesPrefix app turns old new
 
 -- turns are given what comes from outside, one after another: connection pieces, moments and random words; the last may have
 -- broken off, and then more is handled in it than in the run
