@@ -111,12 +111,13 @@ pub record Wrote (status : Status) (app : Loaded) (most : ℕ) (outside : Outer)
 
 -- ---- the headline
 
--- of each run that serves an application: it stopped before it asked for anything but its files, or it wrote the log of turns; and
--- whatever turns' log it wrote, this is so of these turns
+-- a run stopped before it asked for anything but its files, or it wrote the log of turns; and whatever turns' log it wrote, this is so
+-- of these turns
 pub record WroteOnly (P : List Coming → Type 0) (status : Status) (app : Loaded) (old new : Told) (most : ℕ) (outside : Outer) : Type 0 where
   pub wrote : StopsFirst status old.outer new.outer ⊎ Wrote status app most outside new.outer.seen.held
   pub each : (w : Wrote status app most outside new.outer.seen.held) → P w.turns
 
+-- so it is of each run that serves an application
 abbrev pub InEachRun : (Loaded → List Coming → Type 0) → Type 0
 InEachRun P =
     (status : Status) (words : List (List ℕ)) (app : Loaded) (old new : Told) → (run : Serving status words app old new)
