@@ -37,7 +37,9 @@ LOOKS = [
     ("id=$(curl -sk -D - -o /dev/null -H 'Ripley-Open: 1' https://localhost/ | tr -d '\\r' | sed -n 's/^ripley-session: //p'); sleep 3; "
      "curl -sk --data-binary '{\"batch\":1,\"items\":[]}' https://localhost/e/$id | cut -c 1-10", '{"batch":1'),
     ("grep -c . /run/ripley/8080/openings 2>&1 | grep -o 'No such device or address'", "No such device or address"),
-    ("sleep 2; curl -s http://127.0.0.1:18080/metrics | sed -n 's/^ripley_batches_total //p'", "1.0"),
+    # The metrics are behind the filler by some seconds.
+    ("for second in $(seq 60); do count=$(curl -s http://127.0.0.1:18080/metrics | sed -n 's/^ripley_batches_total //p'); "
+     "test $count = 1.0 && break; sleep 1; done; echo $count", "1.0"),
     ("curl -s http://127.0.0.1:18080/metrics | sed -n 's/^ripley_sessions_most //p'", "250.0"),
     # A server that is killed is started anew, and with it what follows it.
     ("systemctl kill -s KILL --kill-whom=main ripley@8080; sleep 6; systemctl is-active ripley@8080 ripley-idle@8080 | uniq", "active"),
