@@ -6,20 +6,20 @@ use Rattle.rip_heap.specs.World.{World}
 use Rattle.rip_convert.specs.Values.{Made, made_value}
 use Rattle.rip_host.specs.declared.browser.Browser.{Browser}
 use Rattle.rip_host.specs.declared.replies.WaitingReply.{WaitingReply}
-use Rattle.rip_host.specs.Replies.{due, without_due}
+use Rattle.rip_host.specs.Replies.{due, without_reply_to}
 use Rattle.rip_replica.specs.Rules.{CallsBack, Delivered, NotDue, ReplyPasses}
 
 -- the browser in which a reply was taken to be delivered: it is the moment of that reply
 abbrev pub taken_out : ℕ → ℕ → WaitingReply → Browser → Browser
-taken_out number batch r s = record s { undelivered = without_due number batch s.undelivered; moment = r.time }
+taken_out number batch r s = record s { undelivered = without_reply_to number batch s.undelivered; moment = r.time }
 
 -- the browser in which the reply that is due was taken, if there is one
 abbrev pub without_by : Option WaitingReply → ℕ → ℕ → Browser → Browser
-without_by None number batch s = record s { undelivered = without_due number batch s.undelivered }
+without_by None number batch s = record s { undelivered = without_reply_to number batch s.undelivered }
 without_by (Some r) number batch s = taken_out number batch r s
 
 abbrev pub without_reply : ℕ → ℕ → Browser → Browser
-without_reply number batch s = without_by (due number batch s.undelivered) number batch s
+without_reply number batch s = without_by (due number batch s.undelivered.replies) number batch s
 
 -- the callback is called with the value that was made; or a limit would be passed while it is made
 abbrev pub handed : ℕ → Made Value → Browser → Delivered Browser
@@ -32,4 +32,4 @@ delivery (Some r) s w batch number = handed r.callback (made_value r.reply w) (t
 
 -- the delivery of the reply to the call of this number, in this batch
 abbrev pub delivered : Browser → World → ℕ → ℕ → Delivered Browser
-delivered s w batch number = delivery (due number batch s.undelivered) s w batch number
+delivered s w batch number = delivery (due number batch s.undelivered.replies) s w batch number

@@ -16,5 +16,6 @@ browser_rules = record {
   made = λ s. made_texts s.calls;
   calls_back = λ s. has_callback s.calls;
   taken = λ s. s.calls.taken;
-  undelivered = λ s. length s.undelivered;
+  undelivered = λ s. length s.undelivered.replies;
+  most_undelivered = λ s. s.undelivered.most;
 }

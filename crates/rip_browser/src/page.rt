@@ -49,6 +49,6 @@ impl PageHost<Flow> for Browser {
     }
 
     fn position_of(&self, number: u64, text: &[u8]) -> Position {
-        replies::position_in(&self.calls, self.undelivered.count(), number, text)
+        replies::position_in(&self.calls, &self.undelivered, number, text)
     }
 }

@@ -5,16 +5,21 @@ ghost use Rattle.rip_replica.specs.Rules.{Delivers};
 ghost use Rattle.rip_browser.specs.Calls.{at_hand, position_in};
 ghost use Rattle.rip_browser.specs.Replies.{delivered, without_reply};
 
-use rip_base::{MOST_REPLIES, Refused};
+use rip_base::Refused;
 use rip_calls::{Match, Queue};
 use rip_convert::value_of_datum;
 use rip_heap::Heap;
-use rip_host::Browser;
+use rip_host::{Browser, Undelivered};
 use rip_replica::items::{Callback, Position, ReplyRefused};
 
-/// How a reported call stands to the calls that the script made, where so many replies are undelivered.
-pub(crate) fn position_in(calls: &Queue, undelivered: u32, number: u64, text: &[u8]) -> Position
-    ensures { result ≡ position_in calls.now undelivered number text.now }
+/// How a reported call stands to the calls that the script made, where these replies are undelivered.
+pub(crate) fn position_in(
+    calls: &Queue,
+    undelivered: &Undelivered,
+    number: u64,
+    text: &[u8],
+) -> Position
+    ensures { result ≡ position_in calls.now undelivered.now number text.now }
 {
     if !calls.is_next(number) {
         return Position::NotNext;
@@ -26,10 +31,10 @@ pub(crate) fn position_in(calls: &Queue, undelivered: u32, number: u64, text: &[
 }
 
 /// A call that is the one at hand is served, but where it has a callback and no reply more may be undelivered.
-fn at_hand(calls: &Queue, undelivered: u32) -> Position
-    ensures { result ≡ at_hand calls.now undelivered }
+fn at_hand(calls: &Queue, undelivered: &Undelivered) -> Position
+    ensures { result ≡ at_hand calls.now undelivered.now }
 {
-    if calls.front_callback().is_some() && undelivered >= MOST_REPLIES {
+    if calls.front_callback().is_some() && undelivered.is_full() {
         Position::TooMany
     } else {
         Position::Served

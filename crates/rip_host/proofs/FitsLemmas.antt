@@ -15,7 +15,7 @@ use Rattle.rip_dom.specs.Tree.{Tree}
 use Rattle.rip_nodes.specs.Answers.{AddsTexts, IsAnswered, KeepsTree}
 use Rattle.rip_host.specs.declared.browser.Browser.{Browser}
 use Rattle.rip_calls.specs.Calls.{Calls, used, with_call}
-use Rattle.rip_host.specs.declared.replies.WaitingReply.{WaitingReply}
+use Rattle.rip_host.specs.Waiting.{Waiting}
 use Rattle.rip_host.specs.Listening.{is_spent}
 use Rattle.rip_host.specs.Ripley.{call_made, of_calls}
 use Rattle.rip_host.specs.Stays.{fits-stays}
@@ -139,8 +139,8 @@ fits-call s w text callback f b = record {
 }
 
 -- and with other calls of the same callbacks, and other replies whose callbacks are of the world
-pub fits-served : (s : Browser) (w : World) (c : Calls) (replies : List WaitingReply) → Fits s w → c.made ≡ s.calls.made → All (λ r. Belongs w (Object r.callback)) replies → Fits (record s { calls = c; undelivered = replies }) w
-fits-served s w c replies f e all = record {
+pub fits-served : (s : Browser) (w : World) (c : Calls) (u : Waiting) → Fits s w → c.made ≡ s.calls.made → All (λ r. Belongs w (Object r.callback)) u.replies → Fits (record s { calls = c; undelivered = u }) w
+fits-served s w c u f e all = record {
   nodes = f.nodes;
   body = f.body;
   class = f.class;

@@ -9,6 +9,7 @@ use Rattle.rip_heap.specs.Growth.{Belongs}
 use Rattle.rip_heap.specs.World.{World}
 use Rattle.rip_host.specs.declared.replies.WaitingReply.{WaitingReply}
 use Rattle.rip_host.specs.Replies.{due, is_due, without_due}
+use Rattle.rip_host.specs.Waiting.{Waiting}
 
 pub record IsPlace (n b : ℕ) (rs : List WaitingReply) (j : ℕ) : Type 0 where
   pub within : j < length rs
@@ -83,3 +84,7 @@ callback-due w n b (r ∷ rs) h = by (is_due n b r) (callback-due w n b rs (All-
     by : (x : Bool) → IfSome (due n b rs) (λ r. Belongs w (Object r.callback)) → IfSome (cond x (Some r) (due n b rs)) (λ r. Belongs w (Object r.callback))
     by true further = All-head (λ r. Belongs w (Object r.callback)) r rs h
     by false further = further
+
+-- what waits, by its parts
+pub same_waiting : {m n : ℕ} {rs us : List WaitingReply} → m ≡ n → rs ≡ us → ◌≡◌ {A = Waiting} (record { most = m; replies = rs }) (record { most = n; replies = us })
+same_waiting e f = cc

@@ -12,3 +12,4 @@ pub mod Ripley
 pub mod Stays
 pub mod Trees
 pub mod Visit
+pub mod Waiting

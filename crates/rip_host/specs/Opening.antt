@@ -13,6 +13,7 @@ use Rattle.rip_dom.specs.Opening.{Opens as OpensDocument}
 use Rattle.rip_dom.specs.Tree.{is_element}
 use Rattle.rip_forms.specs.States.{no_states}
 use Rattle.rip_host.specs.declared.browser.Browser.{Browser}
+use Rattle.rip_host.specs.Waiting.{none_waits}
 
 -- THE BROWSER
 
@@ -25,9 +26,9 @@ abbrev pub body_from : ℕ → List PageNode → Option ℕ
 body_from n [] = None
 body_from n (x ∷ xs) = if is_body x then Some n else body_from (suc n) xs
 
--- the browser of a page: its document, no listener, no event and no call yet, no state of a control set, the seed as random
--- word and the moment; the text `class` stands behind those of the page
-pub record IsNew (nodes : List PageNode) (limits : Limits) (old middle : Texts) (seed : ℕ) (time : ℤ) (s : Browser) (new : Texts) : Type 0 where
+-- the browser of a page: its document, no listener, no event and no call yet, no state of a control set, room for so many
+-- replies, the seed as random word and the moment; the text `class` stands behind those of the page
+pub record IsNew (nodes : List PageNode) (limits : Limits) (most : ℕ) (old middle : Texts) (seed : ℕ) (time : ℤ) (s : Browser) (new : Texts) : Type 0 where
   pub document : OpensDocument nodes limits.nodes old (Ok s.dom) middle
   pub texts : new ≡ with_text middle (codes "class") 0
   pub class : s.class ≡ span_behind middle (codes "class")
@@ -36,15 +37,15 @@ pub record IsNew (nodes : List PageNode) (limits : Limits) (old middle : Texts) 
   pub listeners : s.listeners ≡ record { limit = limits.cells + 1; nodes = s.dom.limit; registered = []; standing = [] }
   pub events : s.events ≡ record { limit = limits.cells; events = [] }
   pub calls : s.calls ≡ none_made limits.queue
-  pub undelivered : s.undelivered ≡ []
+  pub undelivered : s.undelivered ≡ none_waits most
   pub random : s.random ≡ seed
   pub moment : s.moment ≡ time
 
 -- what the maker answers: a limit comes exactly where the document's does
-abbrev pub Begins : List PageNode → Limits → Texts → ℕ → ℤ → Result Browser Refused → Texts → Type 0
-Begins nodes limits old seed time (Ok s) new = (middle : Texts) × IsNew nodes limits old middle seed time s new
-Begins nodes limits old seed time (Err (At limit)) new = OpensDocument nodes limits.nodes old (Err (At limit)) new
-Begins nodes limits old seed time (Err Memory) new = Unit {0}
+abbrev pub Begins : List PageNode → Limits → ℕ → Texts → ℕ → ℤ → Result Browser Refused → Texts → Type 0
+Begins nodes limits most old seed time (Ok s) new = (middle : Texts) × IsNew nodes limits most old middle seed time s new
+Begins nodes limits most old seed time (Err (At limit)) new = OpensDocument nodes limits.nodes old (Err (At limit)) new
+Begins nodes limits most old seed time (Err Memory) new = Unit {0}
 
 -- EVENTS
 

@@ -4,10 +4,7 @@ use Rattle.rip_data.specs.Datum.{Tree}
 use Rattle.rip_calls.specs.Calls.{front_callback, without_front}
 use Rattle.rip_host.specs.declared.browser.Browser.{Browser}
 use Rattle.rip_host.specs.declared.replies.WaitingReply.{WaitingReply}
-
--- the most replies that may be undelivered
-abbrev pub most_replies : ℕ
-most_replies = 64
+use Rattle.rip_host.specs.Waiting.{Waiting}
 
 -- the reply is to the call of this number, which was served in a batch before this one
 abbrev pub is_due : ℕ → ℕ → WaitingReply → Bool
@@ -22,6 +19,10 @@ abbrev pub without_due : ℕ → ℕ → List WaitingReply → List WaitingReply
 without_due number batch [] = []
 without_due number batch (r ∷ rs) = if is_due number batch r then rs else (r ∷ without_due number batch rs)
 
+-- what waits without that one
+abbrev pub without_reply_to : ℕ → ℕ → Waiting → Waiting
+without_reply_to number batch u = record u { replies = without_due number batch u.replies }
+
 -- the replies, and behind them that to a call with this callback; a call without one has no reply to deliver
 abbrev pub with_reply : Option ℕ → ℕ → ℕ → ℤ → Tree → List WaitingReply → List WaitingReply
 with_reply None number batch time reply rs = rs
@@ -32,5 +33,7 @@ with_reply (Some f) number batch time reply rs =
 abbrev pub call_served : Browser → ℕ → ℤ → Tree → Browser
 call_served s batch time reply = record s {
   calls = without_front s.calls;
-  undelivered = with_reply (front_callback s.calls) (s.calls.taken + 1) batch time reply s.undelivered;
+  undelivered = record s.undelivered {
+    replies = with_reply (front_callback s.calls) (s.calls.taken + 1) batch time reply s.undelivered.replies;
+  };
 }

@@ -40,5 +40,5 @@ fits-stays s old new f g = record {
   event_nodes = f.event_nodes;
   listeners_on_nodes = f.listeners_on_nodes;
   callbacks = λ k d h. callback-stays (slice_index_or s.calls.made k d).callback old new (f.callbacks k d h) g;
-  reply_callbacks = λ k d h. belongs-stays (slice_index_or s.undelivered k d).callback old new (f.reply_callbacks k d h) g;
+  reply_callbacks = λ k d h. belongs-stays (slice_index_or s.undelivered.replies k d).callback old new (f.reply_callbacks k d h) g;
 }

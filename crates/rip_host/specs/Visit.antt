@@ -50,7 +50,7 @@ pub record Fits (s : Browser) (w : World) : Type 0 where
   pub event_nodes : All AreNodes s.events.events
   pub listeners_on_nodes : All (λ l. l.node < first_node) s.listeners.registered
   pub callbacks : All (λ m. IfSome m.callback (λ f. Belongs w (Object f))) s.calls.made
-  pub reply_callbacks : All (λ r. Belongs w (Object r.callback)) s.undelivered
+  pub reply_callbacks : All (λ r. Belongs w (Object r.callback)) s.undelivered.replies
 
 -- what holds of each answer of a browser: it still fits; older objects, texts and limits stand, and no function is made;
 -- a value is of the world after it; a fault and a limit leave all as it was; and memory is never wanting

@@ -14,7 +14,7 @@
 //! | [`EventMember`], [`bubbles`], [`can_be_cancelled`] | `EventMembers` |
 //! | `ripley.call`, `ripley.now`, `ripley.random` | `Answers.called`, `Ripley.ripley_call`, `Ripley.random_call` |
 //! | [`Browser::serve`] | `Replies.call_served`: the call that is next is taken, and its reply waits if it has a callback |
-//! | [`Undelivered`] | contracts see the list of replies, of each its tree ([`KeptReply`]); [`Undelivered::due`] and [`Undelivered::take_due`] `Replies.due`, `Replies.without_due` |
+//! | [`Undelivered`] | contracts see the list of replies, of each its tree ([`KeptReply`]), and the most that there may be: `Waiting.Waiting`; [`Undelivered::due`] and [`Undelivered::take_due`] `Replies.due`, `Replies.without_reply_to` |
 //! | [`Browser::make`] | `Opening.Begins` |
 //! | [`Browser::open_event`], [`Browser::event_at`], [`Browser::stopped`], [`Browser::prevented`] | `Flow.event_opened`, `Flow.reached`, `Flow.is_stopped`, `Flow.is_prevented` |
 //! | the flow of an event as a plan | `Flow.flow`; what is left of one under way, `Flow.flow_left` |

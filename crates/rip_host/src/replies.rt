@@ -4,11 +4,12 @@ ghost use Rattle.rip_heap.specs.Growth.{Belongs};
 ghost use Rattle.rip_heap.specs.World.{World};
 ghost use Rattle.rip_calls.specs.Calls.{front_callback, waiting};
 ghost use Rattle.rip_data.specs.Datum.{tree_of};
-ghost use Rattle.rip_host.specs.Replies.{call_served, due, is_due, most_replies, without_due};
+ghost use Rattle.rip_host.specs.Replies.{call_served, due, is_due, without_reply_to};
 ghost use Rattle.rip_host.specs.Visit.{Fits};
+ghost use Rattle.rip_host.specs.Waiting.{is_full, none_waits};
 
 use crate::browser::Browser;
-use rip_base::{MOST_REPLIES, NoMemory, Whole};
+use rip_base::{NoMemory, Whole};
 use rip_data::Datum;
 use std::alloc::Global;
 use std::marker::Model;
@@ -57,49 +58,60 @@ pub struct WaitingReply {
     pub reply: KeptReply,
 }
 
-/// The replies that are not delivered, in the order of their calls. The room for all is taken at once.
+/// The replies that are not delivered, in the order of their calls, and the most that there may be. The room for all is
+/// taken at once.
 #[derive(Drop)]
 pub struct Undelivered {
+    most: u32,
     replies: Vec<WaitingReply>,
 }
 
 impl Model for Undelivered {
-    ghost use Rattle.std.specs.Prelude.{◌≤◌, List, length, vec_capacity};
+    ghost use Rattle.std.specs.Prelude.{◌^◌, ◌<◌, ◌≤◌, length, vec_capacity};
     ghost use Rattle.std.specs.Coded.{codes};
     ghost use Rattle.rip_host.specs.Trees.{tree_code};
-    ghost use Rattle.rip_host.specs.declared.replies.WaitingReply.{WaitingReply};
+    ghost use Rattle.rip_host.specs.Waiting.{Waiting};
 
-    ghost Value = { List WaitingReply };
+    ghost Value = { Waiting };
 
     ghost coded = { Prim.hlevel (codes, tree_code) };
 
-    ghost view = { λ u. u.replies.items };
+    ghost view = { λ u. record { most = u.most; replies = u.replies.items } };
 
-    ghost invariant = { λ u. (length u.replies.items ≤ 64) × (64 ≤ vec_capacity u.replies) };
+    ghost invariant = { λ u. (length u.replies.items ≤ u.most) × (u.most ≤ vec_capacity u.replies)
+        × (u.most < 2 ^ 32) };
 }
 
 impl Undelivered {
-    /// No reply, and the room for 64.
-    pub fn make(alloc: Global) -> Result<Undelivered, NoMemory>
-        ensures { IfOk result (λ u. u ≡ []) }
+    /// No reply, and the room for so many.
+    pub fn make(alloc: Global, most: u32) -> Result<Undelivered, NoMemory>
+        ensures { IfOk result (λ u. u ≡ none_waits most) }
     {
         Ok(Undelivered {
-            replies: Vec::with_capacity(alloc, MOST_REPLIES as usize)?,
+            most,
+            replies: Vec::with_capacity(alloc, most as usize)?,
         })
+    }
+
+    /// Whether no reply more may wait.
+    pub fn is_full(&self) -> bool
+        ensures { result ≡ is_full self.now }
+    {
+        self.most <= self.count()
     }
 
     /// How many there are.
     pub fn count(&self) -> u32
-        ensures count { result ≡ length self.now }
-        ensures most { result ≤ most_replies }
+        ensures count { result ≡ length self.now.replies }
+        ensures most { result ≤ self.now.most }
     {
         self.replies.len() as u32
     }
 
     /// The reply that is due to this call in this batch: it was served in a batch before, and is not delivered.
     pub fn due(&self, number: u64, batch: u64) -> Option<&WaitingReply>
-        ensures { MatchOption result (due number batch self.now ≡ None)
-            (λ r. due number batch self.now ≡ Some r.now) }
+        ensures { MatchOption result (due number batch self.now.replies ≡ None)
+            (λ r. due number batch self.now.replies ≡ Some r.now) }
     {
         let place = self.place(number, batch);
         match place {
@@ -110,10 +122,10 @@ impl Undelivered {
 
     /// Takes the reply that is due to this call in this batch.
     pub fn take_due(&mut self, number: u64, batch: u64) -> Option<WaitingReply>
-        ensures taken { result ≡ due number batch self.old }
-        ensures left { self.new ≡ without_due number batch self.old }
-        ensures callbacks { (w : World) → All (λ r. Belongs w (Object r.callback)) self.old
-            → All (λ r. Belongs w (Object r.callback)) self.new
+        ensures taken { result ≡ due number batch self.old.replies }
+        ensures left { self.new ≡ without_reply_to number batch self.old }
+        ensures callbacks { (w : World) → All (λ r. Belongs w (Object r.callback)) self.old.replies
+            → All (λ r. Belongs w (Object r.callback)) self.new.replies
             × IfSome result (λ r. Belongs w (Object r.callback)) }
     {
         match self.place(number, batch) {
@@ -124,7 +136,7 @@ impl Undelivered {
 
     // Where the reply is that is due.
     fn place(&self, number: u64, batch: u64) -> Option<usize>
-        ensures { result ≡ position (is_due number batch) self.now }
+        ensures { result ≡ position (is_due number batch) self.now.replies }
     {
         self.replies
             .iter()
@@ -133,8 +145,8 @@ impl Undelivered {
 
     // A reply more.
     fn push(&mut self, reply: WaitingReply)
-        requires { length self.old < most_replies }
-        ensures { self.new ≡ self.old ++ reply ∷ [] }
+        requires { length self.old.replies < self.old.most }
+        ensures { self.new ≡ record self.old { replies = self.old.replies ++ reply ∷ [] } }
     {
         self.replies.push_reserved(reply);
     }
@@ -145,8 +157,8 @@ impl Browser {
     /// call has a callback. It takes no memory.
     pub fn serve(&mut self, batch: u64, time: Whole, reply: Datum)
         requires waits { waiting self.old.calls ≢ [] }
-        requires room { front_callback self.old.calls ≢ None → length self.old.undelivered
-            < most_replies }
+        requires room { front_callback self.old.calls ≢ None → length self.old.undelivered.replies
+            < self.old.undelivered.most }
         requires number { self.old.calls.taken + 1 < 2 ^ 64 }
         ensures served { self.new ≡ call_served self.old batch time (tree_of reply) }
         ensures fits { (w : World) → Fits self.old w → Fits self.new w }

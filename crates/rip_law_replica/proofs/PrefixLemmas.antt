@@ -51,18 +51,18 @@ session_served d bs gs =
 
 -- ---- a call as it is played, by how it stands
 
-fine_made : {S : Type 0} (run : Started → World → S → ℕ → ℕ → runs.Reached S) (full n : ℕ) (w : World) (s : S) (g : S → S) (made : List (List ℕ)) (calls_back : ℕ → Bool) (taken undelivered : ℕ) (c : ℕ × List ℕ) (q : Position)
-    → StandsSo made calls_back taken undelivered c.0 c.1 q → closes_fine (play run full (call_plan n q w s) (g ∷ []) full full) ≡ true → IsMade made c
-fine_made run full n w s g made calls_back taken undelivered c position.NotNext stands fine = absurd (let e : false ≡ true = fine in cc)
-fine_made run full n w s g made calls_back taken undelivered c position.Other stands fine = absurd (let e : false ≡ true = fine in cc)
-fine_made run full n w s g made calls_back taken undelivered c position.TooMany stands fine = absurd (let e : false ≡ true = fine in cc)
-fine_made run full n w s g made calls_back taken undelivered c position.Served stands fine =
+fine_made : {S : Type 0} (run : Started → World → S → ℕ → ℕ → runs.Reached S) (full n : ℕ) (w : World) (s : S) (g : S → S) (made : List (List ℕ)) (calls_back : ℕ → Bool) (taken undelivered most : ℕ) (c : ℕ × List ℕ) (q : Position)
+    → StandsSo made calls_back taken undelivered most c.0 c.1 q → closes_fine (play run full (call_plan n q w s) (g ∷ []) full full) ≡ true → IsMade made c
+fine_made run full n w s g made calls_back taken undelivered most c position.NotNext stands fine = absurd (let e : false ≡ true = fine in cc)
+fine_made run full n w s g made calls_back taken undelivered most c position.Other stands fine = absurd (let e : false ≡ true = fine in cc)
+fine_made run full n w s g made calls_back taken undelivered most c position.TooMany stands fine = absurd (let e : false ≡ true = fine in cc)
+fine_made run full n w s g made calls_back taken undelivered most c position.Served stands fine =
     let at : taken ≡ c.0 - 1 = omega (arith, stands.0) in
     let G : ℕ → Type 0 = λ k. slice_get made k ≡ Some c.1 in
     (omega (arith, stands.0), subst G at stands.1)
 
 ends_unserved : {F S : Type 0} (rules : Rules F S) (run : Started → World → S → ℕ → ℕ → runs.Reached S) (full n : ℕ) (w : World) (s : S) (g : S → S) (c : ℕ × List ℕ) (q : Position)
-    → StandsSo (rules.made s) (rules.calls_back s) (rules.taken s) (rules.undelivered s) c.0 c.1 q
+    → StandsSo (rules.made s) (rules.calls_back s) (rules.taken s) (rules.undelivered s) (rules.most_undelivered s) c.0 c.1 q
     → closes_fine (play run full (call_plan n q w s) (g ∷ []) full full) ≡ false → MayBeServed rules s c → ⊥
 ends_unserved rules run full n w s g c position.NotNext stands ends may = stands may.0
 ends_unserved rules run full n w s g c position.Other stands ends may = stands.1 may.1
@@ -77,7 +77,7 @@ made_at rules d call tells reports at p None is fine = tt
 made_at rules d call tells reports at p (Some c) is fine =
     let s : _ = at.page in
     let P : Plan _ → Type 0 = λ plan. closes_fine (play d.run d.full plan (d.serve p.batch (first_given at.given) ∷ []) d.full d.full) ≡ true in
-    fine_made d.run d.full p.number at.world s (d.serve p.batch (first_given at.given)) (rules.made s) (rules.calls_back s) (rules.taken s) (rules.undelivered s) c (rules.position s c.0 c.1)
+    fine_made d.run d.full p.number at.world s (d.serve p.batch (first_given at.given)) (rules.made s) (rules.calls_back s) (rules.taken s) (rules.undelivered s) (rules.most_undelivered s) c (rules.position s c.0 c.1)
     (tells s c.0 c.1) (subst P (reports.plan p.item c is p.batch p.number at.world s) fine)
 
 either_made : {F A S : Type 0} (rules : Rules F S) (d : Doing A S) (call : A → Option (ℕ × List ℕ)) (at : Reached S) (p : Placed A) (b : Bool) (xs : List (Placed A))
@@ -128,7 +128,7 @@ page_of : {A S : Type 0} → Doing A S → A → List Given → Played S → S
 page_of d a gs p = (let x = left_by d a gs p in x.page)
 
 call_counts : {F A S : Type 0} (rules : Rules F S) (d : Doing A S) (a : A) (gs : List Given) (run : Started → World → S → ℕ → ℕ → runs.Reached S) (full n : ℕ) (w : World) (s : S) (g : S → S) (c : ℕ × List ℕ) (q : Position)
-    → StandsSo (rules.made s) (rules.calls_back s) (rules.taken s) (rules.undelivered s) c.0 c.1 q
+    → StandsSo (rules.made s) (rules.calls_back s) (rules.taken s) (rules.undelivered s) (rules.most_undelivered s) c.0 c.1 q
     → closes_fine (play run full (call_plan n q w s) (g ∷ []) full full) ≡ true
     → (c.0 ≡ rules.taken s + 1) × (page_of d a gs (play run full (call_plan n q w s) (g ∷ []) full full) ≡ g s)
 unfolding page_of

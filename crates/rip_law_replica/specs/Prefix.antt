@@ -92,7 +92,9 @@ AreMade rules d call at (p ∷ ps) = IfSome (call p.item) (IsMade (rules.made at
 
 -- the call is the next of those that the script made, and its reply may wait
 abbrev pub MayBeServed : {F S : Type 0} → Rules F S → S → ℕ × List ℕ → Type 0
-MayBeServed rules s c = (c.0 ≡ rules.taken s + 1) × IsNextCall (rules.made s) (rules.taken s) c.1 × ¬ (HasNoRoom (rules.calls_back s) (rules.taken s) (rules.undelivered s))
+MayBeServed rules s c =
+    (c.0 ≡ rules.taken s + 1) × IsNextCall (rules.made s) (rules.taken s) c.1
+    × ¬ (HasNoRoom (rules.calls_back s) (rules.taken s) (rules.undelivered s) (rules.most_undelivered s))
 
 -- where a session ends at an item that reports a call, that call may not be served
 abbrev pub EndsBy : {F A S : Type 0} → Bool → Rules F S → (A → Option (ℕ × List ℕ)) → A → S → Type 0 → Type 0

@@ -44,15 +44,15 @@ IsAtHand position.Other = ⊥
 IsAtHand position.TooMany = Unit {0}
 IsAtHand position.Served = Unit {0}
 
-at_hand_by : (p : Position) (made : List (List ℕ)) (calls_back : ℕ → Bool) (taken undelivered number : ℕ) (text : List ℕ) → StandsSo made calls_back taken undelivered number text p → number ≡ taken + 1 → IsNextCall made taken text → IsAtHand p
-at_hand_by position.NotNext made calls_back taken undelivered number text h is next = h is
-at_hand_by position.Other made calls_back taken undelivered number text h is next = h.1 next
-at_hand_by position.TooMany made calls_back taken undelivered number text h is next = tt
-at_hand_by position.Served made calls_back taken undelivered number text h is next = tt
+at_hand_by : (p : Position) (made : List (List ℕ)) (calls_back : ℕ → Bool) (taken undelivered most number : ℕ) (text : List ℕ) → StandsSo made calls_back taken undelivered most number text p → number ≡ taken + 1 → IsNextCall made taken text → IsAtHand p
+at_hand_by position.NotNext made calls_back taken undelivered most number text h is next = h is
+at_hand_by position.Other made calls_back taken undelivered most number text h is next = h.1 next
+at_hand_by position.TooMany made calls_back taken undelivered most number text h is next = tt
+at_hand_by position.Served made calls_back taken undelivered most number text h is next = tt
 
 at_hand : (s : Browser) (number : ℕ) (text : List ℕ) → number ≡ s.calls.taken + 1 → front_text s.calls ≡ Some text → IsAtHand (position_of s number text)
 at_hand s number text is front =
-    at_hand_by (position_of s number text) (made_texts s.calls) (has_callback s.calls) s.calls.taken _ number text (tells s number text) is (sym (next_text s.calls) ∙ front)
+    at_hand_by (position_of s number text) (made_texts s.calls) (has_callback s.calls) s.calls.taken _ _ number text (tells s number text) is (sym (next_text s.calls) ∙ front)
 
 -- ---- how it closes
 

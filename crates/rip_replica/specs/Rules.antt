@@ -33,40 +33,38 @@ pub record Rules (F S : Type 0) : Type 0 where
   pub flow : F → ℕ → (World → S → Plan S) → World → S → Plan S
   pub delivered : S → World → ℕ → ℕ → Delivered S
   pub position : S → ℕ → List ℕ → Position
-  -- the texts of all calls that the script made; whether the one at a position has a callback; how many were served; and
-  -- how many replies to served calls with a callback are not delivered
+  -- the texts of all calls that the script made; whether the one at a position has a callback; how many were served; how
+  -- many replies to served calls with a callback are not delivered; and how many such there may be
   pub made : S → List (List ℕ)
   pub calls_back : S → ℕ → Bool
   pub taken : S → ℕ
   pub undelivered : S → ℕ
-
--- the most replies that may be undelivered
-abbrev pub most_undelivered : ℕ
-most_undelivered = 64
+  pub most_undelivered : S → ℕ
 
 -- of the calls that the script made, and of which so many were served, this text is the next
 abbrev pub IsNextCall : List (List ℕ) → ℕ → List ℕ → Type 0
 IsNextCall made taken text = slice_get made taken ≡ Some text
 
 -- the call at this position has a callback, and as many replies are undelivered as may
-abbrev pub HasNoRoom : (ℕ → Bool) → ℕ → ℕ → Type 0
-HasNoRoom calls_back taken undelivered = (calls_back taken ≡ true) × (most_undelivered ≤ undelivered)
+abbrev pub HasNoRoom : (ℕ → Bool) → ℕ → ℕ → ℕ → Type 0
+HasNoRoom calls_back taken undelivered most = (calls_back taken ≡ true) × (most ≤ undelivered)
 
 -- a reported call of this number and text stands so: its number is not the next; or it is not the call at its position of
 -- those that the script made; or it is, has a callback, and as many replies are undelivered as may; or it is, and is served
-abbrev pub StandsSo : List (List ℕ) → (ℕ → Bool) → ℕ → ℕ → ℕ → List ℕ → Position → Type 0
-StandsSo made calls_back taken undelivered number text position.NotNext = number ≡ taken + 1 → ⊥
-StandsSo made calls_back taken undelivered number text position.Other =
+abbrev pub StandsSo : List (List ℕ) → (ℕ → Bool) → ℕ → ℕ → ℕ → ℕ → List ℕ → Position → Type 0
+StandsSo made calls_back taken undelivered most number text position.NotNext = number ≡ taken + 1 → ⊥
+StandsSo made calls_back taken undelivered most number text position.Other =
     (number ≡ taken + 1) × (IsNextCall made taken text → ⊥)
-StandsSo made calls_back taken undelivered number text position.TooMany =
-    (number ≡ taken + 1) × IsNextCall made taken text × HasNoRoom calls_back taken undelivered
-StandsSo made calls_back taken undelivered number text position.Served =
-    (number ≡ taken + 1) × IsNextCall made taken text × (HasNoRoom calls_back taken undelivered → ⊥)
+StandsSo made calls_back taken undelivered most number text position.TooMany =
+    (number ≡ taken + 1) × IsNextCall made taken text × HasNoRoom calls_back taken undelivered most
+StandsSo made calls_back taken undelivered most number text position.Served =
+    (number ≡ taken + 1) × IsNextCall made taken text × (HasNoRoom calls_back taken undelivered most → ⊥)
 
 -- each reported call stands as the page says
 abbrev pub TellsPositions : {F S : Type 0} → Rules F S → S → Type 0
 TellsPositions rules s = (number : ℕ) (text : List ℕ) →
-    StandsSo (rules.made s) (rules.calls_back s) (rules.taken s) (rules.undelivered s) number text (rules.position s number text)
+    StandsSo (rules.made s) (rules.calls_back s) (rules.taken s) (rules.undelivered s) (rules.most_undelivered s) number text
+    (rules.position s number text)
 
 -- what is to be called next in a flow, and then what is left of it; or the flow is over, and what is done after it
 abbrev pub flow_ahead : {S : Type 0} → ℕ → (World → S → Plan S) → (World → S → Plan S) → Option FlowCall → World → S → Plan S
