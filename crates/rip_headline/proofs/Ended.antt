@@ -48,7 +48,7 @@ ended_limits : (app : Loaded) (r : PageReplica) (st : Stage) → StandsAt app r 
 ended_limits app r st at is =
     let has = ended app r st at is in
     let bounded = left_has app st.seed st.time st.batches st.given st.lacking r.heap r.host has.stands in
-    record { nodes = bounded.0; queue = bounded.1 }
+    record { nodes = bounded.0; queue = bounded.1; replies = bounded.2 }
 
 pub pages_have_limits : PagesHaveLimits
 pages_have_limits app r st at = by (is_ended (meaning_of_app app) st) refl

@@ -62,7 +62,7 @@ by_position s k (Some c) next h = λ may.
     h (
       may.0 ∙ next,
       subst (λ (n : ℕ). slice_get (browser_rules.made s) n ≡ Some c.1) at may.1,
-      subst (λ (n : ℕ). ¬ (HasNoRoom (browser_rules.calls_back s) n (browser_rules.undelivered s))) at may.2,
+      subst (λ (n : ℕ). ¬ (HasNoRoom (browser_rules.calls_back s) n (browser_rules.undelivered s) (browser_rules.most_undelivered s))) at may.2,
     )
 
 known_ends : (d : Doing Task Browser) (at : Reached Browser) (k : ℕ) (p : Placed Task) (xs : List (Placed Task)) → closes_fine (played d at p) ≡ false

@@ -45,7 +45,7 @@ KeepLimits app gs = AllByRecursion (λ (g : Browser → Browser). (s : Browser) 
 
 runs_keep : (app : Loaded) (m : Standing) (start : Started) (w : World) (s : Browser) (fuel u : ℕ) → IsBounded app s → HasReached (IsBounded app) (let e = runs_of app in e.run m start w s fuel u)
 runs_keep app m start w s fuel u h =
-    begun_has (IsBounded app) answers (λ t x r p. let stay = limits_stay t x r in (stay.0 ∙ p.0, stay.1 ∙ p.1)) (table (loaded app.program m)) m.depth (begun_by (loaded app.program m) m.depth start w) w s fuel u h
+    begun_has (IsBounded app) answers (λ t x r p. let stay = limits_stay t x r in (stay.0 ∙ p.0, stay.1 ∙ p.1, stay.2 ∙ p.2)) (table (loaded app.program m)) m.depth (begun_by (loaded app.program m) m.depth start w) w s fuel u h
 
 call_has : (app : Loaded) (run : Started → World → Browser → ℕ → ℕ → Reached Browser) (full n : ℕ) (p : Position) (w : World) (s : Browser) (gs : List (Browser → Browser)) (fuel u : ℕ)
     → KeepLimits app gs → IsBounded app s → HasPlayed (IsBounded app) (play run full (call_plan n p w s) gs fuel u)
@@ -116,4 +116,4 @@ module _ (app : Loaded) (seed time : ℕ) where
   pub behind_has : (batches : List Contents) (gs : List Given) (k : ℕ) (l : Stand Browser) → session_behind D batches gs k ≡ Some l → IsBounded app l.page
   behind_has batches gs k l is =
       let has = opened-page app seed (moment_of time) in
-      subst (Stood app) is (last_stood 0 (let d = D in d.opening ∷ []) batches k (Some (let d = D in stand_at 1 gs d.world d.page)) (has.nodes, has.queue))
+      subst (Stood app) is (last_stood 0 (let d = D in d.opening ∷ []) batches k (Some (let d = D in stand_at 1 gs d.world d.page)) (has.nodes, has.queue, has.replies))

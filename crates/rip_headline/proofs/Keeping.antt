@@ -14,6 +14,7 @@ use Rattle.rip_convert.specs.Values.{Made, made_value}
 use Rattle.rip_host.specs.Answers.{answers}
 use Rattle.rip_host.specs.declared.browser.Browser.{Browser}
 use Rattle.rip_host.specs.declared.replies.WaitingReply.{WaitingReply}
+use Rattle.rip_host.specs.Waiting.{Waiting as Undelivered}
 use Rattle.rip_host.specs.Replies.{due, is_due, with_reply, without_due}
 use Rattle.rip_replica.specs.Items.{call_plan, fine, reply_plan}
 use Rattle.rip_replica.specs.declared.items.page_host.Position.{Position}
@@ -54,7 +55,7 @@ abbrev kept_as : WaitingReply → Kept
 kept_as r = record { number = r.number; batch = r.batch }
 
 abbrev pub kept_in : Browser → List Kept
-kept_in s = map kept_as s.undelivered
+kept_in s = map kept_as s.undelivered.replies
 
 -- ---- what shows only the replies that wait
 
@@ -64,7 +65,7 @@ Waits us calls waiting = waiting ≡ us
 runs_keep : (us : List WaitingReply) (code : Code) (m : Standing) (start : Started) (w : World) (s : Browser) (fuel u : ℕ) → Shows (Waits us) s
     → HasReached (Shows (Waits us)) (let e = evaluation answers code in e.run m start w s fuel u)
 runs_keep us code m start w s fuel u h =
-    begun_has (Shows (Waits us)) answers (λ t x r p. replies_stay t x r ∙ p) (table (loaded code m)) m.depth (begun_by (loaded code m) m.depth start w) w s fuel u h
+    begun_has (Shows (Waits us)) answers (λ t x r p. ap (λ (u : Undelivered). u.replies) (replies_stay t x r) ∙ p) (table (loaded code m)) m.depth (begun_by (loaded code m) m.depth start w) w s fuel u h
 
 abbrev machine_of : Loaded → ℕ → ℕ → Standing
 machine_of app seed time = (let o = opened_of app seed (moment_of time) in o.machine)
@@ -72,7 +73,7 @@ machine_of app seed time = (let o = opened_of app seed (moment_of time) in o.mac
 -- a plan in which these wait, wherever it is played, is closed with these
 plan_keeps : (app : Loaded) (seed time : ℕ) (us : List WaitingReply) (plan : Plan Browser) (gs : List (Browser → Browser)) (close : Close) (more : List (Browser → Browser)) (fuel left : ℕ) (x : World) (r : Browser)
     → HasPlan (Shows (Waits us)) plan
-    → (let d = doing_of app seed time in play d.run d.full plan gs d.full d.full) ≡ Closes close more fuel left x r → r.undelivered ≡ us
+    → (let d = doing_of app seed time in play d.run d.full plan gs d.full d.full) ≡ Closes close more fuel left x r → r.undelivered.replies ≡ us
 plan_keeps app seed time us plan gs close more fuel left x r has is =
     let d = doing_of app seed time in
     subst (HasPlayed (Shows (Waits us))) is
@@ -80,23 +81,23 @@ plan_keeps app seed time us plan gs close more fuel left x r has is =
 
 -- ---- the opening
 
-page_new : (app : Loaded) (w : World) (s : Browser) → s.undelivered ≡ [] → (let o = with_page app w s in let t = o.browser in t.undelivered) ≡ []
+page_new : (app : Loaded) (w : World) (s : Browser) → s.undelivered.replies ≡ [] → (let o = with_page app w s in let t = o.browser in t.undelivered.replies) ≡ []
 page_new app w s h = by (nat_le (w.pool.used + cost_of_literals app.program) w.pool.limit) refl
   where
-    by : (t : Bool) → nat_le (w.pool.used + cost_of_literals app.program) w.pool.limit ≡ t → (let o = with_page app w s in let t = o.browser in t.undelivered) ≡ []
+    by : (t : Bool) → nat_le (w.pool.used + cost_of_literals app.program) w.pool.limit ≡ t → (let o = with_page app w s in let t = o.browser in t.undelivered.replies) ≡ []
     by true e = rw e h
     by false e = rw e h
 
-scope_new : (app : Loaded) (w : World) (seed : ℕ) (time : ℤ) → (let o = with_scope app w seed time in let t = o.browser in t.undelivered) ≡ []
+scope_new : (app : Loaded) (w : World) (seed : ℕ) (time : ℤ) → (let o = with_scope app w seed time in let t = o.browser in t.undelivered.replies) ≡ []
 scope_new app w seed time = by (nat_lt app.manifest.limits.nodes (count_of_nodes app.page.nodes)) refl (nat_lt w.pool.limit (w.pool.used + count_of_units app.page.nodes)) refl
   where
     by : (t : Bool) → nat_lt app.manifest.limits.nodes (count_of_nodes app.page.nodes) ≡ t → (u : Bool) → nat_lt w.pool.limit (w.pool.used + count_of_units app.page.nodes) ≡ u
-        → (let o = with_scope app w seed time in let t = o.browser in t.undelivered) ≡ []
+        → (let o = with_scope app w seed time in let t = o.browser in t.undelivered.replies) ≡ []
     by true e u f = rw e refl
     by false e true f = rw (e, f) refl
     by false e false f = rw (e, f) (page_new app _ _ refl)
 
-opened_new : (app : Loaded) (o : Option (ℕ × World)) (seed : ℕ) (time : ℤ) → (let x = by_scope app o seed time in let t = x.browser in t.undelivered) ≡ []
+opened_new : (app : Loaded) (o : Option (ℕ × World)) (seed : ℕ) (time : ℤ) → (let x = by_scope app o seed time in let t = x.browser in t.undelivered.replies) ≡ []
 opened_new app None seed time = refl
 opened_new app (Some scope) seed time = scope_new app scope.1 seed time
 
@@ -117,8 +118,8 @@ events_keep : (app : Loaded) (seed time batch n : ℕ) (w : World) (s : Browser)
 events_keep app seed time batch n w s g kind node text place close more fuel left x r is =
     let d = doing_of app seed time in
     ap (λ (us : List WaitingReply). map kept_as us)
-    (plan_keeps app seed time s.undelivered (d.plan batch (reports (event kind node text place)) n w s) (d.serve batch g ∷ []) close more fuel left x r
-    (event_has (Waits s.undelivered) s w (record { kind = kind; node = node; text = text; place = place }) n refl) is)
+    (plan_keeps app seed time s.undelivered.replies (d.plan batch (reports (event kind node text place)) n w s) (d.serve batch g ∷ []) close more fuel left x r
+    (event_has (Waits s.undelivered.replies) s w (record { kind = kind; node = node; text = text; place = place }) n refl) is)
 
 -- ---- calls
 
@@ -178,7 +179,7 @@ calls_keep app seed time batch n w s g c item more fuel left x r next told is =
     let left_is : r ≡ d.serve batch g s =
     call_leaves d.run d.full n (position_of s (number_at c.number) (call_text told.name told.args)) w x s r (d.serve batch g) more fuel left
     (ap (λ i. play d.run d.full (d.plan batch (reports i) n w s) (d.serve batch g ∷ []) d.full d.full) (sym told.is) ∙ is) in
-    ap kept_in left_is ∙ reply_behind c batch (let calls = s.calls in calls.taken) (front_callback s.calls) (moment_of g.time) g.reply s.undelivered front.number front.back
+    ap kept_in left_is ∙ reply_behind c batch (let calls = s.calls in calls.taken) (front_callback s.calls) (moment_of g.time) g.reply s.undelivered.replies front.number front.back
 
 -- ---- replies
 
@@ -207,7 +208,7 @@ due_first number batch u us is = (
 
 first_goes : (app : Loaded) (seed time batch n : ℕ) (w : World) (s : Browser) (g : Given) (first : Kept) (others : List Kept)
     (close : Close) (more : List (Browser → Browser)) (fuel left : ℕ) (x : World) (r : Browser) (us : List WaitingReply)
-    → s.undelivered ≡ us → map kept_as us ≡ first ∷ others → first.batch < batch
+    → s.undelivered.replies ≡ us → map kept_as us ≡ first ∷ others → first.batch < batch
     → whole_item (doing_of app seed time) batch (reports (reply first.number)) n w s g ≡ Closes close more fuel left x r
     → IsFineOrStopped close × (kept_in r ≡ others)
 first_goes app seed time batch n w s g first others close more fuel left x r [] waits are below is =
@@ -246,10 +247,10 @@ first_goes app seed time batch n w s g first others close more fuel left x r (u 
     is_first : is_due first.number batch u ≡ true
     is_first = and_from (eqb u.number first.number) (ltb u.batch batch) (eq-eqb u.number first.number number) (lt-ltb u.batch batch earlier)
 
-    found : due first.number batch s.undelivered ≡ Some u
+    found : due first.number batch s.undelivered.replies ≡ Some u
     found = ap (due first.number batch) waits ∙ (due_first first.number batch u us is_first).0
 
-    gone : t.undelivered ≡ us
+    gone : t.undelivered.replies ≡ us
     gone = ap (without_due first.number batch) waits ∙ (due_first first.number batch u us is_first).1
 
     goes : play d.run d.full plan gs d.full d.full ≡ Closes close more fuel left x r
@@ -263,5 +264,5 @@ browser_keeps app seed time = record {
   events = events_keep app seed time;
   calls = calls_keep app seed time;
   replies = λ batch n w s g first others close more fuel left x r are below is.
-      first_goes app seed time batch n w s g first others close more fuel left x r s.undelivered refl are below is;
+      first_goes app seed time batch n w s g first others close more fuel left x r s.undelivered.replies refl are below is;
 }

@@ -31,10 +31,11 @@ use Rattle.rip_browser.specs.Events.{Going, browser_after, dispatched, event_pla
 use Rattle.rip_browser.specs.Opening.{load_at, loading, opening_plan, scripts}
 use Rattle.rip_browser.specs.Replies.{delivered, delivery, handed, taken_out}
 use Rattle.rip_law_served.proofs.KeepsPlans.{HasPlan}
+use Rattle.rip_session.specs.Opening.{replies_of}
 
--- the page has these limits of nodes and of bytes that wait
+-- the page has these limits of nodes, of bytes that wait and of replies that may be undelivered
 abbrev pub Bounded : Limits → Browser → Type 0
-Bounded limits s = (s.dom.limit ≡ limits.nodes) × (s.calls.limit ≡ limits.queue)
+Bounded limits s = (s.dom.limit ≡ limits.nodes) × (s.calls.limit ≡ limits.queue) × (s.undelivered.most ≡ replies_of limits)
 
 module _ (l : Limits) where
   abbrev Next : Going → Type 0
@@ -116,7 +117,7 @@ module _ (l : Limits) where
   due_has item (Some r) s w batch number h = handed_has item r.callback (made_value r.reply w) w s (taken_out number batch r s) h
 
   pub reply_has : (s : Browser) (w : World) (item batch number : ℕ) → Bounded l s → HasPlan (Bounded l) (reply_plan item (delivered s w batch number) w s)
-  reply_has s w item batch number h = due_has item (due number batch s.undelivered) s w batch number h
+  reply_has s w item batch number h = due_has item (due number batch s.undelivered.replies) s w batch number h
 
   -- ---- the opening
 

@@ -150,12 +150,12 @@ at_end d start before at spent k n p (Some (number, text)) is may st count room 
     numbered_at 1 (browser_rules.made (let x = reached d start before in x.page)) m number text matches in
     let here : slice_get (browser_rules.made at.page) m ≡ Some text =
     subst (λ (x : Reached Browser). slice_get (browser_rules.made x.page) m ≡ Some text) st.here found.1 in
-    let vacant : ¬ (HasNoRoom (browser_rules.calls_back at.page) n (browser_rules.undelivered at.page)) =
-    subst (λ (x : Reached Browser). ¬ (HasNoRoom (browser_rules.calls_back x.page) n (browser_rules.undelivered x.page))) st.here room in
+    let vacant : ¬ (HasNoRoom (browser_rules.calls_back at.page) n (browser_rules.undelivered at.page) (browser_rules.most_undelivered at.page)) =
+    subst (λ (x : Reached Browser). ¬ (HasNoRoom (browser_rules.calls_back x.page) n (browser_rules.undelivered x.page) (browser_rules.most_undelivered x.page))) st.here room in
     may (
       omega (arith, found.0, st.next),
       subst (λ (j : ℕ). slice_get (browser_rules.made at.page) j ≡ Some text) position here,
-      subst (λ (j : ℕ). ¬ (HasNoRoom (browser_rules.calls_back at.page) j (browser_rules.undelivered at.page))) (count ∙ position) vacant,
+      subst (λ (j : ℕ). ¬ (HasNoRoom (browser_rules.calls_back at.page) j (browser_rules.undelivered at.page) (browser_rules.most_undelivered at.page))) (count ∙ position) vacant,
     )) in
     subst (λ (j : ℕ). IsServed (made_on d start) (reports_of (before ++ p ∷ [])) j) (sym count)
     ((stepwise (made_on d start) call before p (number, text) is st.served).1 apart)

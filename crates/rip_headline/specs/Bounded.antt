@@ -13,8 +13,8 @@ use Rattle.rip_session.specs.Tasks.{Task}
 abbrev pub PageReplica : Type 0
 PageReplica = Replica Standing PageItems Task Browser
 
--- wherever a session stands at a stage, also where it has ended, its page has the manifest's limits of nodes and of the bytes
--- that wait
+-- wherever a session stands at a stage, also where it has ended, its page has the manifest's limits of nodes, of the bytes that
+-- wait and of the replies that may be undelivered
 abbrev pub PagesHaveLimits : Type 0
 PagesHaveLimits = (app : Loaded) (r : PageReplica) (st : Stage) → StandsAt app r st → HasPageLimits app.manifest.limits r.host
 

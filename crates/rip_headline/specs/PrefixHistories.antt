@@ -79,7 +79,7 @@ comes last turns p = comes_by last p.cost (admission turns p)
 abbrev pub MayBeServedAt : ℕ → Browser → ℕ × List ℕ → Type 0
 MayBeServedAt k s c =
     (c.0 ≡ k) × (slice_get (browser_rules.made s) (k - 1) ≡ Some c.1)
-    × ¬ (HasNoRoom (browser_rules.calls_back s) (k - 1) (browser_rules.undelivered s))
+    × ¬ (HasNoRoom (browser_rules.calls_back s) (k - 1) (browser_rules.undelivered s) (browser_rules.most_undelivered s))
 
 -- of these items, from where a session stands, these calls are served, where the first has this number; so many units were
 -- spent, and `did` is all that the session did by the last turn. An item that is over and fine by then leads to the next,

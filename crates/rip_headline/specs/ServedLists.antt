@@ -48,7 +48,7 @@ pub record AllServed (d : Doing Task Browser) (start : Reached Browser) (items :
 abbrev pub IsFull : Doing Task Browser → Reached Browser → List (Placed Task) → ℕ → Type 0
 IsFull d start items n =
     let s : Browser = (let at = reached d start items in at.page) in
-    HasNoRoom (browser_rules.calls_back s) n (browser_rules.undelivered s)
+    HasNoRoom (browser_rules.calls_back s) n (browser_rules.undelivered s) (browser_rules.most_undelivered s)
 
 -- the units that the batch has spent once these items were played
 abbrev pub spent_on : Doing Task Browser → Reached Browser → ℕ → List (Placed Task) → ℕ

@@ -16,6 +16,7 @@ use Rattle.rip_session.specs.declared.application.Session.{Session}
 use Rattle.rip_replica.specs.Cuts.{CutAfter, StandsDone, StandsEnded}
 use Rattle.rip_session.specs.Application.{IsPageWithin, StandsAt, doing_of, meaning_of_app, runs_of}
 use Rattle.rip_session.specs.Limits.{PassesNoLimit}
+use Rattle.rip_session.specs.Opening.{replies_of}
 use Rattle.rip_headline.specs.declared.limits.counts.Used.{Used}
 use Rattle.rip_headline.specs.Within.{used_in}
 
@@ -24,11 +25,12 @@ pub record IsAllowed (limits : Limits) (u : Used) : Type 0 where
   pub cells : u.cells ≤ limits.cells
   pub units : u.units ≤ limits.units
 
--- the nodes and attributes, the depth and the bytes that wait are too
+-- the nodes and attributes, the depth, the bytes that wait and the undelivered replies are too
 pub record IsPageAllowed (limits : Limits) (u : Used) : Type 0 where
   pub nodes : u.nodes ≤ limits.nodes
   pub depth : u.depth ≤ limits.depth
   pub waiting : u.waiting ≤ limits.queue
+  pub replies : u.replies ≤ replies_of limits
 
 -- these are the counts of the world and the page, and of the depth that is open, in which the last batch of a session is cut after
 -- the units that it got

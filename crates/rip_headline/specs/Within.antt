@@ -6,7 +6,6 @@ use Rattle.rip_eval_rows.specs.declared.step.Phase.{Phase}
 use Rattle.rip_eval_rows.specs.declared.step.Phase.TheVariants.{Asking, Taking, Awaiting, Running, Over}
 use Rattle.rip_machine.specs.Law.{Standing, open_depth}
 use Rattle.rip_host.specs.declared.browser.Browser.{Browser}
-use Rattle.rip_host.specs.Replies.{most_replies}
 use Rattle.rip_replica.specs.declared.replica.Place.{Place}
 use Rattle.rip_replica.specs.Numbers.{open_at}
 use Rattle.rip_headline.specs.declared.limits.counts.Used.{Used}
@@ -31,7 +30,7 @@ used_in w depth s = record {
   nodes = s.dom.used;
   depth = depth;
   waiting = used s.calls;
-  replies = length s.undelivered;
+  replies = length s.undelivered.replies;
 }
 
 -- each is within its limit: that of the heap's cells, of its texts, of the document, of the depth of runs, of the calls that
@@ -42,4 +41,4 @@ pub record IsWithin (u : Used) (w : World) (m : Standing) (s : Browser) : Type 0
   pub nodes : u.nodes ≤ s.dom.limit
   pub depth : u.depth ≤ m.depth
   pub waiting : u.waiting ≤ s.calls.limit
-  pub replies : u.replies ≤ most_replies
+  pub replies : u.replies ≤ s.undelivered.most

@@ -2,8 +2,8 @@
 //!
 //! | law | its definition in `specs/` |
 //! |---|---|
-//! | [`pages_have_limits`] | `Bounded.PagesHaveLimits`: at each stage the page has the manifest's limits of nodes and of the bytes that wait |
-//! | [`pages_pass_no_limit`] | `Bounded.PassesNone`: and passes none, nor more replies than may be undelivered; and no more of the depth is open than the manifest allows |
+//! | [`pages_have_limits`] | `Bounded.PagesHaveLimits`: at each stage the page has the manifest's limits of nodes, of the bytes that wait and of undelivered replies |
+//! | [`pages_pass_no_limit`] | `Bounded.PassesNone`: and passes none; and no more of the depth is open than the manifest allows |
 //!
 //! A layer above may rest on this: what the item that ended a session did to its page stands within the manifest's limits.
 

@@ -45,7 +45,7 @@ use Rattle.rip_host.specs.declared.form_members.FormMember.{FormMember}
 use Rattle.rip_host.specs.declared.form_members.FormMember.TheVariants as member
 use Rattle.rip_host.specs.declared.listening.Handler.{Handler}
 use Rattle.rip_host.specs.declared.listening.Handler.TheVariants.{Ignored, Function, Other}
-use Rattle.rip_host.specs.declared.replies.WaitingReply.{WaitingReply}
+use Rattle.rip_host.specs.Waiting.{Waiting}
 use Rattle.rip_host.specs.declared.owner.Owner.{Owner}
 use Rattle.rip_host.specs.declared.owner.Owner.TheVariants.{Node, Dispatched, Ripley, Nobody}
 use Rattle.rip_host.specs.EventMembers.{event_member_of, prevented, stopped}
@@ -57,9 +57,9 @@ use Rattle.rip_host.specs.Visit.{of_nodes}
 use Rattle.rip_law_browser.proofs.TreeLimits.{call_limit, given_limit, written_limit}
 use Rattle.rip_host.specs.Ripley.{call_callback, call_judged, call_name, call_with, is_array, random_call, random_given, random_of, ripley_call, ripley_member}
 
--- its calls, which replies wait, and the limit of its document
+-- its calls, the replies that wait with the most that may, and the limit of its document
 abbrev Held : Type 0
-Held = Queued × List WaitingReply × ℕ
+Held = Queued × Waiting × ℕ
 
 abbrev held : Browser → Held
 held s = (s.calls, s.undelivered, (let t = s.dom in t.limit))
@@ -67,9 +67,9 @@ held s = (s.calls, s.undelivered, (let t = s.dom in t.limit))
 abbrev kept : HostDone × World × Browser → Held
 kept a = held a.2
 
--- how many it counts, which wait, and both limits
+-- how many it counts, which wait with the most that may, and both other limits
 abbrev Counts : Type 0
-Counts = ℕ × List WaitingReply × ℕ × ℕ
+Counts = ℕ × Waiting × ℕ × ℕ
 
 abbrev count : Held → Counts
 count h = ((let c = h.0 in c.taken), h.1, h.2, (let c = h.0 in c.limit))
@@ -323,4 +323,9 @@ replies_stay s w r = ap (λ (k : Counts). k.1) (answers_same s w r)
 pub limits_stay : (s : Browser) (w : World) (r : Request)
     → ((let a = answers s w r in let t = a.2 in let d = t.dom in d.limit) ≡ (let d = s.dom in d.limit))
     × ((let a = answers s w r in let t = a.2 in let c = t.calls in c.limit) ≡ (let c = s.calls in c.limit))
-limits_stay s w r = (ap (λ (k : Counts). k.2) (answers_same s w r), ap (λ (k : Counts). k.3) (answers_same s w r))
+    × ((let a = answers s w r in let t = a.2 in let u = t.undelivered in u.most) ≡ (let u = s.undelivered in u.most))
+limits_stay s w r = (
+  ap (λ (k : Counts). k.2) (answers_same s w r),
+  ap (λ (k : Counts). k.3) (answers_same s w r),
+  ap (λ (u : Waiting). u.most) (replies_stay s w r),
+)

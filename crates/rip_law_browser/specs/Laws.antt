@@ -8,11 +8,13 @@ use Rattle.rip_host.specs.Answers.{answers}
 use Rattle.rip_host.specs.declared.browser.Browser.{Browser}
 use Rattle.rip_wire.specs.Calls.{IsCallText}
 
--- no answer of a browser changes the limit of the nodes of its document, nor that of the bytes of the calls that wait
+-- no answer of a browser changes the limit of the nodes of its document, nor that of the bytes of the calls that wait, nor that
+-- of the replies that wait
 abbrev pub LimitsStay : Type 0
 LimitsStay = (s : Browser) (w : World) (r : Request)
     → ((let a = answers s w r in let t = a.2 in let d = t.dom in d.limit) ≡ (let d = s.dom in d.limit))
     × ((let a = answers s w r in let t = a.2 in let c = t.calls in c.limit) ≡ (let c = s.calls in c.limit))
+    × ((let a = answers s w r in let t = a.2 in let u = t.undelivered in u.most) ≡ (let u = s.undelivered in u.most))
 
 -- each call that was made has the text of a call in range
 abbrev pub AreMadeInRange : Calls → Type 0

@@ -69,7 +69,7 @@ abbrev pub Shown : Type 1
 Shown = Calls → List WaitingReply → Type 0
 
 abbrev pub Shows : Shown → Browser → Type 0
-Shows Q s = Q s.calls s.undelivered
+Shows Q s = Q s.calls s.undelivered.replies
 
 abbrev Next : Shown → Going → Type 0
 Next Q next = (x : World) (r : Browser) → Shows Q r → HasPlan (Shows Q) (next x r)
@@ -144,14 +144,14 @@ handed_has Q item callback (Ok v, x) w s r h = (h, fine_has Q)
 handed_has Q item callback (Err limit, x) w s r h = h
 
 -- where one is delivered, the page shows it without that too
-pub due_has : (Q : Shown) (item : ℕ) (o : Option WaitingReply) (s : Browser) (w : World) (batch number : ℕ) → Shows Q s → Q s.calls (without_due number batch s.undelivered)
+pub due_has : (Q : Shown) (item : ℕ) (o : Option WaitingReply) (s : Browser) (w : World) (batch number : ℕ) → Shows Q s → Q s.calls (without_due number batch s.undelivered.replies)
     → HasPlan (Shows Q) (reply_plan item (delivery o s w batch number) w s)
 due_has Q item None s w batch number h g = h
 due_has Q item (Some r) s w batch number h g = handed_has Q item r.callback (made_value r.reply w) w s (taken_out number batch r s) g
 
-pub reply_has : (Q : Shown) (item : ℕ) (s : Browser) (w : World) (batch number : ℕ) → Shows Q s → Q s.calls (without_due number batch s.undelivered)
+pub reply_has : (Q : Shown) (item : ℕ) (s : Browser) (w : World) (batch number : ℕ) → Shows Q s → Q s.calls (without_due number batch s.undelivered.replies)
     → HasPlan (Shows Q) (reply_plan item (delivered s w batch number) w s)
-reply_has Q item s w batch number h g = due_has Q item (due number batch s.undelivered) s w batch number h g
+reply_has Q item s w batch number h g = due_has Q item (due number batch s.undelivered.replies) s w batch number h g
 
 -- ---- the opening
 

@@ -15,7 +15,6 @@ use Rattle.rip_heap.specs.World.{World, empty_world}
 use Rattle.rip_dom.specs.Opening.{Opening, attribute_step, attributes_in, count_of_nodes, count_of_units, node_step, nodes_in, no_tree, with_name}
 use Rattle.rip_dom.proofs.OpeningLemmas.{bare_step, node-counts}
 use Rattle.rip_calls.specs.Calls.{used}
-use Rattle.rip_host.specs.Replies.{most_replies}
 use Rattle.rip_eval_rows.specs.Evaluation.{Evaluation}
 use Rattle.rip_replica.specs.Going.{depth_in}
 use Rattle.rip_machine.specs.Law.{Standing}
@@ -129,7 +128,7 @@ opens-either limits true x y f g = f
 opens-either limits false x y f g = g
 
 document-limits : (limits : Limits) (w : World) (nodes : List PageNode) (seed : ℕ) (time : ℤ) → HasPageLimits limits (browser_of (document_of nodes limits w.pool) nodes limits seed time)
-document-limits limits w nodes seed time = record { nodes = nodes-limit (record { pool = w.pool; tree = no_tree limits.nodes }) nodes; queue = refl }
+document-limits limits w nodes seed time = record { nodes = nodes-limit (record { pool = w.pool; tree = no_tree limits.nodes }) nodes; queue = refl; replies = refl }
 
 page-opens : (app : Loaded) (w : World) (s : Browser) → HasPageLimits app.manifest.limits s → OpensWithin app.manifest.limits (with_page app w s)
 page-opens app w s h =
@@ -139,7 +138,7 @@ page-opens app w s h =
     (record { page = h; depth = refl; room = loaded-room app w }) (record { page = h; depth = refl; room = idle-room app.manifest.limits })
 
 no-page-opens : (app : Loaded) (limit : Limit) (w : World) (seed : ℕ) (time : ℤ) → OpensWithin app.manifest.limits (without_page app limit w seed time)
-no-page-opens app limit w seed time = record { page = record { nodes = refl; queue = refl }; depth = refl; room = idle-room app.manifest.limits }
+no-page-opens app limit w seed time = record { page = record { nodes = refl; queue = refl; replies = refl }; depth = refl; room = idle-room app.manifest.limits }
 
 scope-opens : (app : Loaded) (w : World) (seed : ℕ) (time : ℤ) → OpensWithin app.manifest.limits (with_scope app w seed time)
 scope-opens app w seed time =
@@ -168,14 +167,14 @@ opened-room app seed time = (let opens = scope-by-opens app seed time (top_scope
 
 -- one that passes no limit of its own passes none of these
 pub page-within : (limits : Limits) (e : Evaluation Standing Browser) (r : Replica Standing PageItems Task Browser) → HasPageLimits limits r.host
-    → (let t = (let s = r.host in s.dom) in t.used ≤ t.limit) → (let c = (let s = r.host in s.calls) in used c ≤ c.limit) → length (let s = r.host in s.undelivered) ≤ most_replies
+    → (let t = (let s = r.host in s.dom) in t.used ≤ t.limit) → (let c = (let s = r.host in s.calls) in used c ≤ c.limit) → (let u = (let s = r.host in s.undelivered) in length u.replies ≤ u.most)
     → open_of e r ≤ limits.depth → IsPageWithin limits e r
 page-within limits e r h nodes waiting replies depth = record {
   has = h;
   within = record {
     nodes = subst (λ n. (let t = (let s = r.host in s.dom) in t.used) ≤ n) h.nodes nodes;
     waiting = subst (λ n. used (let s = r.host in s.calls) ≤ n) h.queue waiting;
-    replies = replies;
+    replies = subst (λ n. (let u = (let s = r.host in s.undelivered) in length u.replies) ≤ n) h.replies replies;
     depth = depth;
   };
 }

@@ -17,7 +17,6 @@ use Rattle.rip_eval_rows.specs.Evaluation.{reached}
 use Rattle.rip_eval_rows.specs.Run.{Answer, Completes, Stops, Cuts}
 use Rattle.rip_history.specs.declared.sessions.Slice.{Slice}
 use Rattle.rip_host.specs.declared.browser.Browser.{Browser}
-use Rattle.rip_host.specs.Replies.{most_replies}
 use Rattle.rip_machine.specs.Law.{Standing, loaded}
 use Rattle.rip_machine.specs.Run.{run_from}
 use Rattle.rip_machine.specs.Plans.{HasRoom, evaluation}
@@ -106,18 +105,21 @@ rooms-stay Busy this lives h = h
 rooms-stay (Finished None) this lives h = h
 rooms-stay (Finished (Some how)) this lives h = absurd lives
 
--- both limits, as numbers of a page
-abbrev pub of_nodes : ℕ → ℕ → ℕ
-of_nodes nodes bytes = nodes
+-- its limits, as numbers of a page
+abbrev pub of_nodes : ℕ → ℕ → ℕ → ℕ
+of_nodes nodes bytes replies = nodes
 
-abbrev of_bytes : ℕ → ℕ → ℕ
-of_bytes nodes bytes = bytes
+abbrev of_bytes : ℕ → ℕ → ℕ → ℕ
+of_bytes nodes bytes replies = bytes
+
+abbrev of_replies : ℕ → ℕ → ℕ → ℕ
+of_replies nodes bytes replies = replies
 
 -- what the page of a session does not pass by itself
 pub record PassesNoneOfItsOwn (s : Browser) : Type 0 where
   pub nodes : s.dom.used ≤ s.dom.limit
   pub waiting : used s.calls ≤ s.calls.limit
-  pub replies : length s.undelivered ≤ most_replies
+  pub replies : length s.undelivered.replies ≤ s.undelivered.most
 
 -- what is known of the page of a session after a slice
 pub record KeepsPage (app : Loaded) (code : Code) (st : Stage) (progress : Progress) (r s : Replica Standing PageItems Task Browser) : Type 0 where
@@ -141,7 +143,7 @@ nests app seed time start w s fuel u =
     let answer : Answer Browser = run_from answers (loaded app.program m) m.depth start w s fuel u in
     subst (λ (most : ℕ). PausesWithin most (reached m.depth answer)) (opened-depth app seed (moment_of time)) (within-reached m.depth answer)
 
-pub served-stays : (f : ℕ → ℕ → ℕ) → KeepsServed served (shown f)
+pub served-stays : (f : ℕ → ℕ → ℕ → ℕ) → KeepsServed served (shown f)
 served-stays f batch g s = refl
 
 -- one whose batch is not done is not ended
@@ -175,9 +177,11 @@ page-on app code st progress r s e at undone keeps lives =
     number-stays progress (shown of_nodes r.host) (shown of_nodes s.host) lives (keeps.number (shown of_nodes) (steps_stay of_nodes code) (served-stays of_nodes)) in
     let same-queue : shown of_bytes s.host ≡ shown of_bytes r.host =
     number-stays progress (shown of_bytes r.host) (shown of_bytes s.host) lives (keeps.number (shown of_bytes) (steps_stay of_bytes code) (served-stays of_bytes)) in
+    let same-replies : shown of_replies s.host ≡ shown of_replies r.host =
+    number-stays progress (shown of_replies r.host) (shown of_replies s.host) lives (keeps.number (shown of_replies) (steps_stay of_replies code) (served-stays of_replies)) in
     let depth : open_of (runs_of app) s ≤ app.manifest.limits.depth =
     depth-stays progress (open_of (runs_of app) s) app.manifest.limits.depth lives (keeps.depth stage undone (nests app st.seed st.time) old.within.depth) in
-    page-within app.manifest.limits (runs_of app) s (record { nodes = same-nodes ∙ old.has.nodes; queue = same-queue ∙ old.has.queue })
+    page-within app.manifest.limits (runs_of app) s (record { nodes = same-nodes ∙ old.has.nodes; queue = same-queue ∙ old.has.queue; replies = same-replies ∙ old.has.replies })
     keeps.passes.nodes keeps.passes.waiting keeps.passes.replies depth
 
 -- the rooms of one that goes on

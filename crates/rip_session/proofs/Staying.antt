@@ -1,5 +1,5 @@
 -- The limits of a browser's document and of its calls stay, whatever its session does.
-use Rattle.std.proofs.Common.{◌≡◌, ℕ, zero, suc, ◌+◌, ◌-◌, Bool, true, false, List, [], ◌∷◌, length, Option, None, Some, Ok, Err, if◌then◌else◌, refl, ap₂, ◌∙◌}
+use Rattle.std.proofs.Common.{◌≡◌, ℕ, zero, suc, ◌+◌, ◌-◌, Bool, true, false, List, [], ◌∷◌, length, Option, None, Some, Ok, Err, if◌then◌else◌, refl, ◌∙◌}
 use Rattle.rip_base.specs.declared.report.BadReport.{BadReport}
 use Rattle.rip_base.specs.declared.report.Report.{Report}
 use Rattle.rip_base.specs.declared.value.Limit.TheVariants.{Units}
@@ -56,11 +56,11 @@ use Rattle.rip_session.specs.Tasks.{Task, opens, reports, item_of}
 use Rattle.rip_law_browser.proofs.KeepsAnswers.{limits_stay}
 use Rattle.rip_law_browser.proofs.KeepsRuns.{HasReached, left_has}
 
--- what a page shows by both limits
-abbrev pub shown : (ℕ → ℕ → ℕ) → Browser → ℕ
-shown f s = f (let t = s.dom in t.limit) (let c = s.calls in c.limit)
+-- what a page shows by its limits
+abbrev pub shown : (ℕ → ℕ → ℕ → ℕ) → Browser → ℕ
+shown f s = f (let t = s.dom in t.limit) (let c = s.calls in c.limit) (let u = s.undelivered in u.most)
 
-module _ (f : ℕ → ℕ → ℕ) where
+module _ (f : ℕ → ℕ → ℕ → ℕ) where
   -- no plan that begins so changes it before its first step
   abbrev Stays : Going → Type 0
   Stays go = (w : World) (s : Browser) → shown f (host_begun (go w s)) ≡ shown f s
@@ -165,7 +165,7 @@ module _ (f : ℕ → ℕ → ℕ) where
   item_stays : (batch : ℕ) (i : Item) (n : ℕ) (w : World) (s : Browser) → shown f (host_begun (item_plan browser_rules batch i n w s)) ≡ shown f s
   item_stays batch (item.Event report) n w s = judged_stays (refusal_of w.pool s.dom report) s w report n fine fine_stays
   item_stays batch (item.Call number text) n w s = call_stays n (position_of s number text) w s
-  item_stays batch (item.Reply number) n w s = due_stays n (due number batch s.undelivered) s w batch number
+  item_stays batch (item.Reply number) n w s = due_stays n (due number batch s.undelivered.replies) s w batch number
 
   left_item_stays : (batch : ℕ) (flowing : Flow) (u : UnderWay) (i : Item) (n : ℕ) (w : World) (s : Browser) → shown f (host_begun (left_of_item browser_rules batch flowing u i n w s)) ≡ shown f s
   left_item_stays batch flowing under.Fresh i n w s = item_stays batch i n w s
@@ -202,7 +202,7 @@ module _ (f : ℕ → ℕ → ℕ) where
   work_stays p (reports r) n w s = left_item_stays (let b = p.batches in b.batch) (let b = p.batches in b.flow) (let b = p.batches in b.under_way) (item_of r) n w s
 
   answers_stay : (s : Browser) (w : World) (r : Request) → shown f (let a = answers s w r in a.2) ≡ shown f s
-  answers_stay s w r = let stay = limits_stay s w r in ap₂ f stay.0 stay.1
+  answers_stay s w r = let stay = limits_stay s w r in λ i. f (stay.0 i) (stay.1 i) (stay.2 i)
 
   reached_shown : (r : Reached Browser) (k : ℕ) → HasReached (λ (s : Browser). shown f s ≡ k) r → shown f (host_reached r) ≡ k
   reached_shown (Passes u w s) k h = h

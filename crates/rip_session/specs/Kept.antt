@@ -29,7 +29,7 @@ pub record GoesWith (s : Browser) (w : World) : Type 0 where
   pub event_nodes : All AreNodes s.events.events
   pub listeners_on_nodes : All (λ l. l.node < first_node) s.listeners.registered
   pub callbacks : All (λ m. IfSome m.callback (λ f. is_kept w f ≡ true)) s.calls.made
-  pub reply_callbacks : All (λ r. is_kept w r.callback ≡ true) s.undelivered
+  pub reply_callbacks : All (λ r. is_kept w r.callback ≡ true) s.undelivered.replies
 
 kept-belongs : (w : World) (f : ℕ) → Belongs w (Object f) → is_kept w f ≡ true
 kept-belongs w f (inl made) = or_left _ _ (lt-ltb f (first_object + length w.objects) made)
@@ -69,7 +69,7 @@ goes-fits s w f = record {
   event_nodes = f.event_nodes;
   listeners_on_nodes = f.listeners_on_nodes;
   callbacks = λ k d lt. some-kept w (slice_index_or s.calls.made k d).callback (f.callbacks k d lt);
-  reply_callbacks = λ k d lt. kept-belongs w (slice_index_or s.undelivered k d).callback (f.reply_callbacks k d lt);
+  reply_callbacks = λ k d lt. kept-belongs w (slice_index_or s.undelivered.replies k d).callback (f.reply_callbacks k d lt);
 }
 
 pub fits-goes : (s : Browser) (w : World) → GoesWith s w → Fits s w
@@ -88,5 +88,5 @@ fits-goes s w g = record {
   event_nodes = g.event_nodes;
   listeners_on_nodes = g.listeners_on_nodes;
   callbacks = λ k d lt. some-belongs w (slice_index_or s.calls.made k d).callback (g.callbacks k d lt);
-  reply_callbacks = λ k d lt. belongs-kept w (slice_index_or s.undelivered k d).callback (g.reply_callbacks k d lt);
+  reply_callbacks = λ k d lt. belongs-kept w (slice_index_or s.undelivered.replies k d).callback (g.reply_callbacks k d lt);
 }

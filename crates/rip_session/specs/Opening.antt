@@ -16,6 +16,7 @@ use Rattle.rip_dom.specs.Opening.{Opening, count_of_nodes, count_of_units, no_tr
 use Rattle.rip_forms.specs.States.{no_states}
 use Rattle.rip_host.specs.declared.browser.Browser.{Browser}
 use Rattle.rip_host.specs.Opening.{body_from}
+use Rattle.rip_host.specs.Waiting.{none_waits}
 use Rattle.rip_eval_rows.specs.declared.completion.Completion.TheVariants.{Normal}
 use Rattle.rip_eval_rows.specs.declared.next.Control.TheVariants.{Give}
 use Rattle.rip_machine.specs.Law.{Standing}
@@ -24,11 +25,15 @@ use Rattle.rip_browser.specs.declared.opening.Start.TheVariants.{Passes, Loads}
 use Rattle.rip_session.specs.declared.opening.Opened.{Opened}
 
 -- the longest text that a run makes, in units
-abbrev pub longest_text : ℕ
-longest_text = 65535
+abbrev pub text_of : Limits → ℕ
+text_of limits = 65535
+
+-- the most replies that may be undelivered
+abbrev pub replies_of : Limits → ℕ
+replies_of limits = 64
 
 abbrev pub heap_limits : Limits → HeapLimits
-heap_limits limits = record { cells = limits.cells; units = limits.units; text = longest_text }
+heap_limits limits = record { cells = limits.cells; units = limits.units; text = text_of limits }
 
 -- the world with nothing but the top scope, which binds the names of the program, or none where its charge would pass the
 -- limit
@@ -51,7 +56,7 @@ browser_of d nodes limits seed time = record {
   listeners = record { limit = limits.cells + 1; nodes = d.tree.limit; registered = []; standing = [] };
   events = record { limit = limits.cells; events = [] };
   calls = none_made limits.queue;
-  undelivered = [];
+  undelivered = none_waits (replies_of limits);
   row = tt;
   moment = time;
   random = seed;

@@ -1,13 +1,14 @@
 -- When a reported call may be served, and the browser after it.
-use Rattle.std.specs.Prelude.{ℕ, ℤ, pos, ◌+◌, ◌^◌, ◌&&◌, ◌||◌, Bool, is_none, length, min, nat_lt}
+use Rattle.std.specs.Prelude.{ℕ, ℤ, pos, ◌+◌, ◌^◌, ◌&&◌, ◌||◌, Bool, is_none, length, min, nat_lt, not}
 use Rattle.rip_calls.specs.Calls.{front_callback}
 use Rattle.rip_history.specs.Parts.{Given}
 use Rattle.rip_host.specs.declared.browser.Browser.{Browser}
-use Rattle.rip_host.specs.Replies.{call_served, most_replies}
+use Rattle.rip_host.specs.Replies.{call_served}
+use Rattle.rip_host.specs.Waiting.{is_full}
 
 -- the call that is next has no callback, or its reply may wait
 abbrev pub has_room : Browser → Bool
-has_room s = is_none (front_callback s.calls) || nat_lt (length s.undelivered) most_replies
+has_room s = is_none (front_callback s.calls) || not (is_full s.undelivered)
 
 -- a call waits, its number fits 64 bits, and there is room for its reply
 abbrev pub may_serve : Browser → Bool

@@ -1,9 +1,9 @@
 -- The plans of items have the shapes of what the items come to: a call alone waits or ends with a mismatch, and no other takes a
 -- unit but for fuel.
 use Rattle.std.proofs.Common.{◌≡◌, ℕ, zero, suc, ◌+◌, ◌-◌, ◌<◌, ◌≤◌, ◌^◌, Bool, true, false, not, ◌&&◌, ◌||◌, ◌==◌, List, [], ◌∷◌, Option, None, Some, drop, length, refl, sym, ap, subst}
-use Rattle.std.specs.Prelude.{is_none, is_some, min, nat_le, nat_lt, option_map, slice_get, if◌then◌else◌}
+use Rattle.std.specs.Prelude.{is_none, is_some, min, nat_lt, option_map, slice_get, if◌then◌else◌}
 use Rattle.std.proofs.Math.Nat.{min-le_right, suc-le-suc_iff, zero-lt-suc}
-use Rattle.std.proofs.lemmas.Bool.{and_from, eqb-true, leb-false, lt-ltb, true≢false}
+use Rattle.std.proofs.lemmas.Bool.{and_from, eqb-true, lt-ltb, true≢false}
 use Rattle.rip_base.specs.declared.report.BadReport.{BadReport}
 use Rattle.rip_base.specs.declared.report.Report.{Report}
 use Rattle.rip_base.specs.declared.value.Span.{Span}
@@ -17,6 +17,7 @@ use Rattle.rip_replica.specs.declared.items.page_host.Position.TheVariants as po
 use Rattle.rip_replica.specs.Items.{call_plan, fine, reply_plan}
 use Rattle.rip_replica.specs.Rules.{CallsBack, Delivered, NotDue, ReplyPasses}
 use Rattle.rip_host.specs.declared.browser.Browser.{Browser}
+use Rattle.rip_host.specs.Waiting.{is_full}
 use Rattle.rip_host.specs.Flow.{along, called, calls_at, event_opened, flow, flow_of, is_stopped, over, reached, standing, unless_stopped}
 use Rattle.rip_host.specs.EventMembers.{bubbles}
 use Rattle.rip_events.specs.Flow.{stations}
@@ -127,9 +128,10 @@ served-parts true false c e = absurd (true≢false (sym (ap is-served e)))
 served-parts true true true e = absurd (true≢false (sym (ap is-served e)))
 served-parts true true false e = (refl, refl, refl)
 
-room-there : (o : Option ℕ) (u : ℕ) → (is_some o && nat_le 64 u) ≡ false → (is_none o || nat_lt u 64) ≡ true
-room-there None u e = refl
-room-there (Some f) u e = lt-ltb u 64 (leb-false 64 u e)
+room-there : (o : Option ℕ) (full : Bool) → (is_some o && full) ≡ false → (is_none o || not full) ≡ true
+room-there None full e = refl
+room-there (Some f) false e = refl
+room-there (Some f) true e = absurd (true≢false e)
 
 waits-there : (made : List MadeCall) (k : ℕ) (text : List ℕ) → is_text (option_map (λ m. m.text) (slice_get (drop k made) 0)) text ≡ true → k < length made
 waits-there [] zero text e = absurd (true≢false (sym e))
@@ -140,15 +142,15 @@ waits-there (m ∷ ms) (suc k) text e = (let more = suc-le-suc_iff {n = suc k} {
 -- a reported call that stands to be served may be
 served-may : (s : Browser) (number : ℕ) (text : List ℕ) → position_of s (number_at number) text ≡ position.Served → may_serve s ≡ true
 served-may s number text e =
-    let parts : (((number_at number) == (s.calls.taken + 1)) ≡ true) × (is_text (front_text s.calls) text ≡ true) × ((is_some (front_callback s.calls) && nat_le 64 (length s.undelivered)) ≡ false) =
-    served-parts ((number_at number) == (s.calls.taken + 1)) (is_text (front_text s.calls) text) (is_some (front_callback s.calls) && nat_le 64 (length s.undelivered)) e in
+    let parts : (((number_at number) == (s.calls.taken + 1)) ≡ true) × (is_text (front_text s.calls) text ≡ true) × ((is_some (front_callback s.calls) && is_full s.undelivered) ≡ false) =
+    served-parts ((number_at number) == (s.calls.taken + 1)) (is_text (front_text s.calls) text) (is_some (front_callback s.calls) && is_full s.undelivered) e in
     let next : min number (2 ^ 64 - 1) ≡ s.calls.taken + 1 = eqb-true (number_at number) (s.calls.taken + 1) parts.0 in
     let most : s.calls.taken + 1 ≤ 2 ^ 64 - 1 = subst (λ (n : ℕ). n ≤ 2 ^ 64 - 1) next (min-le_right number (2 ^ 64 - 1)) in
     let few : s.calls.taken + 1 < 2 ^ 64 = (let more = suc-le-suc_iff {n = s.calls.taken + 1} {m = 2 ^ 64 - 1} in more.1 most) in
     and_from _ _
     (and_from _ _ (lt-ltb (s.calls.taken + 1) (2 ^ 64) few)
     (lt-ltb s.calls.taken (length s.calls.made) (waits-there s.calls.made s.calls.taken text parts.1)))
-    (room-there (front_callback s.calls) (length s.undelivered) parts.2)
+    (room-there (front_callback s.calls) (is_full s.undelivered) parts.2)
 
 call-shape : (p : Position) (item : ℕ) (w : World) (s : Browser) → (p ≡ position.Served → may_serve s ≡ true) → IsCallPlan may_serve (call_plan item p w s)
 call-shape position.NotNext item w s h = λ e. true≢false (sym (ap is_fine e))

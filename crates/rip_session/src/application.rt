@@ -1,7 +1,6 @@
 ghost use Rattle.std.specs.Prelude.{◌≡◌, ◌≤◌, ℕ, false, length, List, Some};
 ghost use Rattle.std.proofs.Props.{props};
 ghost use Rattle.rip_calls.specs.Calls.{used};
-ghost use Rattle.rip_host.specs.Replies.{most_replies};
 ghost use Rattle.rip_wire.specs.declared.ending.Ending.{Ending as Ends};
 ghost use Rattle.rip_history.specs.Services.{Called, Service as Meant};
 ghost use Rattle.rip_history.specs.Stages.{Resumed, Stage, is_done};
@@ -157,7 +156,7 @@ fn is_within(heap: &Heap)
 fn is_page_within(page: &Browser)
     ensures nodes { page.now.dom.used ≤ page.now.dom.limit }
     ensures waiting { used page.now.calls ≤ page.now.calls.limit }
-    ensures replies { length page.now.undelivered ≤ most_replies }
+    ensures replies { length page.now.undelivered.replies ≤ page.now.undelivered.most }
 {
     let _ = page.dom.used();
     let _ = page.calls.used();

@@ -1,7 +1,7 @@
 ghost use Rattle.std.specs.Prelude.{◌≡◌};
 ghost use Rattle.rip_session.specs.Serving.{has_room, may_serve, moment_of};
 
-use rip_base::{MAX_WHOLE, MOST_REPLIES, Whole};
+use rip_base::{MAX_WHOLE, Whole};
 use rip_host::Browser;
 
 /// Whether a call waits that may be served.
@@ -16,7 +16,7 @@ pub(crate) fn may_serve(browser: &Browser) -> bool
 fn has_room(browser: &Browser) -> bool
     ensures { result ≡ has_room browser.now }
 {
-    browser.calls.front_callback().is_none() || browser.undelivered.count() < MOST_REPLIES
+    browser.calls.front_callback().is_none() || !browser.undelivered.is_full()
 }
 
 /// The moment of so many milliseconds; the last moment stands for those past it.

@@ -20,7 +20,7 @@ returns-clause-page c = λ app st at lives.
     let n = r.runner in
     let depth = subst (λ (d : ℕ). d ≤ app.manifest.limits.depth) (same_open app r.place n.evaluator n.phase) page.within.depth in
     subst (λ (u : Used). IsPageAllowed app.manifest.limits u) (sym c.used_by.ensures.used)
-    (record { nodes = page.within.nodes; depth = depth; waiting = page.within.waiting })
+    (record { nodes = page.within.nodes; depth = depth; waiting = page.within.waiting; replies = page.within.replies })
 
 pub returns-clause-cut : goal.returns-clause-cut
 returns-clause-cut c = λ app st at undone.
