@@ -27,7 +27,8 @@ use Rattle.rip_client.specs.Wholes.{IsDoing, IsWhole, calls_behind, given_for}
 use Rattle.rip_client.specs.declared.whole.play.Over.{Over as Outcome}
 use Rattle.rip_law_served.specs.Honest.{next_in}
 use Rattle.rip_drive.specs.Actors.{Does, IsBegun, IsOpened, OpensPage, Replicas, Sits, page_session, seat_of}
-use Rattle.rip_drive.specs.Driving.{IsPlayed, driven}
+use Rattle.rip_law_replica.specs.Truthful.{IsAny, IsPlayed}
+use Rattle.rip_drive.specs.Driving.{driven, replies_at_once}
 use Rattle.rip_drive.specs.declared.page_actor.PageActor.{PageActor}
 use Rattle.rip_drive.proofs.Simulation.{Follows}
 
@@ -156,7 +157,7 @@ last_of (y ∷ xs) x = last_of xs x
 -- an item of a batch
 pub played_so : (app : Loaded) (code : Code) (item : Reported) (o r q : Replicas) (g h : Store) (over : Outcome) → code ≡ app.program → Put (reports item) o r → PlayedNext code r g over q h
     → (d : Doing Task Browser) (service : Service) (calls : List Called) → Sits app d o → RepliesAs g service calls
-    → (behind : List Called) × IsPlayed d reports service item (seat_of o) calls (record { close = over.close; fuel = over.fuel }) (seat_of q) behind × Sits app d q × RepliesAs h service behind
+    → (behind : List Called) × IsPlayed d reports (replies_at_once service) IsAny item (seat_of o) calls (record { close = over.close; fuel = over.fuel }) (seat_of q) behind × Sits app d q × RepliesAs h service behind
 unfolding Does
 played_so app code item o r q g h over e put p d service calls sits replies =
     let does : Does app d r = record {
@@ -179,7 +180,8 @@ played_so app code item o r q g h over e put p d service calls sits replies =
         is = subst (λ (f : Task → Fact). IsWhole d o.number (reports item) (o.runner.planner.begun + 1) o.heap o.host (given f) over q.heap q.host) (sym sits.does.facts) page;
         batch = p.number ∙ put.number;
         count = p.begun ∙ ap (λ n. n + 1) put.begun;
-        called = ap (λ (f : Task → Fact). calls_behind (f (reports item)) over.close calls) (sym sits.does.facts);
+        given = ap (λ (f : Task → Fact). calls_behind (f (reports item)) over.close calls) (sym sits.does.facts);
+        legal = tt;
       },
       record {
         does = does_next app code d r q g h over e does p;

@@ -18,9 +18,9 @@ use Rattle.rip_client.specs.Wholes.{IsDoing}
 use Rattle.rip_client.specs.declared.whole.play.Over.{Over as Outcome}
 use Rattle.rip_client.specs.Truth.{Playing}
 use Rattle.rip_client.specs.declared.actor.Over.{Over}
-use Rattle.rip_law_replica.specs.Truthful.{Seat}
+use Rattle.rip_law_replica.specs.Truthful.{IsAny, IsPlayed, Seat}
 use Rattle.rip_law_served.specs.Honest.{next_in}
-use Rattle.rip_drive.specs.Driving.{IsPlayed, Opens}
+use Rattle.rip_drive.specs.Driving.{Opens, replies_at_once}
 use Rattle.rip_drive.specs.declared.page_actor.PageActor.{PageActor}
 
 abbrev pub Replicas : Type 0
@@ -81,7 +81,7 @@ TurnsSo n a b =
 abbrev pub PlaysSo : Reported → PageActor → Store → Over → PageActor → Store → Type 0
 PlaysSo item a g over b h =
     (d : Doing Task Browser) (service : Service) (calls : List Called) → Sits a.app d a.session.replica → RepliesAs g service calls
-    → (behind : List Called) × IsPlayed d reports service item (seat_of a.session.replica) calls over (seat_of b.session.replica) behind
+    → (behind : List Called) × IsPlayed d reports (replies_at_once service) IsAny item (seat_of a.session.replica) calls over (seat_of b.session.replica) behind
     × Sits b.app d b.session.replica × RepliesAs h service behind
 
 -- how it goes

@@ -17,9 +17,8 @@ use Rattle.rip_client.specs.Wholes.{IsWhole, calls_behind, given_for}
 use Rattle.rip_client.specs.declared.whole.play.Over.{Over as Outcome}
 use Rattle.rip_session.specs.Tasks.{reports}
 use Rattle.rip_session.specs.Application.{doing_of}
-use Rattle.rip_client.specs.declared.actor.Over.{Over}
 use Rattle.rip_client.specs.Truth.{Playing, TellsGesture, Waiting}
-use Rattle.rip_law_replica.specs.Truthful.{Seat}
+use Rattle.rip_law_replica.specs.Truthful.{Giving, IsAny, Seat, playing_of}
 use Rattle.rip_law_served.specs.Honest.{next_in}
 use Rattle.rip_trace.specs.declared.gestures.LinedGesture.{LinedGesture}
 use Rattle.rip_trace.specs.Said.{batch_line, ended_line, opening_lines}
@@ -28,22 +27,16 @@ use Rattle.rip_drive.specs.declared.driver.DriveRefusal.TheVariants as refusal
 
 -- ---- a session that is driven
 
--- an item is played whole where the session stands, at moment 0, and comes out so: a call that is served is given the reply
--- of the service, which was called for these before, and for those behind
-pub record IsPlayed {A S : Type 0} (d : Doing A S) (task : Reported → A) (service : Service) (item : Reported) (a : Seat S) (calls : List Called) (over : Over) (b : Seat S) (behind : List Called) : Type 0 where
-  pub is : IsWhole d a.batch (task item) (a.count + 1) a.world a.page (given_for service calls 0 (d.fact (task item))) (record { close = over.close; fuel = over.fuel }) b.world b.page
-  pub batch : b.batch ≡ a.batch
-  pub count : b.count ≡ a.count + 1
-  pub called : behind ≡ calls_behind (d.fact (task item)) over.close calls
-
--- a session in which this is done, where these are the items that report, this is the call that is read off a page as the
--- next, and this service replies
-abbrev pub driven : {A S : Type 0} → Doing A S → (Reported → A) → (S → Option Waiting) → Service → Playing (Seat S) (List Called)
-driven d task next service = record {
-  turns = λ n a b. b ≡ record a { batch = n; count = 0 };
-  plays = λ item a calls over b behind. IsPlayed d task service item a calls over b behind;
-  next = λ a. next a.page;
+-- a service gives replies at moment 0, where it was called for these before
+abbrev pub replies_at_once : Service → Giving (List Called)
+replies_at_once service = record {
+  gives = λ fact calls. given_for service calls 0 fact;
+  behind = calls_behind;
 }
+
+-- a session of a client that is given these replies; of its items nothing is asked, since driving says how it ends
+abbrev pub driven : {A S : Type 0} → Doing A S → (Reported → A) → (S → Option Waiting) → Service → Playing (Seat S) (List Called)
+driven d task next service = playing_of d task next (replies_at_once service) IsAny
 
 -- ---- how driving ends
 

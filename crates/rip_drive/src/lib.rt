@@ -7,7 +7,7 @@
 //!
 //! | what | its definition in `specs/` |
 //! |---|---|
-//! | an item that is played, and whose call is given its reply | `Driving.IsPlayed`, by `rip_client::whole`'s `Wholes.IsWhole` |
+//! | a session of a client whose calls are given the replies of a service at moment 0 | `Driving.driven`, by `rip_law_replica::truth`'s `Truthful.playing_of` |
 //! | what gestures come to, from a client on | `Driving.Drives`, by `rip_client`'s `Truth.TellsGesture` |
 //! | how that ends: whole, stopped at a line, or refused at a line | `Driving.End` |
 //! | what the gestures of an application come to, from seed 3 and at moment 0 | `Driving.DrivesApp` |

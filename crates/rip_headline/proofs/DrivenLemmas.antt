@@ -1,4 +1,4 @@
--- That what is driven is a truthful report, and is served.
+-- That what is driven is what an honest client tells, and is served.
 use Rattle.std.proofs.Common.{◌≡◌, ◌≢◌, ℕ, ◌+◌, false, List, [], ◌∷◌, ◌++◌, map, take, zero, suc, refl, sym, ap, subst, ◌∙◌, ◌-◌, ◌||◌}
 use Rattle.std.proofs.lemmas.List.{append-nil}
 use Rattle.std.proofs.lemmas.Grind.{flat_map-append}
@@ -25,21 +25,18 @@ use Rattle.rip_session.specs.Shapes.{shapes}
 use Rattle.rip_session.specs.Tasks.{Task, fact_of, reports}
 use Rattle.rip_session.specs.Application.{doing_of}
 use Rattle.rip_client.specs.Truth.{Waiting}
-use Rattle.rip_law_replica.specs.Truthful.{IsReport, Reports, Seat, has_lie, is_lie, playing_of}
+use Rattle.rip_law_replica.specs.Truthful.{IsLegal, Reports, Seat, given_in_turn, has_lie, is_lie, playing_of}
 use Rattle.rip_law_replica.specs.Truthful as truth
 use Rattle.rip_law_served.specs.Honest.{next_in}
-use Rattle.rip_law_served.proofs.AppItems.{honest_served}
 use Rattle.rip_trace.specs.declared.gestures.LinedGesture.{LinedGesture}
 use Rattle.rip_drive.specs.Driving.{AreLegal, Drives, DrivesApp, DrivesSession, End, driven}
 use Rattle.rip_drive.specs.Driving as driving
-use Rattle.rip_headline.specs.Driven.{DrivenAreServed, calls_in, calls_of, replies_of}
+use Rattle.rip_headline.specs.Driven.{DrivenAreServed, DrivenAreTold, IsToldWhole, calls_in, calls_of, client, gestures_of, replies_of, silent}
 use Rattle.rip_headline.proofs.Given.{AreTasks, fact_in, plain_any}
 use Rattle.rip_headline.proofs.DrivenTold.{gesture_back}
+use Rattle.rip_headline.proofs.Replies.{are_served}
 
 -- ---- gestures
-
-abbrev gestures_of : List LinedGesture → List Gesture
-gestures_of gestures = map (λ (l : LinedGesture). l.gesture) gestures
 
 stopped_not : (item : ℕ) (why : Stop) → Stopped item why ≢ Fine
 stopped_not item why = λ e. cc
@@ -50,17 +47,17 @@ calls_both one two = flat_map-append (λ (b : Contents). calls_in b.items) one t
 reports_of : {A S : Type 0} (d : Doing A S) (task : Reported → A) (next : S → Option Waiting) (service : Service) → AreTasks d task
     → (gestures : List LinedGesture) (a : Seat S) (calls : List Called) (number : ℕ) (waiting : List ℕ) (batches : List Contents) (end : End)
     → Drives (driven d task next service) gestures a calls number waiting batches end → AreLegal end
-    → Reports (playing_of d task next) (gestures_of gestures) a (replies_of service calls (calls_of batches)) number waiting batches
+    → Reports (playing_of d task next given_in_turn IsLegal) (gestures_of gestures) a (replies_of service calls (calls_of batches)) number waiting batches
 reports_of d task next service are gestures a calls number waiting batches end (driving.none _ _ _ _) legal = truth.silent a [] number waiting
 reports_of d task next service are gestures a calls number waiting batches end (driving.told lined others _ b _ h _ following _ waits first more _ t rest) legal =
     let behind = reports_of d task next service are others b h following waits more end rest legal in
     let there = gesture_back d task next service are lined.gesture a b calls h number following waiting waits Fine first (calls_of more) tt t in
-    let onward = subst (λ g. Reports (playing_of d task next) (gestures_of others) b g following waits more) (sym (there.2 refl)) behind in
-    subst (λ cs. Reports (playing_of d task next) (gestures_of gestures) a (replies_of service calls cs) number waiting batches) (sym (calls_both first more))
+    let onward = subst (λ g. Reports (playing_of d task next given_in_turn IsLegal) (gestures_of others) b g following waits more) (sym (there.2 refl)) behind in
+    subst (λ cs. Reports (playing_of d task next given_in_turn IsLegal) (gestures_of gestures) a (replies_of service calls cs) number waiting batches) (sym (calls_both first more))
     (truth.told lined.gesture (gestures_of others) a b (replies_of service calls (calls_of first ++ calls_of more)) there.0 number following waiting waits first more there.1 onward)
 reports_of d task next service are gestures a calls number waiting batches end (driving.stops lined others _ b _ h _ following _ waits _ item why t) legal =
     let there = gesture_back d task next service are lined.gesture a b calls h number following waiting waits (Stopped item why) batches [] tt t in
-    subst (λ cs. Reports (playing_of d task next) (gestures_of gestures) a (replies_of service calls cs) number waiting batches) (append-nil (calls_of batches))
+    subst (λ cs. Reports (playing_of d task next given_in_turn IsLegal) (gestures_of gestures) a (replies_of service calls cs) number waiting batches) (append-nil (calls_of batches))
     (truth.ended lined.gesture (gestures_of others) a b (replies_of service calls (calls_of batches ++ [])) there.0 number following waiting waits (Stopped item why) batches (stopped_not item why) there.1)
 reports_of d task next service are gestures a calls number waiting batches end (driving.refuses lined others _ _ _ _ _ _ _ _ _ item kind t) legal = absurd legal
 
@@ -111,9 +108,9 @@ are_tasks app = record {
     plain (call number name args) batch n w s e = cc
     plain (reply number) batch n w s e = shapes batch (reports (reply number)) n w s
 
-pub driven_served : DrivenAreServed
+pub driven_told : DrivenAreTold
 unfolding DrivesApp
-driven_served app gestures batches end drives legal k = by batches end drives legal
+driven_told app gestures batches end drives legal = by batches end drives legal
   where
     d : Doing Task Browser
     d = doing_of app 3 0
@@ -121,12 +118,10 @@ driven_served app gestures batches end drives legal k = by batches end drives le
     service : Service
     service = service_of app.manifest.functions
 
-    by : (batches : List Contents) (end : End) → DrivesSession d reports next_in service gestures batches end → AreLegal end
-        → has_lie (session_parts d (take k batches) (replies_of service [] (calls_of batches))) ≡ false
+    by : (batches : List Contents) (end : End) → DrivesSession d reports next_in service gestures batches end → AreLegal end → IsToldWhole app gestures batches
     by batches end (driving.goes_on fuel world page _ _ opens rest) legal =
         let given = replies_of service [] (calls_of batches) in
-        honest_served app 3 0 (gestures_of gestures) given batches
-        (record {
+        client (record {
           more = d.serve 0 (first_given given) ∷ [];
           fuel = opens.fuel;
           left = opens.left;
@@ -134,7 +129,21 @@ driven_served app gestures batches end drives legal k = by batches end drives le
           page = page;
           opens = opening_any d reports (are_tasks app) given Fine opens.gs opens.fuel opens.left world page opens.is;
           reports = reports_of d reports next_in service (are_tasks app) gestures _ [] 1 [] batches end rest legal;
-        }) k
-    by batches end (driving.stops fuel world page item why opens) legal =
-        stopped_opening d item why [] (d.serve 0 (first_given []) ∷ []) opens.fuel opens.left world page k (no_lie_stopped item why)
-        (opening_any d reports (are_tasks app) [] (Stopped item why) opens.gs opens.fuel opens.left world page opens.is)
+        })
+    by batches end (driving.stops fuel world page item why opens) legal = silent fuel world page item why opens refl
+
+pub driven_served : DrivenAreServed
+driven_served app gestures batches end drives legal k = by (driven_told app gestures batches end drives legal)
+  where
+    d : Doing Task Browser
+    d = doing_of app 3 0
+
+    given : List Given
+    given = replies_of (service_of app.manifest.functions) [] (calls_of batches)
+
+    by : IsToldWhole app gestures batches → has_lie (session_parts d (take k batches) given) ≡ false
+    by (client told) = are_served app 3 0 (gestures_of gestures) given batches told k
+    by (silent fuel world page item why opens none) =
+        ap (λ bs. has_lie (session_parts d (take k bs) given)) none
+        ∙ stopped_opening d item why given (d.serve 0 (first_given given) ∷ []) opens.fuel opens.left world page k (no_lie_stopped item why)
+        (opening_any d reports (are_tasks app) given (Stopped item why) opens.gs opens.fuel opens.left world page opens.is)

@@ -15,7 +15,7 @@ use Rattle.rip_replica.specs.Parts.{Doing}
 use Rattle.rip_client.specs.declared.actor.Over.{Over}
 use Rattle.rip_client.specs.Truth.{Place, IsPut, IsReportOf, Playing, Silent, TellsCall, TellsCalls, TellsEvent, TellsGesture, TellsItem, TellsList, TellsReplies, Then, Waiting, behind_call, open_batch, with_item}
 use Rattle.rip_client.specs.Truth as client
-use Rattle.rip_law_replica.specs.Truthful.{IsFineOrStopped, Seat, playing_of}
+use Rattle.rip_law_replica.specs.Truthful.{IsFineOrStopped, IsLegal, Seat, given_in_turn, playing_of}
 use Rattle.rip_drive.specs.Driving.{driven}
 use Rattle.rip_headline.specs.Driven.{call_in, calls_in, calls_of, replies_of}
 use Rattle.rip_headline.proofs.Given.{AreTasks, item_back}
@@ -61,7 +61,7 @@ module _ {A S : Type 0} (d : Doing A S) (task : Reported → A) (next : S → Op
   x = driven d task next service
 
   abbrev pub y : Playing (Seat S) (List Given)
-  y = playing_of d task next
+  y = playing_of d task next given_in_turn IsLegal
 
   -- what is told there is told here, where what is given are the replies to the calls that are told and those behind
   abbrev Back : (There → Close → There → Type 0) → (Here → Close → Here → Type 0) → Type 0

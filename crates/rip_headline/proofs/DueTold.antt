@@ -16,10 +16,9 @@ use Rattle.rip_history.specs.Parts.{Given}
 use Rattle.rip_replica.specs.Parts.{Doing, first_given, whole_item}
 use Rattle.rip_client.specs.Truth.{Place, IsPut, IsReportOf, Playing, Silent, TellsCall, TellsCalls, TellsEvent, TellsGesture, TellsItem, TellsList, TellsReplies, Then, Waiting, behind_call}
 use Rattle.rip_client.specs.Truth as client
-use Rattle.rip_law_replica.specs.Truthful.{IsFineOrStopped, Reports, Seat}
+use Rattle.rip_law_replica.specs.Truthful.{IsDueReport, IsFineOrStopped, IsLegal, IsLegalAndDue, IsReport, Reports, Seat, given_in_turn, playing_of}
 use Rattle.rip_law_replica.specs.Truthful as truthful
-use Rattle.rip_headline.specs.DueReplies as due
-use Rattle.rip_headline.specs.DueReplies.{IsPlayed, IsTold, Kept, KeepsReplies, RepliesAreDue, kept_behind, playing_of}
+use Rattle.rip_headline.specs.DueReplies.{Kept, KeepsReplies, RepliesAreDue, kept_behind}
 
 -- ---- the replies that wait
 
@@ -59,10 +58,10 @@ module _ {A S : Type 0} (d : Doing A S) (task : Reported → A) (next : S → Op
   There = Place (Seat S) (List Given)
 
   abbrev x : Playing (Seat S) (List Given)
-  x = playing_of d task next
+  x = playing_of d task next given_in_turn IsLegal
 
   abbrev y : Playing (Seat S) (List Given)
-  y = truthful.playing_of d task next
+  y = playing_of d task next given_in_turn IsLegalAndDue
 
   abbrev At : List ℕ → ℕ → There → Type 0
   At ks first p = Stands kept ks first p.session.page p.waiting p.number p.session.batch
@@ -116,7 +115,7 @@ module _ {A S : Type 0} (d : Doing A S) (task : Reported → A) (next : S → Op
   put_page item p q (client.fits room) = refl
   put_page item p q (client.opens session full turned) = ap (λ (a : Seat S). a.page) turned
 
-  item_same : (Kind : Reported → Type 0) (p : There) (close : Close) (q : There) (t : TellsItem x Kind p close q) → truthful.IsLegal t.item close → TellsItem y Kind p close q
+  item_same : (Kind : Reported → Type 0) (p : There) (close : Close) (q : There) (t : TellsItem x Kind p close q) → IsLegalAndDue t.item close → TellsItem y Kind p close q
   item_same Kind p close q t legal =
       let play = t.plays in
       record {
@@ -126,9 +125,6 @@ module _ {A S : Type 0} (d : Doing A S) (task : Reported → A) (next : S → Op
         is_put = put_same t.item p t.put t.is_put;
         fuel = t.fuel;
         plays = record {
-          more = play.more;
-          fuel = play.fuel;
-          left = play.left;
           is = play.is;
           batch = play.batch;
           count = play.count;
@@ -141,11 +137,11 @@ module _ {A S : Type 0} (d : Doing A S) (task : Reported → A) (next : S → Op
   -- the item as it was played
   played : (item : Reported) (Kind : Reported → Type 0) (p : There) (close : Close) (q : There) (t : TellsItem x Kind p close q) → t.item ≡ item
       → whole_item d t.put.session.batch (task item) (t.put.session.count + 1) t.put.session.world t.put.session.page (first_given t.put.giver)
-      ≡ Closes close (let play = t.plays in play.more) (let play = t.plays in play.fuel) (let play = t.plays in play.left) q.session.world q.session.page
+      ≡ Closes close (let play = t.plays in play.is.gs) (let play = t.plays in play.is.fuel) (let play = t.plays in play.is.left) q.session.world q.session.page
   played item Kind p close q t is =
       let put = t.put in
       let play = t.plays in
-      subst (λ (i : Reported). whole_item d put.session.batch (task i) (put.session.count + 1) put.session.world put.session.page (first_given put.giver) ≡ Closes close play.more play.fuel play.left q.session.world q.session.page) is play.is
+      subst (λ (i : Reported). whole_item d put.session.batch (task i) (put.session.count + 1) put.session.world put.session.page (first_given put.giver) ≡ Closes close play.is.gs play.is.fuel play.is.left q.session.world q.session.page) is play.is.is
 
   -- ---- an event
 
@@ -155,9 +151,9 @@ module _ {A S : Type 0} (d : Doing A S) (task : Reported → A) (next : S → Op
       let put = t.put in
       let play = t.plays in
       let st : At ks first put = put_stands ks first t.item p put t.is_put at in
-      let legal : truthful.IsLegal t.item close = subst (λ (i : Reported). truthful.IsLegal i close) (sym t.is) (subst (λ (i : Reported). due.IsLegal i close) t.is play.legal) in
+      let legal : IsLegalAndDue t.item close = subst (λ (i : Reported). IsLegalAndDue i close) (sym t.is) (subst (λ (i : Reported). IsLegal i close) t.is play.legal) in
       let same : kept q.session.page ≡ kept put.session.page =
-      keeps.events put.session.batch (put.session.count + 1) put.session.world put.session.page (first_given put.giver) kind node text place close play.more play.fuel play.left
+      keeps.events put.session.batch (put.session.count + 1) put.session.world put.session.page (first_given put.giver) kind node text place close play.is.gs play.is.fuel play.is.left
       q.session.world q.session.page (played (event kind node text place) (λ item. item ≡ event kind node text place) p close q t t.is) in
       let behind : At ks first (record put { session = q.session; giver = q.giver }) = record {
         olds = st.olds;
@@ -215,8 +211,8 @@ module _ {A S : Type 0} (d : Doing A S) (task : Reported → A) (next : S → Op
       let st : At ks first put = put_stands ks first tells.item p put tells.is_put at in
       let there : next put.session.page ≡ Some c = ap next (put_page tells.item p put tells.is_put) ∙ waits in
       let is : kept told.session.page ≡ kept_behind c put.session.batch (kept put.session.page) =
-      keeps.calls put.session.batch (put.session.count + 1) put.session.world put.session.page (first_given put.giver) c tells.item play.more play.fuel play.left
-      told.session.world told.session.page there tells.is play.is in
+      keeps.calls put.session.batch (put.session.count + 1) put.session.world put.session.page (first_given put.giver) c tells.item play.is.gs play.is.fuel play.is.left
+      told.session.world told.session.page there tells.is play.is.is in
       let behind : At ks first (behind_call c Fine (record put { session = told.session; giver = told.giver })) =
       call_behind ks first c told.session.page put.session.page put.waiting put.number told.session.batch put.session.batch c.calls_back refl st.seat (play.batch ∙ st.seat) is st in
       subst (At ks first) (sym (t.behind ∙ ap (behind_call c Fine) tells.rest)) behind
@@ -227,7 +223,7 @@ module _ {A S : Type 0} (d : Doing A S) (task : Reported → A) (next : S → Op
       let is = tells.is in
       record {
         told = t.told;
-        tells = item_same (IsReportOf c) p close t.told tells (subst (λ (i : Reported). truthful.IsLegal i close) (sym is.is) tt);
+        tells = item_same (IsReportOf c) p close t.told tells (subst (λ (i : Reported). IsLegalAndDue i close) (sym is.is) tt);
         behind = t.behind;
       }
 
@@ -274,8 +270,8 @@ module _ {A S : Type 0} (d : Doing A S) (task : Reported → A) (next : S → Op
       let play = t.plays in
       let st : At (k ∷ ks) first put = put_stands (k ∷ ks) first t.item p put t.is_put at in
       let goes = reply_due k ks first q.session.page put.session.page put.waiting put.number q.session.batch put.session.batch (put.session.count + 1) put.session.world (first_given put.giver)
-      close play.more play.fuel play.left q.session.world play.batch (played (reply k) (λ item. item ≡ reply k) p close q t t.is) st st.olds refl in (
-        item_same (λ item. item ≡ reply k) p close q t (subst (λ (i : Reported). truthful.IsLegal i close) (sym t.is) goes.0),
+      close play.is.gs play.is.fuel play.is.left q.session.world play.batch (played (reply k) (λ item. item ≡ reply k) p close q t t.is) st st.olds refl in (
+        item_same (λ item. item ≡ reply k) p close q t (subst (λ (i : Reported). IsLegalAndDue i close) (sym t.is) goes.0),
         closed_fine ks first close q (λ e. subst (At ks first) (sym t.rest) goes.1),
       )
 
@@ -375,7 +371,7 @@ module _ {A S : Type 0} (d : Doing A S) (task : Reported → A) (next : S → Op
       let here = gesture_same gesture a b g h number following waiting waits close batches rests t in
       truthful.ended gesture others a b g h number following waiting waits close batches not here.0
 
-  told_same : (gestures : List Gesture) (given : List Given) (batches : List Contents) → IsTold d task next gestures given batches → truthful.IsReport d task next gestures given batches
+  told_same : (gestures : List Gesture) (given : List Given) (batches : List Contents) → IsReport d task next gestures given batches → IsDueReport d task next gestures given batches
   told_same gestures given batches t =
       let none : kept t.page ≡ [] = keeps.opening (first_given given) t.more t.fuel t.left t.world t.page t.opens in
       record {

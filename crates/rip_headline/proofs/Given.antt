@@ -14,9 +14,8 @@ use Rattle.rip_history.specs.Services.{Called, Service}
 use Rattle.rip_replica.specs.Parts.{Doing, first_given, whole_item}
 use Rattle.rip_client.specs.Wholes.{calls_behind, given_for}
 use Rattle.rip_client.specs.declared.actor.Over.{Over as Outcome}
-use Rattle.rip_law_replica.specs.Truthful.{IsFineOrStopped, IsLegal, Seat, given_after}
-use Rattle.rip_law_replica.specs.Truthful as truth
-use Rattle.rip_drive.specs.Driving as driving
+use Rattle.rip_law_replica.specs.Truthful.{IsAny, IsFineOrStopped, IsLegal, IsPlayed, Seat, given_after, given_in_turn}
+use Rattle.rip_drive.specs.Driving.{replies_at_once}
 use Rattle.rip_headline.specs.Driven.{call_in, replies_of}
 
 -- ---- what waits for nothing comes out alike, whatever is given
@@ -69,31 +68,34 @@ passes_after (Mismatch item) gs = refl
 passes_after (Stopped item stop) gs = refl
 
 abbrev pub Played : {A S : Type 0} → Doing A S → (Reported → A) → Service → Reported → Seat S → Seat S → List Called → List Called → Outcome → Type 0
-Played d task service item a b calls behind over = driving.IsPlayed d task service item a calls over b behind
+Played d task service item a b calls behind over = IsPlayed d task (replies_at_once service) IsAny item a calls over b behind
 
 -- an item that was played with the replies of a service is played with what is given to it and to what comes behind it
 abbrev pub Comes : {A S : Type 0} → Doing A S → (Reported → A) → Service → Reported → Seat S → Seat S → List Called → List Called → Outcome → List Called → Type 0
 Comes d task service item a b calls behind over rest =
-    (l : List Given) × truth.IsPlayed d task item a (replies_of service calls (call_in item ++ rest)) over b l × (over.close ≡ Fine → l ≡ replies_of service behind rest)
+    (l : List Given) × IsPlayed d task given_in_turn IsLegal item a (replies_of service calls (call_in item ++ rest)) over b l × (over.close ≡ Fine → l ≡ replies_of service behind rest)
 
 -- one that reports no call
 passes_back : {A S : Type 0} (d : Doing A S) (task : Reported → A) (service : Service) (item : Reported) (a b : Seat S) (calls behind : List Called) (over : Outcome) (gs : List Given)
     → d.fact (task item) ≡ passes → IsPlain (d.plan a.batch (task item) (a.count + 1) a.world a.page) → IsLegal item over.close
-    → Played d task service item a b calls behind over → truth.IsPlayed d task item a gs over b gs × (behind ≡ calls)
+    → Played d task service item a b calls behind over → IsPlayed d task given_in_turn IsLegal item a gs over b gs × (behind ≡ calls)
 passes_back {A} {S} d task service item a b calls behind over gs fact plain legal t = (
   record {
-    more = d.serve a.batch (first_given gs) ∷ [];
-    fuel = t.is.fuel;
-    left = t.is.left;
-    is = plain_any d.run d.full (d.plan a.batch (task item) (a.count + 1) a.world a.page) (d.serve a.batch (first_given []) ∷ []) (d.serve a.batch (first_given gs) ∷ []) t.is.gs d.full d.full
-        over.close t.is.fuel t.is.left b.world b.page plain
-        (subst (λ f. whole_item d a.batch (task item) (a.count + 1) a.world a.page (given_for service calls 0 f) ≡ Closes over.close t.is.gs t.is.fuel t.is.left b.world b.page) fact t.is.is);
+    is = record {
+      gs = d.serve a.batch (first_given gs) ∷ [];
+      fuel = t.is.fuel;
+      left = t.is.left;
+      is = plain_any d.run d.full (d.plan a.batch (task item) (a.count + 1) a.world a.page) (d.serve a.batch (first_given []) ∷ []) (d.serve a.batch (first_given gs) ∷ []) t.is.gs d.full d.full
+          over.close t.is.fuel t.is.left b.world b.page plain
+          (subst (λ f. whole_item d a.batch (task item) (a.count + 1) a.world a.page (given_for service calls 0 f) ≡ Closes over.close t.is.gs t.is.fuel t.is.left b.world b.page) fact t.is.is);
+      took = t.is.took;
+    };
     batch = t.batch;
     count = t.count;
     given = sym (passes_after over.close gs) ∙ ap (λ f. given_after f over.close gs) (sym fact);
     legal = legal;
   },
-  t.called ∙ ap (λ f. calls_behind f over.close calls) fact,
+  t.given ∙ ap (λ f. calls_behind f over.close calls) fact,
 )
 
 fine_behind : (number : ℕ) (name : List ℕ) (args : _) (close : Close) (calls : List Called) → close ≡ Fine → calls_behind (serves number name args) close calls ≡ calls ++ (name, args) ∷ []
@@ -106,10 +108,13 @@ call_back : {A S : Type 0} (d : Doing A S) (task : Reported → A) (service : Se
 call_back {A} {S} d task service number name args a b calls behind over rest fact t = (
   given_after (serves number name args) over.close gs,
   record {
-    more = t.is.gs;
-    fuel = t.is.fuel;
-    left = t.is.left;
-    is = subst (λ f. whole_item d a.batch (task (call number name args)) (a.count + 1) a.world a.page (given_for service calls 0 f) ≡ Closes over.close t.is.gs t.is.fuel t.is.left b.world b.page) fact t.is.is;
+    is = record {
+      gs = t.is.gs;
+      fuel = t.is.fuel;
+      left = t.is.left;
+      is = subst (λ f. whole_item d a.batch (task (call number name args)) (a.count + 1) a.world a.page (given_for service calls 0 f) ≡ Closes over.close t.is.gs t.is.fuel t.is.left b.world b.page) fact t.is.is;
+      took = t.is.took;
+    };
     batch = t.batch;
     count = t.count;
     given = ap (λ f. given_after f over.close gs) (sym fact);
@@ -122,7 +127,7 @@ call_back {A} {S} d task service number name args a b calls behind over rest fac
     gs = replies_of service calls ((name, args) ∷ rest)
 
     called : behind ≡ calls_behind (serves number name args) over.close calls
-    called = t.called ∙ ap (λ f. calls_behind f over.close calls) fact
+    called = t.given ∙ ap (λ f. calls_behind f over.close calls) fact
 
 pub item_back : {A S : Type 0} (d : Doing A S) (task : Reported → A) (service : Service) (item : Reported) (a b : Seat S) (calls behind : List Called) (over : Outcome) (rest : List Called)
     → AreTasks d task → IsFineOrStopped over.close → Played d task service item a b calls behind over → Comes d task service item a b calls behind over rest
@@ -135,5 +140,5 @@ item_back d task service (call number name args) a b calls behind over rest are 
     call_back d task service number name args a b calls behind over rest (are.facts (call number name args)) t
 item_back d task service (reply number) a b calls behind over rest are legal t =
     let gs = replies_of service calls rest in
-    let there = passes_back d task service (reply number) a b calls behind over gs (are.facts (reply number)) (are.plain (reply number) a.batch (a.count + 1) a.world a.page refl) legal t in
+    let there = passes_back d task service (reply number) a b calls behind over gs (are.facts (reply number)) (are.plain (reply number) a.batch (a.count + 1) a.world a.page refl) tt t in
     (gs, there.0, λ fine. ap (λ cs. replies_of service cs rest) (sym there.1))

@@ -1,4 +1,4 @@
--- Truthful clients of an application: their replies are due, their batches are admitted and answered, and no lie ends them.
+-- Honest clients of an application: their replies are due, their batches are admitted and answered, and no lie ends them.
 use Rattle.std.specs.Prelude.{◌≡◌, ◌≢◌, ℕ, false, List, take, Some}
 use Rattle.rip_app.specs.App.{Loaded}
 use Rattle.rip_wire.specs.Batches.{Contents}
@@ -13,33 +13,26 @@ use Rattle.rip_history.specs.Standings.{standing_of}
 use Rattle.rip_history.specs.declared.standing.Standing.{Standing}
 use Rattle.rip_law_history.specs.Legal.{history_of}
 use Rattle.rip_law_server.specs.Paced.{IsServed, KeepsPace, batches_told, requests_of}
-use Rattle.rip_session.specs.Tasks.{reports}
-use Rattle.rip_session.specs.Application.{doing_of, meaning_of_app}
+use Rattle.rip_session.specs.Application.{meaning_of_app}
 use Rattle.rip_law_replica.specs.Truthful.{has_lie}
-use Rattle.rip_headline.specs.DueReplies.{IsTold}
-use Rattle.rip_law_served.specs.Honest.{IsReportOf, next_in}
+use Rattle.rip_law_served.specs.Honest.{IsDueReportOf, IsReportOf}
 
--- the batches that a client tells of these gestures, in a session of the application with this seed and time that is given
--- this: its events are legal at their places, and of its replies nothing is asked
-abbrev pub AreToldOf : Loaded → ℕ → ℕ → List Gesture → List Given → List Contents → Type 0
-AreToldOf app seed time gestures given batches = IsTold (doing_of app seed time) reports next_in gestures given batches
-
--- each reply is due where it is told, so this is what a truthful client tells
+-- each reply that an honest client tells is due where it is told
 abbrev pub RepliesAreDue : Type 0
 RepliesAreDue =
     (app : Loaded) (seed time : ℕ) (gestures : List Gesture) (given : List Given) (batches : List Contents)
-    → AreToldOf app seed time gestures given batches → IsReportOf app seed time gestures given batches
+    → IsReportOf app seed time gestures given batches → IsDueReportOf app seed time gestures given batches
 
--- such a session, given any front of these batches, is ended by no mismatch and by no bad report
+-- a session, given any front of these batches, is ended by no mismatch and by no bad report
 abbrev pub ClientsAreServed : Type 0
 ClientsAreServed =
     (app : Loaded) (seed time : ℕ) (gestures : List Gesture) (given : List Given) (batches : List Contents)
-    → AreToldOf app seed time gestures given batches
+    → IsReportOf app seed time gestures given batches
     → (k : ℕ) → has_lie (meaning_of_app app seed time (take k batches) given) ≡ false
 
 -- ---- in a run
 
--- a session of a run has a truthful client: what is told to it are the first of the batches that a client tells of some
+-- a session of a run has an honest client: what is told to it are the first of the batches that such a client tells of some
 -- gestures, by what the history gives it, each once the one before it is done
 pub record IsTruthful (app : Loaded) (site : Site) (ts : List Coming) (n : ℕ) : Type 0 where
   pub seed : ℕ
@@ -47,7 +40,7 @@ pub record IsTruthful (app : Loaded) (site : Site) (ts : List Coming) (n : ℕ) 
   pub gestures : List Gesture
   pub batches : List Contents
   pub opening : opening_in n (history_of site ts) ≡ Some (seed, time)
-  pub told : AreToldOf app seed time gestures (given_in n (history_of site ts)) batches
+  pub told : IsReportOf app seed time gestures (given_in n (history_of site ts)) batches
   pub first : IsFrontOf (batches_told n (requests_of site ts)) batches
   pub pace : KeepsPace n 0 (requests_of site ts)
 

@@ -1,4 +1,4 @@
--- Truthful clients in a history: what was admitted of what they tell ends their sessions for no lie, whatever else they asked.
+-- Honest clients in a history: what was admitted of what they tell ends their sessions for no lie, whatever else they asked.
 use Rattle.std.specs.Prelude.{◌≡◌, ℕ, false, List, [], Some}
 use Rattle.std.specs.List.{AllByRecursion}
 use Rattle.rip_app.specs.App.{Loaded}
@@ -13,13 +13,13 @@ use Rattle.rip_history.specs.Sessions.{IsFrontOf, batches_in, given_in, opening_
 use Rattle.rip_law_history.specs.Broken.{IsFrontOfRun}
 use Rattle.rip_session.specs.Application.{meaning_of_app}
 use Rattle.rip_law_replica.specs.Truthful.{is_lie}
-use Rattle.rip_headline.specs.Complete.{AreToldOf}
+use Rattle.rip_law_served.specs.Honest.{IsReportOf}
 
--- these batches are the first of those that a client tells of some gestures, in a session of the application with this seed
+-- these batches are the first of those that an honest client tells of some gestures, in a session of the application with this seed
 -- and time that is given this; or there is none, as where the session did not open fine
 pub data AreFirstTold (app : Loaded) (seed time : ℕ) (given : List Given) (first : List Contents) : Type 0 where
   nothing : first ≡ [] → AreFirstTold app seed time given first
-  front : (gestures : List Gesture) (batches : List Contents) → AreToldOf app seed time gestures given batches → IsFrontOf first batches
+  front : (gestures : List Gesture) (batches : List Contents) → IsReportOf app seed time gestures given batches → IsFrontOf first batches
       → AreFirstTold app seed time given first
 
 -- a session of a history has a truthful client: so it is of its batches that were admitted, from its seed and time and by what

@@ -1,4 +1,4 @@
--- The replies that a truthful client tells are due.
+-- The replies that an honest client tells are due.
 use Rattle.std.specs.Prelude.{◌≡◌, ℕ, ◌+◌, ◌<◌, List, [], ◌∷◌, ◌++◌, Option, Some, if◌then◌else◌}
 use Rattle.rip_heap.specs.World.{World}
 use Rattle.rip_eval_rows.specs.declared.close.Close.{Close}
@@ -9,48 +9,9 @@ use Rattle.rip_wire.specs.Batches.{Contents}
 use Rattle.rip_wire.specs.Items.{Reported, event, call, reply}
 use Rattle.rip_wire.specs.declared.gesture.Gesture.{Gesture}
 use Rattle.rip_history.specs.Parts.{Given}
-use Rattle.rip_replica.specs.Parts.{Doing, first_given, whole_item}
-use Rattle.rip_client.specs.declared.actor.Over.{Over}
-use Rattle.rip_client.specs.Truth.{IsReportOf, Playing, Waiting}
-use Rattle.rip_law_replica.specs.Truthful as truthful
-use Rattle.rip_law_replica.specs.Truthful.{IsFineOrStopped, Reports, Seat, given_after}
-
--- ---- what a client tells, where of replies nothing is asked
-
--- an event is legal where it stands; of calls and replies nothing is asked
-abbrev pub IsLegal : Reported → Close → Type 0
-IsLegal (event kind node text place) close = IsFineOrStopped close
-IsLegal (call number name args) close = Unit {0}
-IsLegal (reply number) close = Unit {0}
-
--- an item is played whole where the session stands, with what is given to come, and comes out so; an event is legal there
-pub record IsPlayed {A S : Type 0} (d : Doing A S) (task : Reported → A) (item : Reported) (a : Seat S) (gs : List Given) (over : Over) (b : Seat S) (hs : List Given) : Type 0 where
-  pub more : List (S → S)
-  pub fuel : ℕ
-  pub left : ℕ
-  pub is : whole_item d a.batch (task item) (a.count + 1) a.world a.page (first_given gs) ≡ Closes over.close more fuel left b.world b.page
-  pub batch : b.batch ≡ a.batch
-  pub count : b.count ≡ a.count + 1
-  pub given : hs ≡ given_after (d.fact (task item)) over.close gs
-  pub legal : IsLegal item over.close
-
--- a session in which this is done, where these are the items that report, and the call that is read off a page as the next
-abbrev pub playing_of : {A S : Type 0} → Doing A S → (Reported → A) → (S → Option Waiting) → Playing (Seat S) (List Given)
-playing_of d task next = record {
-  turns = λ n a b. b ≡ record a { batch = n; count = 0 };
-  plays = λ item a gs over b hs. IsPlayed d task item a gs over b hs;
-  next = λ a. next a.page;
-}
-
--- the batches that a client tells so of these gestures, in a session that was opened fine and is given this
-pub record IsTold {A S : Type 0} (d : Doing A S) (task : Reported → A) (next : S → Option Waiting) (gestures : List Gesture) (given : List Given) (batches : List Contents) : Type 0 where
-  pub more : List (S → S)
-  pub fuel : ℕ
-  pub left : ℕ
-  pub world : World
-  pub page : S
-  pub opens : whole_item d 0 d.opening 1 d.world d.page (first_given given) ≡ Closes Fine more fuel left world page
-  pub reports : Reports (playing_of d task next) gestures (record { world = world; page = page; batch = 0; count = 1 }) given 1 [] batches
+use Rattle.rip_replica.specs.Parts.{Doing, whole_item}
+use Rattle.rip_client.specs.Truth.{IsReportOf, Waiting}
+use Rattle.rip_law_replica.specs.Truthful.{IsDueReport, IsFineOrStopped, IsReport}
 
 -- ---- the replies that wait on a page
 
@@ -82,9 +43,9 @@ pub record KeepsReplies {A S : Type 0} (d : Doing A S) (task : Reported → A) (
 
 -- ---- the law
 
--- what a client tells so of such pages is what a truthful client tells: each reply is due where it is told
+-- each reply that an honest client of such pages tells is due where it is told
 abbrev pub RepliesAreDue : Type 0 → Type 0 → Type 0
 RepliesAreDue A S =
     (d : Doing A S) (task : Reported → A) (next : S → Option Waiting) (kept : S → List Kept) → KeepsReplies d task next kept
     → (gestures : List Gesture) (given : List Given) (batches : List Contents)
-    → IsTold d task next gestures given batches → truthful.IsReport d task next gestures given batches
+    → IsReport d task next gestures given batches → IsDueReport d task next gestures given batches

@@ -11,8 +11,9 @@ use Rattle.rip_wire.specs.Batches.{Contents}
 use Rattle.rip_wire.specs.Items.{Reported}
 use Rattle.rip_history.specs.Parts.{finishes, Part, Given}
 use Rattle.rip_replica.specs.Parts.{Doing, first_given, given_behind, items_parts, later_parts, part_of, session_parts, whole_item}
+use Rattle.rip_client.specs.declared.actor.Over.{Over}
 use Rattle.rip_client.specs.Truth.{Place, open_batch, with_item}
-use Rattle.rip_law_replica.specs.Truthful.{AreItems, IsPlayed, Seat, is_lie}
+use Rattle.rip_law_replica.specs.Truthful.{AreItems, IsLegalAndDue, IsPlayed, Seat, given_in_turn, is_lie}
 use Rattle.rip_law_replica.proofs.Honest.{Honest, after_fine, after_stop, front_cases, honest_both, no_front}
 
 -- a session stands where the client stands, which told these batches before its list: what comes of the batches that are
@@ -32,19 +33,23 @@ pub record Standing {A S : Type 0} (d : Doing A S) (task : Reported → A) (give
   pub seat : p.session.batch ≡ p.number
   pub count : p.session.count ≡ length p.items
 
+-- an item of a client was played, whose replies are due
+abbrev pub Plays : {A S : Type 0} → Doing A S → (Reported → A) → Reported → Seat S → List Given → Over → Seat S → List Given → Type 0
+Plays d task item a gs over b hs = IsPlayed d task given_in_turn IsLegalAndDue item a gs over b hs
+
 -- an item as it was played, by its place in the open batch
-played_there : {A S : Type 0} (d : Doing A S) (task : Reported → A) (item : Reported) (a b : Seat S) (gs hs : List Given) (close : Close) (fuel : ℕ) (n m : ℕ) (t : IsPlayed d task item a gs (record { close = close; fuel = fuel }) b hs) → a.batch ≡ n → a.count ≡ m → whole_item d n (task item) (m + 1) a.world a.page (first_given gs) ≡ Closes close t.more t.fuel t.left b.world b.page
+played_there : {A S : Type 0} (d : Doing A S) (task : Reported → A) (item : Reported) (a b : Seat S) (gs hs : List Given) (close : Close) (fuel : ℕ) (n m : ℕ) (t : Plays d task item a gs (record { close = close; fuel = fuel }) b hs) → a.batch ≡ n → a.count ≡ m → whole_item d n (task item) (m + 1) a.world a.page (first_given gs) ≡ Closes close t.is.gs t.is.fuel t.is.left b.world b.page
 played_there d task item a b gs hs close fuel n m t batch count =
     ap (λ k. whole_item d k (task item) (m + 1) a.world a.page (first_given gs)) (sym batch)
     ∙ ap (λ k. whole_item d a.batch (task item) (k + 1) a.world a.page (first_given gs)) (sym count)
-    ∙ t.is
+    ∙ t.is.is
 
 items_push : {A : Type 0} (task : Reported → A) (items : List Reported) (item : Reported) (ys : List A) → map task (items ++ item ∷ []) ++ ys ≡ map task items ++ (task item ∷ ys)
 items_push task items item ys = ap (λ xs. xs ++ ys) (map-append task items (item ∷ [])) ∙ append_assoc (map task items) (task item ∷ []) ys
 
 -- an item of the open batch is over and fine
 pub step_fine : {A S : Type 0} (d : Doing A S) (task : Reported → A) (given : List Given) (before : List Contents) (p : Place (Seat S) (List Given)) (item : Reported) (b : Seat S) (hs : List Given) (fuel : ℕ)
-    → AreItems d task → Standing d task given before p → IsPlayed d task item p.session p.giver (record { close = Fine; fuel = fuel }) b hs
+    → AreItems d task → Standing d task given before p → Plays d task item p.session p.giver (record { close = Fine; fuel = fuel }) b hs
     → Standing d task given before (record (with_item item p) { session = b; giver = hs })
 step_fine d task given before p item b hs fuel are st t = record {
   parts = st.parts;
@@ -60,7 +65,7 @@ step_fine d task given before p item b hs fuel are st t = record {
   within = λ all ys next.
       ap (λ xs. items_parts d p.number all 1 1 xs st.hs st.w st.s next) (items_push task p.items item ys)
       ∙ st.within all (task item ∷ ys) next
-      ∙ ap (λ ps. st.played ++ ps) (after_fine d p.number all (length p.items + 1) st.cost (task item) ys p.giver p.session.world b.world p.session.page b.page t.more t.fuel t.left next is)
+      ∙ ap (λ ps. st.played ++ ps) (after_fine d p.number all (length p.items + 1) st.cost (task item) ys p.giver p.session.world b.world p.session.page b.page t.is.gs t.is.fuel t.is.left next is)
       ∙ ap (λ g. st.played ++ (here ∷ items_parts d p.number all (length p.items + 1 + 1) spent ys g b.world b.page next)) (sym t.given)
       ∙ ap (λ m. st.played ++ (here ∷ items_parts d p.number all (m + 1) spent ys hs b.world b.page next)) (sym (length-append p.items (item ∷ [])))
       ∙ sym (append_assoc st.played (here ∷ []) (items_parts d p.number all (length (p.items ++ item ∷ []) + 1) spent ys hs b.world b.page next));
@@ -68,11 +73,11 @@ step_fine d task given before p item b hs fuel are st t = record {
   count = omega (arith, t.count, st.count, length-append p.items (item ∷ []));
 }
   where
-    is : whole_item d p.number (task item) (length p.items + 1) p.session.world p.session.page (first_given p.giver) ≡ Closes Fine t.more t.fuel t.left b.world b.page
+    is : whole_item d p.number (task item) (length p.items + 1) p.session.world p.session.page (first_given p.giver) ≡ Closes Fine t.is.gs t.is.fuel t.is.left b.world b.page
     is = played_there d task item p.session b p.giver hs Fine fuel p.number (length p.items) t st.seat st.count
 
     spent : ℕ
-    spent = st.cost + 1 + (d.full - t.left)
+    spent = st.cost + 1 + (d.full - t.is.left)
 
     here : Part
     here = part_of p.number (length p.items + 1) spent (d.fact (task item))
@@ -135,28 +140,28 @@ Served d given before p = (k : ℕ) → Honest (session_parts d (take k ((before
 
 -- an item of the open batch meets a limit or a fault
 pub step_stop : {A S : Type 0} (d : Doing A S) (task : Reported → A) (given : List Given) (before : List Contents) (p : Place (Seat S) (List Given)) (item : Reported) (b : Seat S) (hs : List Given) (number : ℕ) (stop : Stop) (fuel : ℕ)
-    → AreItems d task → Standing d task given before p → IsPlayed d task item p.session p.giver (record { close = Stopped number stop; fuel = fuel }) b hs
+    → AreItems d task → Standing d task given before p → Plays d task item p.session p.giver (record { close = Stopped number stop; fuel = fuel }) b hs
     → Served d given before (record (with_item item p) { session = b; giver = hs })
 step_stop {A} {S} d task given before p item b hs number stop fuel are st t k = front (front_cases k (before ++ p.closed) all_told)
   where
     all_told : Contents
     all_told = record { number = p.number; items = p.items ++ item ∷ [] }
 
-    is : whole_item d p.number (task item) (length p.items + 1) p.session.world p.session.page (first_given p.giver) ≡ Closes (Stopped number stop) t.more t.fuel t.left b.world b.page
+    is : whole_item d p.number (task item) (length p.items + 1) p.session.world p.session.page (first_given p.giver) ≡ Closes (Stopped number stop) t.is.gs t.is.fuel t.is.left b.world b.page
     is = played_there d task item p.session b p.giver hs (Stopped number stop) fuel p.number (length p.items) t st.seat st.count
 
     tasks : List A
     tasks = map task (p.items ++ item ∷ [])
 
     last : Part
-    last = part_of p.number (length p.items + 1) (st.cost + 1 + (d.full - t.left)) (finishes (Some (d.ending tasks (Stopped number stop) b.page)))
+    last = part_of p.number (length p.items + 1) (st.cost + 1 + (d.full - t.is.left)) (finishes (Some (d.ending tasks (Stopped number stop) b.page)))
 
     comes : session_parts d ((before ++ p.closed) ++ all_told ∷ []) given ≡ st.parts ++ (st.played ++ last ∷ [])
     comes =
         closing d task given before p (p.items ++ item ∷ []) [] are st
         ∙ ap (λ xs. st.parts ++ items_parts d p.number tasks 1 1 xs st.hs st.w st.s (λ gs x r. later_parts d (p.number + 1) [] gs x r)) (map-append task p.items (item ∷ []))
         ∙ ap (λ ps. st.parts ++ ps) (st.within tasks (task item ∷ []) (λ gs x r. later_parts d (p.number + 1) [] gs x r))
-        ∙ ap (λ ps. st.parts ++ (st.played ++ ps)) (after_stop d p.number tasks (length p.items + 1) st.cost (task item) [] p.giver p.session.world b.world p.session.page b.page number stop t.more t.fuel t.left (λ gs x r. later_parts d (p.number + 1) [] gs x r) is)
+        ∙ ap (λ ps. st.parts ++ (st.played ++ ps)) (after_stop d p.number tasks (length p.items + 1) st.cost (task item) [] p.giver p.session.world b.world p.session.page b.page number stop t.is.gs t.is.fuel t.is.left (λ gs x r. later_parts d (p.number + 1) [] gs x r) is)
 
     honest : Honest (st.parts ++ (st.played ++ last ∷ []))
     honest = honest_both st.parts (st.played ++ last ∷ []) st.honest (honest_both st.played (last ∷ []) st.fine (are.stopped tasks number stop b.page, tt))

@@ -12,10 +12,14 @@ use Rattle.rip_replica.specs.Parts.{Doing, first_given, session_parts}
 use Rattle.rip_client.specs.Truth.{Place, IsPut, IsReportOf, Playing, Silent, TellsCall, TellsCalls, TellsEvent, TellsGesture, TellsItem, TellsList, TellsReplies, Then, Waiting, behind_call, open_batch}
 use Rattle.rip_client.specs.Truth as truth
 use Rattle.std.specs.Prelude.{Option, Some}
-use Rattle.rip_law_replica.specs.Truthful.{AreItems, IsPlayed, IsFineOrStopped, IsLegal, IsReport, Reports, ServesNext, Seat, TruthIsServed, has_lie, playing_of}
+use Rattle.rip_law_replica.specs.Truthful.{AreItems, IsFineOrStopped, IsLegalAndDue, Reports, ServesNext, Seat, TruthIsServed, given_in_turn, has_lie, playing_of}
 use Rattle.rip_law_replica.specs.Truthful as truthful
 use Rattle.rip_law_replica.proofs.Honest.{Honest, no_lie}
-use Rattle.rip_law_replica.proofs.Seats.{Served, Standing, opened, rebase, rewait, step_close, step_fine, step_stop}
+use Rattle.rip_law_replica.proofs.Seats.{Plays, Served, Standing, opened, rebase, rewait, step_close, step_fine, step_stop}
+
+-- a session of which is told, where each reply is due
+abbrev telling : {A S : Type 0} → Doing A S → (Reported → A) → (S → Option Waiting) → Playing (Seat S) (List Given)
+telling d task next = playing_of d task next given_in_turn IsLegalAndDue
 
 -- where a client stands behind what closed so
 abbrev Good : {A S : Type 0} → Doing A S → (Reported → A) → List Given → List Contents → Close → Place (Seat S) (List Given) → Type 0
@@ -31,28 +35,28 @@ Keeps d task given before R = (p : Place _ _) (close : Close) (q : Place _ _) �
 -- ---- an item
 
 -- where it stands in the open batch
-played_good : {A S : Type 0} (d : Doing A S) (task : Reported → A) (given : List Given) (before : List Contents) → AreItems d task → (p : Place (Seat S) (List Given)) (item : Reported) (close : Close) (fuel : ℕ) (b : Seat S) (hs : List Given) → IsFineOrStopped close → Standing d task given before p → IsPlayed d task item p.session p.giver (record { close = close; fuel = fuel }) b hs → Good d task given before close (record (truth.with_item item p) { session = b; giver = hs })
+played_good : {A S : Type 0} (d : Doing A S) (task : Reported → A) (given : List Given) (before : List Contents) → AreItems d task → (p : Place (Seat S) (List Given)) (item : Reported) (close : Close) (fuel : ℕ) (b : Seat S) (hs : List Given) → IsFineOrStopped close → Standing d task given before p → Plays d task item p.session p.giver (record { close = close; fuel = fuel }) b hs → Good d task given before close (record (truth.with_item item p) { session = b; giver = hs })
 played_good d task given before are p item Fine fuel b hs ok st t = step_fine d task given before p item b hs fuel are st t
 played_good d task given before are p item (Refused number kind) fuel b hs ok st t = ok
 played_good d task given before are p item (Mismatch number) fuel b hs ok st t = ok
 played_good d task given before are p item (Stopped number stop) fuel b hs ok st t = step_stop d task given before p item b hs number stop fuel are st t
 
-item_good : {A S : Type 0} (d : Doing A S) (task : Reported → A) (next : S → Option Waiting) (given : List Given) (before : List Contents) → AreItems d task → (p put : Place (Seat S) (List Given)) (item : Reported) (close : Close) (fuel : ℕ) (b : Seat S) (hs : List Given) → IsFineOrStopped close → IsPut (playing_of d task next) item p put → Standing d task given before p → IsPlayed d task item put.session put.giver (record { close = close; fuel = fuel }) b hs → Good d task given before close (record put { session = b; giver = hs })
+item_good : {A S : Type 0} (d : Doing A S) (task : Reported → A) (next : S → Option Waiting) (given : List Given) (before : List Contents) → AreItems d task → (p put : Place (Seat S) (List Given)) (item : Reported) (close : Close) (fuel : ℕ) (b : Seat S) (hs : List Given) → IsFineOrStopped close → IsPut (telling d task next) item p put → Standing d task given before p → Plays d task item put.session put.giver (record { close = close; fuel = fuel }) b hs → Good d task given before close (record put { session = b; giver = hs })
 item_good d task next given before are p put item close fuel b hs ok (truth.fits room) st t = played_good d task given before are p item close fuel b hs ok st t
 item_good d task next given before are p put item close fuel b hs ok (truth.opens session full turned) st t =
     let behind : Place _ _ = record p { session = record p.session { batch = p.number + 1; count = 0 }; closed = p.closed ++ open_batch p ∷ []; number = p.number + 1; items = [] } in
-    let there = subst (λ (a : Seat _). IsPlayed d task item a p.giver (record { close = close; fuel = fuel }) b hs) turned t in
+    let there = subst (λ (a : Seat _). Plays d task item a p.giver (record { close = close; fuel = fuel }) b hs) turned t in
     played_good d task given before are behind item close fuel b hs ok (step_close d task given before p are st) there
 
-keeps_item : {A S : Type 0} (d : Doing A S) (task : Reported → A) (next : S → Option Waiting) (given : List Given) (before : List Contents) (Kind : Reported → Type 0) → AreItems d task → ((item : Reported) (close : Close) → Kind item → IsLegal item close → IsFineOrStopped close) → Keeps d task given before (TellsItem (playing_of d task next) Kind)
+keeps_item : {A S : Type 0} (d : Doing A S) (task : Reported → A) (next : S → Option Waiting) (given : List Given) (before : List Contents) (Kind : Reported → Type 0) → AreItems d task → ((item : Reported) (close : Close) → Kind item → IsLegalAndDue item close → IsFineOrStopped close) → Keeps d task given before (TellsItem (telling d task next) Kind)
 keeps_item d task next given before Kind are legal p close q st t =
     subst (λ m. Good d task given before close m) (sym t.rest) (item_good d task next given before are p t.put t.item close t.fuel q.session q.giver (legal t.item close t.is t.plays.legal) t.is_put st t.plays)
 
-legal_reply : (k : ℕ) (item : Reported) (close : Close) → item ≡ reply k → IsLegal item close → IsFineOrStopped close
-legal_reply k item close is legal = subst (λ i. IsLegal i close) is legal
+legal_reply : (k : ℕ) (item : Reported) (close : Close) → item ≡ reply k → IsLegalAndDue item close → IsFineOrStopped close
+legal_reply k item close is legal = subst (λ i. IsLegalAndDue i close) is legal
 
-legal_event : (kind : EventKind) (node : ℕ) (text : Option (List ℕ)) (place : Option ℕ) (item : Reported) (close : Close) → item ≡ event kind node text place → IsLegal item close → IsFineOrStopped close
-legal_event kind node text place item close is legal = subst (λ i. IsLegal i close) is legal
+legal_event : (kind : EventKind) (node : ℕ) (text : Option (List ℕ)) (place : Option ℕ) (item : Reported) (close : Close) → item ≡ event kind node text place → IsLegalAndDue item close → IsFineOrStopped close
+legal_event kind node text place item close is legal = subst (λ i. IsLegalAndDue i close) is legal
 
 -- ---- one thing behind another
 
@@ -73,42 +77,42 @@ behind_good d task given before c (Mismatch number) p st = st
 behind_good d task given before c (Stopped number stop) p st = st
 
 -- the page in which an item is played is that before it
-put_page : {A S : Type 0} (d : Doing A S) (task : Reported → A) (next : S → Option Waiting) (item : Reported) (p put : Place (Seat S) (List Given)) → IsPut (playing_of d task next) item p put → put.session.page ≡ p.session.page
+put_page : {A S : Type 0} (d : Doing A S) (task : Reported → A) (next : S → Option Waiting) (item : Reported) (p put : Place (Seat S) (List Given)) → IsPut (telling d task next) item p put → put.session.page ≡ p.session.page
 put_page d task next item p put (truth.fits room) = refl
 put_page d task next item p put (truth.opens session full turned) = ap (λ (a : Seat _). a.page) turned
 
-keeps_call : {A S : Type 0} (d : Doing A S) (task : Reported → A) (next : S → Option Waiting) (given : List Given) (before : List Contents) (c : Waiting) → AreItems d task → ServesNext d task next → (p : Place (Seat S) (List Given)) (close : Close) (q : Place (Seat S) (List Given)) → next p.session.page ≡ Some c → Standing d task given before p → TellsCall (playing_of d task next) c p close q → Good d task given before close q
+keeps_call : {A S : Type 0} (d : Doing A S) (task : Reported → A) (next : S → Option Waiting) (given : List Given) (before : List Contents) (c : Waiting) → AreItems d task → ServesNext d task next → (p : Place (Seat S) (List Given)) (close : Close) (q : Place (Seat S) (List Given)) → next p.session.page ≡ Some c → Standing d task given before p → TellsCall (telling d task next) c p close q → Good d task given before close q
 keeps_call d task next given before c are serves p close q waits st t =
     let told = t.tells in
     let put = told.put in
     let play = told.plays in
     let there = ap next (put_page d task next told.item p put told.is_put) ∙ waits in
-    let ok = serves put.session.batch (put.session.count + 1) put.session.world put.session.page (first_given put.giver) c told.item close play.more play.fuel play.left t.told.session.world t.told.session.page there told.is play.is in
+    let ok = serves put.session.batch (put.session.count + 1) put.session.world put.session.page (first_given put.giver) c told.item close play.is.gs play.is.fuel play.is.left t.told.session.world t.told.session.page there told.is play.is.is in
     let good = subst (λ m. Good d task given before close m) (sym told.rest) (item_good d task next given before are p put told.item close told.fuel t.told.session t.told.giver ok told.is_put st play) in
     subst (λ m. Good d task given before close m) (sym t.behind) (behind_good d task given before c close t.told good)
 
-keeps_calls : {A S : Type 0} (d : Doing A S) (task : Reported → A) (next : S → Option Waiting) (given : List Given) (before : List Contents) → AreItems d task → ServesNext d task next → (p : Place (Seat S) (List Given)) (close : Close) (q : Place (Seat S) (List Given)) → Standing d task given before p → TellsCalls (playing_of d task next) p close q → Good d task given before close q
+keeps_calls : {A S : Type 0} (d : Doing A S) (task : Reported → A) (next : S → Option Waiting) (given : List Given) (before : List Contents) → AreItems d task → ServesNext d task next → (p : Place (Seat S) (List Given)) (close : Close) (q : Place (Seat S) (List Given)) → Standing d task given before p → TellsCalls (telling d task next) p close q → Good d task given before close q
 keeps_calls d task next given before are serves p close q st (truth.none _ none) = st
 keeps_calls d task next given before are serves p close q st (truth.more _ c m _ _ waits call rest) = keeps_calls d task next given before are serves m close q (keeps_call d task next given before c are serves p Fine m waits st call) rest
 keeps_calls d task next given before are serves p close q st (truth.breaks _ c _ _ waits broken call) = keeps_call d task next given before c are serves p close q waits st call
 
 -- ---- a list
 
-keeps_replies : {A S : Type 0} (d : Doing A S) (task : Reported → A) (next : S → Option Waiting) (given : List Given) (before : List Contents) → AreItems d task → ServesNext d task next → (ks : List ℕ) → Keeps d task given before (TellsReplies (playing_of d task next) ks)
+keeps_replies : {A S : Type 0} (d : Doing A S) (task : Reported → A) (next : S → Option Waiting) (given : List Given) (before : List Contents) → AreItems d task → ServesNext d task next → (ks : List ℕ) → Keeps d task given before (TellsReplies (telling d task next) ks)
 keeps_replies d task next given before are serves [] = keeps_silent d task given before
 keeps_replies d task next given before are serves (k ∷ ks) =
-    keeps_then d task given before (TellsItem (playing_of d task next) (λ item. item ≡ reply k)) (Then (TellsCalls (playing_of d task next)) (TellsReplies (playing_of d task next) ks)) (keeps_item d task next given before (λ item. item ≡ reply k) are (legal_reply k))
-    (keeps_then d task given before (TellsCalls (playing_of d task next)) (TellsReplies (playing_of d task next) ks) (keeps_calls d task next given before are serves) (keeps_replies d task next given before are serves ks))
+    keeps_then d task given before (TellsItem (telling d task next) (λ item. item ≡ reply k)) (Then (TellsCalls (telling d task next)) (TellsReplies (telling d task next) ks)) (keeps_item d task next given before (λ item. item ≡ reply k) are (legal_reply k))
+    (keeps_then d task given before (TellsCalls (telling d task next)) (TellsReplies (telling d task next) ks) (keeps_calls d task next given before are serves) (keeps_replies d task next given before are serves ks))
 
-keeps_event : {A S : Type 0} (d : Doing A S) (task : Reported → A) (next : S → Option Waiting) (given : List Given) (before : List Contents) → AreItems d task → ServesNext d task next → (g : Gesture) → Keeps d task given before (TellsEvent (playing_of d task next) g)
+keeps_event : {A S : Type 0} (d : Doing A S) (task : Reported → A) (next : S → Option Waiting) (given : List Given) (before : List Contents) → AreItems d task → ServesNext d task next → (g : Gesture) → Keeps d task given before (TellsEvent (telling d task next) g)
 keeps_event d task next given before are serves (Event r) =
-    keeps_then d task given before (TellsItem (playing_of d task next) (λ item. item ≡ event r.kind r.node r.text r.place)) (TellsCalls (playing_of d task next)) (keeps_item d task next given before (λ item. item ≡ event r.kind r.node r.text r.place) are (legal_event r.kind r.node r.text r.place)) (keeps_calls d task next given before are serves)
+    keeps_then d task given before (TellsItem (telling d task next) (λ item. item ≡ event r.kind r.node r.text r.place)) (TellsCalls (telling d task next)) (keeps_item d task next given before (λ item. item ≡ event r.kind r.node r.text r.place) are (legal_event r.kind r.node r.text r.place)) (keeps_calls d task next given before are serves)
 keeps_event d task next given before are serves Flush = keeps_silent d task given before
 
-keeps_list : {A S : Type 0} (d : Doing A S) (task : Reported → A) (next : S → Option Waiting) (given : List Given) (before : List Contents) → AreItems d task → ServesNext d task next → (g : Gesture) → Keeps d task given before (TellsList (playing_of d task next) g)
+keeps_list : {A S : Type 0} (d : Doing A S) (task : Reported → A) (next : S → Option Waiting) (given : List Given) (before : List Contents) → AreItems d task → ServesNext d task next → (g : Gesture) → Keeps d task given before (TellsList (telling d task next) g)
 keeps_list d task next given before are serves g p close q st t =
-    keeps_then d task given before (TellsCalls (playing_of d task next)) (Then (TellsReplies (playing_of d task next) p.waiting) (TellsEvent (playing_of d task next) g)) (keeps_calls d task next given before are serves)
-    (keeps_then d task given before (TellsReplies (playing_of d task next) p.waiting) (TellsEvent (playing_of d task next) g) (keeps_replies d task next given before are serves p.waiting) (keeps_event d task next given before are serves g))
+    keeps_then d task given before (TellsCalls (telling d task next)) (Then (TellsReplies (telling d task next) p.waiting) (TellsEvent (telling d task next) g)) (keeps_calls d task next given before are serves)
+    (keeps_then d task given before (TellsReplies (telling d task next) p.waiting) (TellsEvent (telling d task next) g) (keeps_replies d task next given before are serves p.waiting) (keeps_event d task next given before are serves g))
     (record p { waiting = [] }) close q (rewait d task given before p [] st) t
 
 -- ---- gestures
@@ -118,7 +122,7 @@ abbrev Starts : {A S : Type 0} → Doing A S → (Reported → A) → List Given
 Starts d task given before a g number waiting =
     Standing d task given before (record { session = record a { batch = number; count = 0 }; giver = g; closed = []; number = number; items = []; waiting = waiting })
 
-list_good : {A S : Type 0} (d : Doing A S) (task : Reported → A) (next : S → Option Waiting) (given : List Given) (before : List Contents) → AreItems d task → ServesNext d task next → (gesture : Gesture) (a b : Seat S) (g h : List Given) (number following : ℕ) (waiting waits : List ℕ) (close : Close) (batches : List Contents) → Starts d task given before a g number waiting → (t : TellsGesture (playing_of d task next) gesture a g number waiting close batches b h following waits) → Good d task given before close t.last
+list_good : {A S : Type 0} (d : Doing A S) (task : Reported → A) (next : S → Option Waiting) (given : List Given) (before : List Contents) → AreItems d task → ServesNext d task next → (gesture : Gesture) (a b : Seat S) (g h : List Given) (number following : ℕ) (waiting waits : List ℕ) (close : Close) (batches : List Contents) → Starts d task given before a g number waiting → (t : TellsGesture (telling d task next) gesture a g number waiting close batches b h following waits) → Good d task given before close t.last
 list_good d task next given before are serves gesture a b g h number following waiting waits close batches st t =
     keeps_list d task next given before are serves gesture _ close t.last (subst (λ (first : Seat _). Standing d task given before (record { session = first; giver = g; closed = []; number = number; items = []; waiting = waiting })) (sym t.turns) st) t.tells
 
@@ -132,7 +136,7 @@ stopped_served d task given before (Refused number kind) q broken good = absurd 
 stopped_served d task given before (Mismatch number) q broken good = absurd good
 stopped_served d task given before (Stopped number stop) q broken good = good
 
-reports_served : {A S : Type 0} (d : Doing A S) (task : Reported → A) (next : S → Option Waiting) (given : List Given) (before : List Contents) → AreItems d task → ServesNext d task next → (gestures : List Gesture) (a : Seat S) (g : List Given) (number : ℕ) (waiting : List ℕ) (batches : List Contents) → Starts d task given before a g number waiting → Reports (playing_of d task next) gestures a g number waiting batches → (k : ℕ) → Honest (session_parts d (take k (before ++ batches)) given)
+reports_served : {A S : Type 0} (d : Doing A S) (task : Reported → A) (next : S → Option Waiting) (given : List Given) (before : List Contents) → AreItems d task → ServesNext d task next → (gestures : List Gesture) (a : Seat S) (g : List Given) (number : ℕ) (waiting : List ℕ) (batches : List Contents) → Starts d task given before a g number waiting → Reports (telling d task next) gestures a g number waiting batches → (k : ℕ) → Honest (session_parts d (take k (before ++ batches)) given)
 reports_served d task next given before are serves gestures a g number waiting batches st (truthful.silent _ _ _ _) k = st.fronts k
 reports_served d task next given before are serves gestures a g number waiting batches st (truthful.told gesture others _ b _ h _ following _ waits told rest t reports) k =
     let last = t.last in

@@ -1,4 +1,4 @@
--- Truthful reports, and that they are served.
+-- The honest client: the batches that it tells of gestures, and that they are served.
 use Rattle.std.specs.Prelude.{◌≡◌, ◌≢◌, ℕ, ◌+◌, Bool, true, false, List, [], ◌∷◌, ◌++◌, map, take, Option, Some, None}
 use Rattle.std.specs.List.{list_any}
 use Rattle.rip_heap.specs.World.{World}
@@ -13,6 +13,7 @@ use Rattle.rip_wire.specs.declared.gesture.Gesture.{Gesture}
 use Rattle.rip_history.specs.Parts.{Fact, passes, serves, finishes, Part, Given}
 use Rattle.rip_replica.specs.Parts.{Doing, first_given, given_behind, session_parts, whole_item}
 use Rattle.rip_client.specs.declared.actor.Over.{Over}
+use Rattle.rip_client.specs.Wholes.{IsWhole}
 use Rattle.rip_client.specs.Truth.{IsReportOf, Playing, TellsGesture, Waiting}
 
 -- ---- a session that is played item by item
@@ -24,12 +25,21 @@ pub record Seat (S : Type 0) : Type 0 where
   pub batch : ℕ
   pub count : ℕ
 
+-- what gives replies, where G is its type: what an item of this fact is given, and what is behind it, where it closed so
+pub record Giving (G : Type 0) : Type 0 where
+  pub gives : Fact → G → Given
+  pub behind : Fact → Close → G → G
+
 -- what is left of what is given behind an item that came to this and closed so
 abbrev pub given_after : Fact → Close → List Given → List Given
 given_after fact Fine gs = given_behind fact gs
 given_after fact (Refused item kind) gs = gs
 given_after fact (Mismatch item) gs = gs
 given_after fact (Stopped item stop) gs = gs
+
+-- what is given is this, one after another
+abbrev pub given_in_turn : Giving (List Given)
+given_in_turn = record { gives = λ fact gs. first_given gs; behind = given_after }
 
 -- an item is over and fine, or a limit or a fault stopped it
 abbrev pub IsFineOrStopped : Close → Type 0
@@ -38,28 +48,36 @@ IsFineOrStopped (Refused item kind) = ⊥
 IsFineOrStopped (Mismatch item) = ⊥
 IsFineOrStopped (Stopped item stop) = Unit {0}
 
--- an event is legal where it stands, and a reply is due there; of a call nothing is asked
+-- an event is legal where it stands; of calls and replies nothing is asked
 abbrev pub IsLegal : Reported → Close → Type 0
 IsLegal (event kind node text place) close = IsFineOrStopped close
 IsLegal (call number name args) close = Unit {0}
-IsLegal (reply number) close = IsFineOrStopped close
+IsLegal (reply number) close = Unit {0}
 
--- an item that is legal is played whole where the session stands, with what is given to come, and comes out so
-pub record IsPlayed {A S : Type 0} (d : Doing A S) (task : Reported → A) (item : Reported) (a : Seat S) (gs : List Given) (over : Over) (b : Seat S) (hs : List Given) : Type 0 where
-  pub more : List (S → S)
-  pub fuel : ℕ
-  pub left : ℕ
-  pub is : whole_item d a.batch (task item) (a.count + 1) a.world a.page (first_given gs) ≡ Closes over.close more fuel left b.world b.page
+-- an event is legal where it stands, and a reply is due there; of a call nothing is asked
+abbrev pub IsLegalAndDue : Reported → Close → Type 0
+IsLegalAndDue (event kind node text place) close = IsFineOrStopped close
+IsLegalAndDue (call number name args) close = Unit {0}
+IsLegalAndDue (reply number) close = IsFineOrStopped close
+
+-- of no item anything is asked
+abbrev pub IsAny : Reported → Close → Type 0
+IsAny item close = Unit {0}
+
+-- an item is played whole where the session stands, with what is given to it, and comes out so, which is legal in this sense
+pub record IsPlayed {A S G : Type 0} (d : Doing A S) (task : Reported → A) (giving : Giving G) (Legal : Reported → Close → Type 0) (item : Reported) (a : Seat S) (g : G) (over : Over) (b : Seat S) (h : G) : Type 0 where
+  pub is : IsWhole d a.batch (task item) (a.count + 1) a.world a.page (giving.gives (d.fact (task item)) g) (record { close = over.close; fuel = over.fuel }) b.world b.page
   pub batch : b.batch ≡ a.batch
   pub count : b.count ≡ a.count + 1
-  pub given : hs ≡ given_after (d.fact (task item)) over.close gs
-  pub legal : IsLegal item over.close
+  pub given : h ≡ giving.behind (d.fact (task item)) over.close g
+  pub legal : Legal item over.close
 
--- a session in which this is done, where these are the items that report, and the call that is read off a page as the next
-abbrev pub playing_of : {A S : Type 0} → Doing A S → (Reported → A) → (S → Option Waiting) → Playing (Seat S) (List Given)
-playing_of d task next = record {
+-- a session in which this is done, where these are the items that report, this is the call that is read off a page as the
+-- next, this gives replies, and items are legal in this sense
+abbrev pub playing_of : {A S G : Type 0} → Doing A S → (Reported → A) → (S → Option Waiting) → Giving G → (Reported → Close → Type 0) → Playing (Seat S) G
+playing_of d task next giving Legal = record {
   turns = λ n a b. b ≡ record a { batch = n; count = 0 };
-  plays = λ item a gs over b hs. IsPlayed d task item a gs over b hs;
+  plays = λ item a g over b h. IsPlayed d task giving Legal item a g over b h;
   next = λ a. next a.page;
 }
 
@@ -75,15 +93,23 @@ pub data Reports {A G : Type 0} (x : Playing A G) : List Gesture → A → G →
   ended : (gesture : Gesture) (gestures : List Gesture) (a b : A) (g h : G) (number next : ℕ) (waiting waits : List ℕ) (close : Close) (batches : List Contents)
       → close ≢ Fine → TellsGesture x gesture a g number waiting close batches b h next waits → Reports x (gesture ∷ gestures) a g number waiting batches
 
--- the batches that a truthful client tells of these gestures, in a session that was opened fine and is given this
-pub record IsReport {A S : Type 0} (d : Doing A S) (task : Reported → A) (next : S → Option Waiting) (gestures : List Gesture) (given : List Given) (batches : List Contents) : Type 0 where
+-- the batches of gestures whose items are legal in this sense, in a session that was opened fine and is given this
+pub record IsReportBy {A S : Type 0} (Legal : Reported → Close → Type 0) (d : Doing A S) (task : Reported → A) (next : S → Option Waiting) (gestures : List Gesture) (given : List Given) (batches : List Contents) : Type 0 where
   pub more : List (S → S)
   pub fuel : ℕ
   pub left : ℕ
   pub world : World
   pub page : S
   pub opens : whole_item d 0 d.opening 1 d.world d.page (first_given given) ≡ Closes Fine more fuel left world page
-  pub reports : Reports (playing_of d task next) gestures (record { world = world; page = page; batch = 0; count = 1 }) given 1 [] batches
+  pub reports : Reports (playing_of d task next given_in_turn Legal) gestures (record { world = world; page = page; batch = 0; count = 1 }) given 1 [] batches
+
+-- the batches that an honest client tells of these gestures, in such a session: each event is legal at its place
+abbrev pub IsReport : {A S : Type 0} → Doing A S → (Reported → A) → (S → Option Waiting) → List Gesture → List Given → List Contents → Type 0
+IsReport d task next gestures given batches = IsReportBy IsLegal d task next gestures given batches
+
+-- and each reply is due where it is told
+abbrev pub IsDueReport : {A S : Type 0} → Doing A S → (Reported → A) → (S → Option Waiting) → List Gesture → List Given → List Contents → Type 0
+IsDueReport d task next gestures given batches = IsReportBy IsLegalAndDue d task next gestures given batches
 
 -- ---- that they are served
 
@@ -116,9 +142,9 @@ ServesNext {A} {S} d task next =
     (batch n : ℕ) (w : World) (s : S) (g : Given) (c : Waiting) (item : Reported) (close : Close) (more : List (S → S)) (fuel left : ℕ) (x : World) (r : S)
     → next s ≡ Some c → IsReportOf c item → whole_item d batch (task item) n w s g ≡ Closes close more fuel left x r → IsFineOrStopped close
 
--- a session that is given any front of these batches is ended by no mismatch and no bad report
+-- a session that is given any front of these batches, where each reply is due, is ended by no mismatch and no bad report
 abbrev pub TruthIsServed : Type 0 → Type 0 → Type 0
 TruthIsServed A S =
     (d : Doing A S) (task : Reported → A) (next : S → Option Waiting) (gestures : List Gesture) (given : List Given) (batches : List Contents)
-    → AreItems d task → ServesNext d task next → IsReport d task next gestures given batches
+    → AreItems d task → ServesNext d task next → IsDueReport d task next gestures given batches
     → (k : ℕ) → has_lie (session_parts d (take k batches) given) ≡ false
