@@ -12,7 +12,7 @@ use Rattle.rip_tree.specs.declared.node.Node.{Node}
 use Rattle.rip_tree.specs.Branches.{Branch, links_of, node_of}
 use Rattle.rip_tree.specs.Firsts.{first_named, first_with, name_at, name_of}
 use Rattle.rip_tree.specs.Program.{Code, Grove}
-use Rattle.rip_machine.specs.Loading.{StandsIfAny, TextsStand, form_cost, form_text, name_span, node_cost, own_span, own_text, start_of_text, put_text, span_of, texts_before, with_form}
+use Rattle.rip_machine.specs.Loading.{StandsIfAny, TextsStand, cost_of_literals, form_cost, form_text, name_span, node_cost, own_span, own_text, start_of_text, put_text, span_of, texts_before, with_form}
 use Rattle.rip_eval_language.specs.Reading.{form_in}
 
 -- the branches from this one on
@@ -54,6 +54,14 @@ costs_more units bs id node h =
     let all = sum_by-take-drop (node_cost units) bs id in
     let more = sum_by-take-drop (node_cost units) bs (id + 1) in
     omega (arith, all, more, cost_more units bs id node h)
+
+-- the charge of one node more passes no limit, where those of all together pass none
+pub one_fits : (code : Code) (w x : World) (id : ℕ) (node : Node) → node_of code.grove.branches id ≡ Some node → w.pool.used + cost_of_literals code ≤ w.pool.limit
+    → x ≡ loaded_before code id w → x.pool.used + form_cost code.grove.units node.form ≤ x.pool.limit
+one_fits code w x id node h all loaded =
+    let used = ap (λ (y : World). y.pool.used) loaded in
+    let limit = ap (λ (y : World). y.pool.limit) loaded in
+    omega (arith, all, used, limit, sum_by-take-drop (node_cost code.grove.units) code.grove.branches id, cost_more code.grove.units code.grove.branches id node h)
 
 -- a form that is that of a node
 form_is : (code : Code) (id : ℕ) (node : Node) → node_of code.grove.branches id ≡ Some node → form_in (node_of code.grove.branches id) ≡ node.form

@@ -88,13 +88,15 @@ fn add_key(alloc: Global, program: &Program, heap: &mut Heap, key: &Key) -> Resu
     }
 }
 
-/// Adds the text that a node is or names. What would pass the limit is want of memory: the charge was tried before.
+/// Adds the text that a node is or names. Its charge passes no limit.
 fn add_form(
     alloc: Global,
     program: &Program,
     heap: &mut Heap,
     form: &Form,
 ) -> Result<Span, NoMemory>
+    requires { heap.old.pool.used + form_cost program.now.grove.units form.now
+        ≤ heap.old.pool.limit }
     ensures span { IfOk result (λ span. span ≡ own_span (length heap.old.pool.units)
         program.now.grove.units form.now) }
     ensures added { OnOk result (heap.new ≡ with_form program.now.grove.units form.now heap.old) }
@@ -107,7 +109,7 @@ fn add_form(
     match form {
         Form::Text(literal) => match heap.add_text(alloc, program.units(literal.value)) {
             Ok(span) => Ok(span),
-            Err(_) => Err(NoMemory),
+            Err(_) => unreachable!(),
         },
         Form::Member(name) => add_name(alloc, heap, program.units(*name)),
         Form::Entry(key) => add_key(alloc, program, heap, key),
@@ -115,13 +117,14 @@ fn add_form(
     }
 }
 
-/// Adds the texts of a program, each name once, and gives the span of each node. For want of memory some are added, and can be
-/// cut back.
+/// Adds the texts of a program, each name once, and gives the span of each node. Their charges together pass no limit. For want
+/// of memory some are added, and can be cut back.
 pub(crate) fn load_texts(
     alloc: Global,
     program: &Program,
     heap: &mut Heap,
 ) -> Result<Vec<Span>, NoMemory>
+    requires { heap.old.pool.used + cost_of_literals program.now ≤ heap.old.pool.limit }
     ensures spans { IfOk result (λ spans. spans.items ≡ spans_loaded program.now heap.old) }
     ensures loaded { OnOk result (heap.new ≡ world_loaded program.now heap.old) }
     ensures stand { IfOk result

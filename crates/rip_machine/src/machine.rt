@@ -4,7 +4,7 @@ ghost use Rattle.rip_heap.specs.Step.{TakesNoMemory};
 ghost use Rattle.rip_eval_rows.specs.Nesting.{IsInside};
 ghost use Rattle.rip_eval_rows.specs.Room.{WantsMemory};
 ghost use Rattle.rip_machine.specs.Law.{Resumes, Starts, loaded, open_depth, values_of};
-ghost use Rattle.rip_machine.specs.Loading.{Loads, TextsStand, spans_loaded, values_needed, world_loaded};
+ghost use Rattle.rip_machine.specs.Loading.{Loads, TextsStand, cost_of_literals, spans_loaded, values_needed, world_loaded};
 ghost use Rattle.rip_machine.specs.Starting.{arguments_in, begun, started_of};
 ghost use Rattle.rip_eval_language.specs.Table.{table};
 
@@ -38,8 +38,9 @@ impl Model for Machine {
     ghost view = { λ m. standing m.run m.literals.items };
 }
 
-/// Adds the texts of a program. For want of memory all is as before.
+/// Adds the texts of a program, whose charges together pass no limit. For want of memory all is as before.
 fn load_whole(alloc: Global, program: &Program, heap: &mut Heap) -> Result<Vec<Span>, NoMemory>
+    requires { heap.old.pool.used + cost_of_literals program.now ≤ heap.old.pool.limit }
     ensures spans { IfOk result (λ spans. spans.items ≡ spans_loaded program.now heap.old) }
     ensures loaded { OnOk result (heap.new ≡ world_loaded program.now heap.old) }
     ensures stand { IfOk result

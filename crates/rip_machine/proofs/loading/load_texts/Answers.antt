@@ -11,12 +11,16 @@ use Rattle.rip_machine.specs.Back.{CutsTo}
 use Rattle.rip_machine.specs.Loading.{StandsIfAny, form_text, span_of}
 use Rattle.rip_eval_language.specs.Reading.{form_in}
 use Rattle.rip_machine.proofs.TakenBack.{form_cuts}
-use Rattle.rip_machine.proofs.Loads.{all_stand, copied_span, copied_stand, copied_world, loaded_before, name_before, own_spans, own_world, spans_long, stand_more}
+use Rattle.rip_machine.proofs.Loads.{all_stand, copied_span, copied_stand, copied_world, loaded_before, name_before, one_fits, own_spans, own_world, spans_long, stand_more}
 use Rattle.rip_machine.proofs.loading.load_texts.Goals as goal
 use Rattle.rip_machine.proofs.loading.load_texts.Goals.{then-first-id, else-first-id+in_ok-span}
 
 pub index-requires : goal.index-requires
 index-requires c = omega (arith, spans_long (span_of c.args.program.now c.args.heap.now) c.loop-id.spans.items c.loop-id.id c.loop-id.invariant.spans)
+
+pub add_form-requires : goal.add_form-requires
+add_form-requires c =
+    one_fits c.args.program.now c.args.heap.now c.loop-id.heap c.loop-id.id c.node.result.now c.node.ensures c.requires c.loop-id.invariant.loaded
 
 pub returns-in_err-push-clause-back : goal.returns-in_err-push-clause-back
 returns-in_err-push-clause-back c = λ v b. elim c.if-first-id.branch [
