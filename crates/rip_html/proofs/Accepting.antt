@@ -1,11 +1,10 @@
 -- Tokens of parts that make a page are refused nowhere.
-use Rattle.std.proofs.Common.{◌≡◌, ℕ, suc, ◌+◌, ◌<◌, Bool, true, false, not, cond, ◌&&◌, ◌==◌, nat_le, List, [], ◌∷◌, ◌++◌, length, Option, Some, None, refl, sym, ap, ◌∙◌, subst, arith, eq-eqb, bytes_eq}
+use Rattle.std.proofs.Common.{◌≡◌, ℕ, suc, ◌+◌, true, false, not, cond, ◌&&◌, nat_le, List, [], ◌∷◌, ◌++◌, length, Some, None, refl, sym, ap, ◌∙◌, subst, arith, eq-eqb, bytes_eq}
 use Rattle.std.proofs.lemmas.Bool.{lt-leb}
 use Rattle.std.specs.Prelude.{codes}
 use Rattle.std.specs.List.{AllByRecursion}
 use Rattle.rip_base.specs.declared.page.PageKind.{PageKind}
 use Rattle.rip_base.specs.declared.page.PageKind.TheVariants as K
-use Rattle.rip_markup.specs.Words.{is_among}
 use Rattle.rip_markup.specs.Fault.{shifted}
 use Rattle.rip_markup.specs.declared.tag.StartTag.{StartTag}
 use Rattle.rip_markup.specs.declared.token.TextRun.{TextRun}
@@ -14,13 +13,13 @@ use Rattle.rip_markup.specs.declared.token.Token.TheVariants as T
 use Rattle.rip_markup.specs.declared.token.Placed.{Placed}
 use Rattle.rip_html.specs.declared.part.Part.{Part}
 use Rattle.rip_html.specs.declared.part.Part.TheVariants as P
-use Rattle.rip_html.specs.Tags.{head_names, is_script, is_void, is_outside}
+use Rattle.rip_html.specs.Tags.{is_script, is_void, is_outside}
 use Rattle.rip_html.specs.Forests.{Forest, Nothing, Words, Remark, Void, Nested, end_of, forest_tokens}
-use Rattle.rip_html.specs.Grammar.{IsSpace, IsTag, IsContent, IsHead, IsScripts, IsDropped, IsDoctype, Parts, end_tokens, body_tokens, head_tokens, page_tokens, AreParts}
+use Rattle.rip_html.specs.Grammar.{IsSpace, IsContent, IsHead, IsScripts, IsDropped, IsDoctype, Parts, end_tokens, body_tokens, head_tokens, page_tokens, AreParts}
 use Rattle.rip_html.specs.Standings.{Standing, alone, first_standing, begun, behind_start, after}
 use Rattle.rip_html.specs.Refusals.{text_kind, content_kind, body_tag_kind, head_tag_kind, end_kind, part_kind, kind_at, refusal_at, refusal_from}
 use Rattle.rip_html.specs.Pages.{bare}
-use Rattle.rip_html.proofs.Choice.{both_none, none_both, or_none, none_or, and_false, same_name, name_is, script_opens}
+use Rattle.rip_html.proofs.Choice.{both_none, or_none, none_or, and_false, same_name, script_opens}
 
 -- none of these tokens is refused, where the first of them stands here
 abbrev pub Accepted : Standing → List Token → Type 0

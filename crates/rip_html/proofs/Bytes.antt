@@ -1,5 +1,5 @@
 -- A page's text is no longer than its bytes, and each place in it is one of the bytes' places.
-use Rattle.std.proofs.Common.{◌≡◌, ℕ, pred, ◌+◌, ◌-◌, ◌/◌, ◌%◌, ◌<◌, ◌≤◌, Bool, true, false, cond, ◌&&◌, ◌==◌, nat_lt, nat_le, ◌⊎◌, inl, inr, ⊎_elim, List, [], ◌∷◌, ◌++◌, length, drop, refl, sym, ap, ◌∙◌, subst, arith, length-append, length-drop}
+use Rattle.std.proofs.Common.{◌≡◌, ℕ, pred, ◌+◌, ◌-◌, ◌/◌, ◌%◌, ◌<◌, ◌≤◌, Bool, true, false, cond, ◌&&◌, ◌==◌, nat_lt, nat_le, ◌⊎◌, inl, inr, List, [], ◌∷◌, ◌++◌, length, sym, ap, subst, arith, length-append, length-drop}
 use Rattle.std.proofs.lemmas.Bool.{le-leb, le-ltb, lt-ltb}
 use Rattle.std.proofs.lemmas.Str.{length-encode}
 use Rattle.std.specs.Char.{len_utf8}
@@ -9,7 +9,7 @@ use Rattle.std.specs.Prelude.{encode_utf8}
 use Rattle.std.proofs.str.Utf16.{one_unit, two_units}
 use Rattle.std.proofs.str.Laws.{both}
 use Rattle.std.proofs.Math.Utf8.{scalar_cases}
-use Rattle.rip_base.specs.Text.{encode_utf16_all, IsSameText}
+use Rattle.rip_base.specs.Text.{encode_utf16_all}
 use Rattle.rip_base.specs.Units.{is_between}
 use Rattle.rip_markup.specs.Input.{mark_count, unmarked, lines, unit_width, bytes_before, IsTextOf}
 use Rattle.rip_markup.specs.declared.input.PageText.{PageText}

@@ -1,10 +1,10 @@
 -- Which way a test went, what an option holds, and names that are tested.
-use Rattle.std.proofs.Common.{◌≡◌, ℕ, Bool, true, false, cond, ◌&&◌, ◌⊎◌, inl, inr, List, [], ◌∷◌, Option, Some, None, option_map, refl, sym, ap, ◌∙◌, bytes_eq}
+use Rattle.std.proofs.Common.{◌≡◌, ℕ, Bool, true, false, cond, ◌&&◌, ◌⊎◌, inl, inr, List, Option, Some, None, option_map, refl, ap, bytes_eq}
 use Rattle.std.proofs.lemmas.Slice.Eq.{bytes_eq-Decides}
 use Rattle.std.specs.Prelude.{codes}
 use Rattle.rip_base.specs.declared.page.PageKind.{PageKind}
 use Rattle.rip_markup.specs.Fault.{option_or}
-use Rattle.rip_markup.specs.Words.{is_among, void_names}
+use Rattle.rip_markup.specs.Words.{void_names}
 use Rattle.rip_markup.specs.declared.fault.Fault.{Fault}
 use Rattle.rip_html.specs.Tags.{is_script, is_void}
 use Rattle.rip_html.specs.Refusals.{is_before, least_fault}

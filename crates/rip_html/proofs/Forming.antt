@@ -19,8 +19,8 @@ use Rattle.rip_html.specs.declared.part.Part.TheVariants as P
 use Rattle.rip_html.specs.Tags.{head_names, is_script, is_void, is_outside}
 use Rattle.rip_html.specs.Forests.{Forest, Nothing, Words, Remark, Void, Nested, end_of, forest_tokens}
 use Rattle.rip_html.specs.Grammar.{IsSpace, IsTag, IsContent, IsHead, IsScripts, IsDropped, IsDoctype, Parts, end_tokens, body_tokens, head_tokens, page_tokens, AreParts}
-use Rattle.rip_html.specs.Standings.{Standing, alone, first_standing, opened, begun, behind_start, after}
-use Rattle.rip_html.specs.Refusals.{text_kind, content_kind, body_tag_kind, head_tag_kind, end_kind, part_kind, kind_at, own_fault, refusal_at}
+use Rattle.rip_html.specs.Standings.{Standing, alone, opened, begun, after}
+use Rattle.rip_html.specs.Refusals.{text_kind, content_kind, body_tag_kind, head_tag_kind, end_kind, kind_at, own_fault, refusal_at}
 use Rattle.rip_html.proofs.Choice.{either_way, took_none, took_rest, none_both, name_is, script_opens}
 use Rattle.rip_html.proofs.Accepting.{Accepted, here}
 

@@ -1,7 +1,6 @@
 -- The tokens of a page end with the first that is the last.
-use Rattle.std.proofs.Common.{◌≡◌, ℕ, Bool, true, false, List, [], ◌∷◌, map, MatchBool, None, refl, sym, ap, subst}
+use Rattle.std.proofs.Common.{◌≡◌, ℕ, Bool, true, false, List, [], ◌∷◌, MatchBool, None, sym, ap, subst}
 use Rattle.rip_markup.specs.Tokens.{is_last, AreTokens, IsTokens}
-use Rattle.rip_markup.specs.declared.token.Token.{Token}
 use Rattle.rip_markup.specs.declared.token.Placed.{Placed}
 use Rattle.rip_html.specs.Grammar.{Parts, page_tokens, AreParts}
 use Rattle.rip_html.specs.Standings.{first_standing}

@@ -1,6 +1,7 @@
 pub mod Accepting
 pub mod Bytes
 pub mod Choice
+pub mod Counting
 pub mod Forming
 pub mod Lasting
 pub mod Numbering

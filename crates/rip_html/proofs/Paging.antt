@@ -1,16 +1,15 @@
 -- Nodes that are made token by token are those of a page.
-use Rattle.std.proofs.Common.{◌≡◌, ℕ, suc, ◌+◌, ◌<◌, ◌≤◌, Bool, true, false, cond, ◌==◌, ◌&&◌, nat_lt, List, [], ◌∷◌, ◌++◌, length, drop, Option, Some, None, IfSome, refl, sym, ap, ◌∙◌, subst, arith, lit<, ◌^◌, length-append}
+use Rattle.std.proofs.Common.{◌≡◌, ℕ, suc, ◌+◌, ◌<◌, ◌≤◌, Bool, true, false, cond, ◌&&◌, nat_lt, List, [], ◌∷◌, ◌++◌, length, drop, sym, ap, ◌∙◌, subst, arith, lit<, ◌^◌, length-append}
 use Rattle.std.specs.List.{AllByRecursion}
 use Rattle.rip_base.specs.Page.{ParentsPrecede, IsPage}
 use Rattle.rip_base.specs.declared.page.PageNode.{PageNode}
-use Rattle.rip_markup.specs.declared.tag.StartTag.{StartTag}
 use Rattle.rip_markup.specs.declared.token.Token.{Token}
 use Rattle.rip_markup.specs.declared.token.Token.TheVariants as T
 use Rattle.rip_markup.specs.declared.token.Placed.{Placed}
 use Rattle.rip_html.specs.Tags.{is_script, is_void}
 use Rattle.rip_html.specs.Nodes.{document_node, element_node, text_nodes, comment_node}
 use Rattle.rip_html.specs.Scripts.{is_element, is_parent, text_number, script_numbers}
-use Rattle.rip_html.specs.Building.{parent_of, if_kept, token_nodes, open_after, built}
+use Rattle.rip_html.specs.Building.{parent_of, token_nodes, open_after, built}
 
 precede_append : (first : ℕ) (xs ys : List PageNode) → ParentsPrecede first xs → ParentsPrecede (first + length xs) ys → ParentsPrecede first (xs ++ ys)
 precede_append first [] ys h k = subst (λ n. ParentsPrecede n ys) (omega arith) k

@@ -1,16 +1,15 @@
 -- What is refused of tokens stands before a place that the tokens stay before.
-use Rattle.std.proofs.Common.{◌≡◌, ℕ, zero, suc, ◌+◌, ◌<◌, ◌≤◌, length, get_or, sym, Bool, true, false, cond, List, [], ◌∷◌, drop, Option, Some, None, IfSome, option_map, refl, ap, subst, arith}
+use Rattle.std.proofs.Common.{◌≡◌, ℕ, zero, suc, ◌<◌, ◌≤◌, length, get_or, sym, Bool, true, false, cond, List, [], ◌∷◌, drop, Option, Some, None, option_map, subst, arith}
 use Rattle.std.specs.List.{AllByRecursion}
 use Rattle.rip_base.specs.declared.page.PageKind.{PageKind}
 use Rattle.rip_markup.specs.Fault.{fault}
 use Rattle.rip_markup.specs.Within.{FaultWithin, TokenWithin, PlacedWithin}
 use Rattle.rip_markup.specs.declared.fault.Fault.{Fault}
-use Rattle.rip_markup.specs.declared.token.EndTag.{EndTag}
 use Rattle.rip_markup.specs.declared.token.Token.{Token}
 use Rattle.rip_markup.specs.declared.token.Token.TheVariants as T
 use Rattle.rip_markup.specs.declared.token.Placed.{Placed}
 use Rattle.rip_html.specs.Standings.{Standing}
-use Rattle.rip_html.specs.Refusals.{kind_at, place_offset, own_fault, is_before, least_fault, refusal_at}
+use Rattle.rip_html.specs.Refusals.{kind_at, own_fault, is_before, least_fault, refusal_at}
 
 least_by : (b : Bool) (x y : Fault) (n : ℕ) → x.offset ≤ n → y.offset ≤ n → FaultWithin (cond b (Some y) (Some x)) n
 least_by true x y n h k = k

@@ -1,8 +1,7 @@
 -- What stands in an element, in the order of the page, and the tokens that spell it (HTML 13.1.2, 13.1.3).
-use Rattle.std.specs.Prelude.{ℕ, true, List, [], ◌∷◌}
+use Rattle.std.specs.Prelude.{ℕ, true, List, ◌∷◌}
 use Rattle.rip_markup.specs.declared.tag.StartTag.{StartTag}
 use Rattle.rip_markup.specs.declared.token.TextRun.{TextRun}
-use Rattle.rip_markup.specs.declared.token.EndTag.{EndTag}
 use Rattle.rip_markup.specs.declared.token.Token.{Token}
 use Rattle.rip_markup.specs.declared.token.Token.TheVariants as T
 

@@ -1,5 +1,5 @@
 -- The refusals of the page subset: which token is refused where it stands, at which of its units, and as what.
-use Rattle.std.specs.Prelude.{ℕ, suc, ◌+◌, Bool, not, ◌||◌, ◌&&◌, ◌==◌, nat_lt, nat_le, if◌then◌else◌, List, [], ◌∷◌, length, Option, Some, None, option_map, codes}
+use Rattle.std.specs.Prelude.{ℕ, ◌+◌, Bool, not, ◌||◌, ◌&&◌, ◌==◌, nat_lt, nat_le, if◌then◌else◌, List, [], ◌∷◌, length, Option, Some, None, option_map, codes}
 use Rattle.std.specs.Str.{bytes_eq}
 use Rattle.rip_base.specs.declared.page.PageKind.{PageKind}
 use Rattle.rip_base.specs.declared.page.PageKind.TheVariants as K

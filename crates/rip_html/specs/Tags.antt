@@ -1,5 +1,5 @@
 -- Names of elements by where they may stand (HTML 4.1.1, 4.2.1, 4.12.1, 13.1.2).
-use Rattle.std.specs.Prelude.{ℕ, Bool, not, ◌||◌, ◌&&◌, List, [], ◌∷◌, codes}
+use Rattle.std.specs.Prelude.{ℕ, Bool, ◌||◌, List, [], ◌∷◌, codes}
 use Rattle.std.specs.Str.{bytes_eq}
 use Rattle.rip_markup.specs.Words.{is_among, void_names, refused_names}
 

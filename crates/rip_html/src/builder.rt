@@ -28,6 +28,7 @@ impl Builder {
 
     /// Adds the node that a token makes, if any.
     fn take(&mut self, alloc: Global, token: Token) -> Result<(), NoMemory>
+        requires { length self.old.nodes.items < 2 ^ 32 }
         ensures nodes { OnOk result
             (self.new.nodes.items ≡ self.old.nodes.items
             ++ token_nodes (parent_of self.old.open.items) token) }
@@ -79,6 +80,7 @@ impl Builder {
 
     /// Adds an element, and opens it if it has content.
     fn add_element(&mut self, alloc: Global, tag: StartTag) -> Result<(), NoMemory>
+        requires { length self.old.nodes.items < 2 ^ 32 }
         ensures nodes { OnOk result
             (self.new.nodes.items ≡ self.old.nodes.items
             ++ element_node (parent_of self.old.open.items) tag ∷ []) }
@@ -86,9 +88,7 @@ impl Builder {
             (self.new.open.items ≡ open_after self.old.open.items (length self.old.nodes.items)
             (Token.StartTag tag)) }
     {
-        let Ok(number) = u32::try_from(self.nodes.len()) else {
-            return Err(NoMemory);
-        };
+        let number = self.nodes.len() as u32;
         let parent = self.parent();
         if !is_void(tag.name.as_slice()) {
             self.open.push_front(number)?;
@@ -140,6 +140,7 @@ fn document_node(alloc: Global) -> PageNode
 
 /// The nodes that the tokens of a page make.
 pub(crate) fn page_nodes(alloc: Global, tokens: List<Placed>) -> Result<List<PageNode>, NoMemory>
+    requires { length (built [] (document_node ∷ []) tokens) < 2 ^ 32 }
     ensures { IfOk result (λ nodes. nodes ≡ built [] (document_node ∷ []) tokens) }
 {
     let mut builder = Builder {

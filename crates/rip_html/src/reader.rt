@@ -1,4 +1,4 @@
-ghost use Rattle.std.specs.Prelude.{◌≡◌, ◌<◌, ◌≤◌, ◌+◌, ◌^◌, ◌∷◌, [], ℕ, false, IfOk, IfErr, MatchResult};
+ghost use Rattle.std.specs.Prelude.{◌≡◌, ◌<◌, ◌≤◌, ◌+◌, ◌^◌, ◌∷◌, [], ℕ, false, IfOk, IfErr, MatchResult, length};
 ghost use Rattle.rip_base.specs.Page.{Contents};
 ghost use Rattle.rip_base.specs.declared.page.PageKind.{PageKind};
 ghost use Rattle.rip_markup.specs.Input.{bytes_before};
@@ -59,13 +59,11 @@ fn refused_at(text: &PageText, fault: Fault) -> PageRefusal
 
 /// The page whose tokens these are.
 fn page_of(alloc: Global, tokens: List<Placed>) -> Result<Page, NoMemory>
+    requires { length (built [] (document_node ∷ []) tokens) < 2 ^ 32 }
     ensures nodes { IfOk result (λ page. page.nodes ≡ built [] (document_node ∷ []) tokens) }
     ensures scripts { IfOk result (λ page. page.scripts ≡ script_numbers 0 page.nodes) }
 {
     let nodes = page_nodes(alloc, tokens)?;
-    if nodes.len() > u32::MAX as usize {
-        return Err(NoMemory);
-    }
     let scripts = script_numbers(alloc, nodes.as_slice())?;
     Ok(Page::new(nodes, scripts))
 }

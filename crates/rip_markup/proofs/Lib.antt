@@ -1,6 +1,7 @@
 pub mod Adding
 pub mod Choice
 pub mod Classes
+pub mod Counting
 pub mod Decoding
 pub mod Fronts
 pub mod Having

@@ -1,25 +1,24 @@
 -- Tokens stand within the text, and so do their faults.
-use Rattle.std.proofs.Common.{◌≡◌, ℕ, zero, suc, ◌+◌, ◌<◌, ◌≤◌, Bool, true, false, not, cond, ◌&&◌, ◌||◌, ◌==◌, List, [], ◌∷◌, ◌++◌, length, drop, take_while, Option, Some, None, IfSome, option_map, MatchBool, refl, sym, ap, ◌∙◌, subst, arith, length-append, length-drop, bytes_eq, nat_lt, take}
+use Rattle.std.proofs.Common.{◌≡◌, ℕ, zero, suc, ◌+◌, ◌≤◌, Bool, true, false, not, cond, ◌&&◌, ◌==◌, List, [], ◌∷◌, ◌++◌, length, drop, take_while, Option, Some, None, IfSome, option_map, MatchBool, refl, sym, ap, ◌∙◌, subst, arith, length-append, length-drop, bytes_eq, nat_lt}
 use Rattle.std.proofs.lemmas.List.Sums.{prefix_len-le-length}
 use Rattle.std.proofs.lemmas.List.Folds.{length-prefix_len}
-use Rattle.std.proofs.lemmas.Bool.{false≢true, true≢false}
+use Rattle.std.proofs.lemmas.Bool.{false≢true}
 use Rattle.std.specs.Prelude.{codes}
 use Rattle.std.specs.List.{prefix_len, AllByRecursion}
 use Rattle.rip_base.specs.declared.page.PageKind.{PageKind}
 use Rattle.rip_base.specs.declared.page.PageKind.TheVariants.{BadTag, BadAttribute, DoubleAttribute, BadReference, ExternalScript, NotInSubset}
 use Rattle.rip_base.specs.Units.{small_text, begins}
-use Rattle.rip_markup.specs.Units.{is_space, is_letter, is_name_unit}
+use Rattle.rip_markup.specs.Units.{is_space, is_name_unit}
 use Rattle.rip_markup.specs.Words.{is_among, void_names, begins_with, script_types}
-use Rattle.rip_markup.specs.Attributes.{Written, attribute_text, value_units, value_offset, LeadsAttribute, LeadsAttributes}
-use Rattle.rip_markup.specs.Scans.{behind, value_close}
-use Rattle.rip_markup.specs.Steps.{step_at, decoded, bad_reference}
+use Rattle.rip_markup.specs.Attributes.{Written, attribute_text, value_units, value_offset, LeadsAttributes}
+use Rattle.rip_markup.specs.Scans.{behind}
+use Rattle.rip_markup.specs.Steps.{step_at, bad_reference}
 use Rattle.rip_markup.specs.Fault.{fault, shifted, option_or}
-use Rattle.rip_markup.specs.Ends.{has_solidus, end_count, end_space}
+use Rattle.rip_markup.specs.Ends.{end_count, end_space}
 use Rattle.rip_markup.specs.Forms.{form_of, stops, before}
-use Rattle.rip_markup.specs.Tags.{end_behind, tag_end, read_of, is_value, type_fault, own_fault, attribute_fault, attributes_length, attributes_fault, tag_fault, AreRead, IsStartTag}
+use Rattle.rip_markup.specs.Tags.{end_behind, tag_end, read_of, is_value, type_fault, own_fault, attribute_fault, attributes_length, attributes_fault, tag_fault, IsStartTag}
 use Rattle.rip_markup.specs.Tokens.{text_run, raw_run, script_fault, is_text, behind_comment, comment_token, comment_count, end_tag, end_tag_count, ReadsForm, Reads, is_last, content_after, dropped, drops_line, AreTokens, IsTokens}
 use Rattle.rip_markup.specs.Within.{FaultWithin, TokenWithin, PlacedWithin}
-use Rattle.rip_markup.specs.declared.attribute.ReadAttribute.{ReadAttribute}
 use Rattle.rip_markup.specs.declared.fault.Fault.{Fault}
 use Rattle.rip_markup.specs.declared.form.Form.{Form}
 use Rattle.rip_markup.specs.declared.form.Form.TheVariants as F
@@ -35,7 +34,6 @@ use Rattle.rip_markup.specs.declared.token.Placed.{Placed}
 use Rattle.rip_markup.specs.declared.token.Content.{Content}
 use Rattle.rip_markup.specs.declared.token.Content.TheVariants as C
 use Rattle.rip_markup.proofs.Parts.{attribute_long, attribute_length}
-use Rattle.rip_markup.proofs.Runs.{run_splits}
 use Rattle.rip_markup.proofs.Fronts.{doctype_form, comment_form, end_form, start_form}
 
 -- a place or a fault, if there is one, is at most so far behind

@@ -1,4 +1,5 @@
 pub mod Attributes
+pub mod Counts
 pub mod Ends
 pub mod Fault
 pub mod Forms

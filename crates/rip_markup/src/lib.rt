@@ -11,6 +11,7 @@
 //! | [`read_text`] | `Input.IsTextOf`, `Input.IsTextRefusal` |
 //! | [`byte_place`] | `Input.bytes_before` |
 //! | [`tokens`] | `Tokens.IsTokens` |
+//! | how many units tokens have at least | `Counts.HaveUnits` |
 //! | a start tag | `Tags.IsStartTag`, its attributes `Attributes.LeadsAttributes`, its fault `Tags.tag_fault` |
 //! | a text with references | `References.IsRead`, by `Texts.StandsForItems` |
 //!
@@ -40,5 +41,7 @@ pub use refusal::PageRefusal;
 pub use tag::StartTag;
 pub use text::texts_are_items;
 pub use token::{EndTag, Placed, TextRun, Token};
-pub use tokenizer::{texts_have_tokens, tokens, tokens_are_one, tokens_are_within};
+pub use tokenizer::{
+    texts_have_tokens, tokens, tokens_are_one, tokens_are_within, tokens_have_units,
+};
 pub use words::{is_refused, is_void};

@@ -1,4 +1,5 @@
 ghost use Rattle.std.specs.Prelude.{◌≡◌, ◌≤◌, List as Items, IfOk, length};
+ghost use Rattle.rip_markup.specs.Counts.{HaveUnits};
 ghost use Rattle.rip_markup.specs.Tokens.{IsTokens, HasOneList, HasSomeList, dropped};
 ghost use Rattle.rip_markup.specs.Within.{AreWithin};
 
@@ -68,4 +69,9 @@ pub fn texts_have_tokens()
 /// The tokens of a text, and what is wrong with them, stand within it.
 pub fn tokens_are_within()
     ensures { AreWithin }
+{}
+
+/// A text has as many units as its tokens have at least.
+pub fn tokens_have_units()
+    ensures { HaveUnits }
 {}

@@ -5,5 +5,5 @@ use Rattle.rip_html.proofs.reader.page_of.Goals as goal
 
 pub new-requires : goal.new-requires
 new-requires c =
-    let small : length c.in_ok-nodes.nodes < 2 ^ 32 = omega (arith, c.len.ensures, c.if-len.false) in
+    let small : length c.in_ok-nodes.nodes < 2 ^ 32 = omega (arith, ap length c.in_ok-nodes.ensures, c.requires) in
     is_page c.args.tokens c.in_ok-nodes.nodes c.in_ok-scripts.scripts c.in_ok-nodes.ensures (c.in_ok-scripts.ensures ∙ ap (script_numbers 0) c.as_slice.ensures) small

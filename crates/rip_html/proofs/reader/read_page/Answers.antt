@@ -1,11 +1,9 @@
-use Rattle.std.proofs.Common.{◌≡◌, ◌^◌, length, arith, List, [], ◌∷◌, Option, Some, None, refl, sym, ap, ◌∙◌, subst}
-use Rattle.rip_base.specs.Page.{Contents}
+use Rattle.std.proofs.Common.{◌≡◌, ◌^◌, length, arith, List, [], ◌∷◌, None, sym, ap, ◌∙◌, subst}
 use Rattle.rip_markup.specs.Tokens.{IsTokens}
 use Rattle.rip_markup.specs.declared.input.PageText.{PageText}
 use Rattle.rip_markup.specs.declared.token.Placed.{Placed}
 use Rattle.rip_html.specs.Building.{built}
 use Rattle.rip_html.specs.Nodes.{document_node}
-use Rattle.rip_html.specs.Pages.{PageOf}
 use Rattle.rip_html.specs.Refusals.{first_refusal}
 use Rattle.rip_html.specs.Scripts.{script_numbers}
 use Rattle.std.specs.List.{AllByRecursion}
@@ -14,6 +12,7 @@ use Rattle.rip_markup.proofs.Within.{text_within}
 use Rattle.rip_html.proofs.Bytes.{page_text_within}
 use Rattle.rip_html.proofs.Reaching.{further}
 use Rattle.rip_html.proofs.Choice.{some_not_none}
+use Rattle.rip_html.proofs.Counting.{nodes_few}
 use Rattle.rip_html.proofs.Lasting.{accepted_made, made_accepted}
 use Rattle.rip_html.proofs.Numbering.{built_page}
 use Rattle.rip_html.proofs.reader.read_page.Goals as goal
@@ -26,6 +25,14 @@ first_refusal-requires c =
     let are : IsTokens text.units list = subst (λ u. IsTokens u list) c.as_slice.ensures c.in_ok-list.ensures.found in
     let all = further (length text.units) (2 ^ 32) list (omega (arith, within.units, c.in_ok-text.ensures.counted)) (text_within text.units list are) in
     subst (λ (l : List Placed). AllByRecursion (PlacedWithin (2 ^ 32)) l) (sym c.as_slice-2.ensures) all
+
+pub page_of-requires : goal.page_of-requires
+page_of-requires c =
+    let list = c.in_ok-list.list in
+    let are : IsTokens c.in_ok-text.text.units list = subst (λ u. IsTokens u list) c.as_slice.ensures c.in_ok-list.ensures.found in
+    let none : first_refusal list ≡ None = sym (ap first_refusal c.as_slice-2.ensures) ∙ sym c.in_ok-fault.ensures ∙ c.in-None.is in
+    let within = page_text_within c.args.bytes.now c.in_ok-text.text c.in_ok-text.ensures.found in
+    omega (arith, nodes_few c.in_ok-text.text.units list are none, within.units, c.in_ok-text.ensures.counted)
 
 pub refused_at-requires-clause-within : goal.refused_at-requires-clause-within
 refused_at-requires-clause-within c =
