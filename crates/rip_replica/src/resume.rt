@@ -12,6 +12,7 @@ ghost use Rattle.rip_replica.specs.Parts.{Doing, meaning_of};
 ghost use Rattle.rip_replica.specs.Rooms.{IfLives, IsCallAt, IsMismatch, IsRoomed};
 ghost use Rattle.rip_replica.specs.Sessions.{IsAt, IsBusy};
 ghost use Rattle.rip_replica.specs.Slices.{Agrees, SlicedSo};
+ghost use Rattle.rip_replica.specs.declared.works.Call.{Call as Reported};
 ghost use Rattle.rip_replica.specs.Standing.{Ahead, Behind, Stands, spot};
 
 use crate::replica::{Place, Replica, Turn};
@@ -170,16 +171,21 @@ impl<E, I, T, H> Replica<E, I, T, H> {
         }
     }
 
-    /// The call of the item under way.
+    /// A copy of the call of the item under way, if it reports one and that may be served.
     fn call_under_way(&self, alloc: Global) -> Result<Option<Call>, NoMemory>
     where
         H: Host,
         I: Works<H, T>,
         ensures call { (item : T) → slice_get self.now.runner.planner.batch.items
-            (self.now.runner.planner.begun - 1) ≡ Some item
+            (self.now.runner.planner.begun - 1) ≡ Some item → I.may_serve self.now.host ≡ true
             → IfOk result (IsCallOf (I.fact item)) }
         ensures args { IfOk result HasArgs }
+        ensures may { (call : Reported) → result ≡ Ok (Some call)
+            → I.may_serve self.now.host ≡ true }
     {
+        if !I::can_serve(&self.host) {
+            return Ok(None);
+        }
         let place = self.runner.planner.begun.saturating_sub(1) as usize;
         match self.runner.planner.batch.get(place) {
             Some(item) => I::call(alloc, item),
@@ -187,7 +193,8 @@ impl<E, I, T, H> Replica<E, I, T, H> {
         }
     }
 
-    /// Serves the call under way; it is over then. Want of memory leaves all as before.
+    /// Serves the call under way, if one may be served. The item is over then. Want of memory, where an allocation was refused,
+    /// leaves all as before.
     fn serve<V: Service>(
         &mut self,
         alloc: Global,
@@ -209,7 +216,8 @@ impl<E, I, T, H> Replica<E, I, T, H> {
             (name : List ℕ) (args : List Tree)
             → slice_get self.old.runner.planner.batch.items (self.old.runner.planner.begun - 1)
             ≡ Some item
-            → I.fact item ≡ serves number name args → V.replies_as service.old meant calls
+            → I.fact item ≡ serves number name args → I.may_serve self.old.host ≡ true
+            → V.replies_as service.old meant calls
             → OnOk result (IsServed slice.now self.old.number number name args
             (given_to meant calls slice.now.time name args)
             calls made.old made.new (V.replies_as service.new meant)) }
@@ -217,7 +225,8 @@ impl<E, I, T, H> Replica<E, I, T, H> {
             (args : List Tree)
             → slice_get self.old.runner.planner.batch.items (self.old.runner.planner.begun - 1)
             ≡ Some item
-            → I.fact item ≡ serves number name args → V.replies_as service.old meant calls
+            → I.fact item ≡ serves number name args → I.may_serve self.old.host ≡ true
+            → V.replies_as service.old meant calls
             → OnOk result (self.new.host
             ≡ I.served self.old.number (given_to meant calls slice.now.time name args)
             self.old.host) }
@@ -226,13 +235,10 @@ impl<E, I, T, H> Replica<E, I, T, H> {
             → OnErr result (IsUnserved calls made.old made.new (V.replies_as service.new meant)) }
         ensures memory { OnErr result (self.new.host ≡ self.old.host) }
     {
-        let call = match self.call_under_way(alloc)? {
-            Some(call) => call,
-            None => return Err(NoMemory),
+        let Some(call) = self.call_under_way(alloc)? else {
+            self.place = Place::Between;
+            return Ok(());
         };
-        if !I::can_serve(&self.host) {
-            return Err(NoMemory);
-        }
         serve_call::<H, T, I, V>(
             alloc,
             &self.heap,

@@ -128,7 +128,7 @@ loop-units-preserved g c =
           let R = g.V.Service.replies_as c.serve.new.service service in
           let B : ℕ → Type 0 = λ k. IsServed c.args.slice.now k waits.number waits.name waits.args given before c.loop-units.made c.serve.new.made R in
           let page : last.host ≡ d.serve b given turned.host =
-          c.in-Ok.ensures.host service before waits.item waits.number waits.name waits.args waits.is fact went.served.replies
+          c.in-Ok.ensures.host service before waits.item waits.number waits.name waits.args waits.is fact waits.may_serve went.served.replies
           ∙ ap (λ k. g.I.Works.served k given turned.host) number
           ∙ ap (λ f. f b given turned.host) (sym agrees.serving) in
           let W : Spot _ _ _ → Type 0 = λ p. Went e d g.I.Works.may_serve b next from base limit ahead service calls c.args.slice.now c.args.made.now p c.in-Calls.units c.serve.new.made R in
@@ -137,7 +137,7 @@ loop-units-preserved g c =
           (went_call e d g.I.Works.may_serve b next from base limit ahead service calls c.args.slice.now c.args.made.now c.loop-units.made c.serve.new.made
           at to c.loop-units.left c.in-Calls.units (g.V.Service.replies_as c.loop-units.service service) R went waits
           (within_number c.loop-units.self.place c.loop-units.self.runner.planner.begun turned.runner.planner.begun c.in-Calls.ensures.onward.0 c.in-Calls.ensures.onward.2)
-          (subst B number (c.in-Ok.ensures.served service before waits.item waits.number waits.name waits.args waits.is fact went.served.replies))));
+          (subst B number (c.in-Ok.ensures.served service before waits.item waits.number waits.name waits.args waits.is fact waits.may_serve went.served.replies))));
       page = λ number keeps serves. c.in-Ok.ensures.page number serves ∙ c.in-Calls.ensures.page number keeps ∙ c.loop-units.invariant.page number keeps serves;
       rooms = λ roomed.
           rooms_served e g.E.Evaluator.has_room (λ p. g.I.Items.room p.items) g.I.Items.need turned.runner last.runner turned.host last.host
