@@ -36,26 +36,26 @@ use Rattle.rip_law_server.proofs.PaceLemmas.{turn_fit}
 -- ---- how a session stands
 
 -- the answers that are owed for a session in a state, where this is who asked
-abbrev Owed : ℕ → Option Asker → State → Type 0
+abbrev pub Owed : ℕ → Option Asker → State → Type 0
 Owed n asker s = (let k = s.connections in Owes n (is_busy_in (standing_of n s.history)) asker k.opened k.there)
 
-follows : (n : ℕ) (h : List Recorded) (e : Recorded) (o : Option Standing) → after_entry n (standing_of n h) e ≡ o → is_busy_in (standing_of n (h ++ e ∷ [])) ≡ is_busy_in o
+pub follows : (n : ℕ) (h : List Recorded) (e : Recorded) (o : Option Standing) → after_entry n (standing_of n h) e ≡ o → is_busy_in (standing_of n (h ++ e ∷ [])) ≡ is_busy_in o
 follows n h e o is = ap is_busy_in (standings_follow n h e ∙ is)
 
-busy_closed : (b : Bool) (s : Option Standing) → is_busy_in (cond b (option_map when_closed s) s) ≡ is_busy_in s
+pub busy_closed : (b : Bool) (s : Option Standing) → is_busy_in (cond b (option_map when_closed s) s) ≡ is_busy_in s
 busy_closed true None = refl
 busy_closed true (Some s) = refl
 busy_closed false s = refl
 
 -- an idle session
-idle_by : (s : Standing) → s.done ≡ Some s.last → is_busy s ≡ false
+pub idle_by : (s : Standing) → s.done ≡ Some s.last → is_busy s ≡ false
 idle_by s is_done = ap (λ (o : Option ℕ). not (has_done o s.last)) is_done ∙ ap not (eq-eqb s.last s.last refl)
 
 -- to which the next batch is admitted
-busy_by : (s : Standing) (number : ℕ) → s.done ≡ Some s.last → number ≡ s.last + 1 → is_busy (when_admitted number s) ≡ true
+pub busy_by : (s : Standing) (number : ℕ) → s.done ≡ Some s.last → number ≡ s.last + 1 → is_busy (when_admitted number s) ≡ true
 busy_by s number is_done next = ap (λ (o : Option ℕ). not (has_done o number)) is_done ∙ ap not (ne_eqb s.last number (λ e. omega (arith, e, next)))
 
-stage_none : (stages : List Stage) (n : ℕ) → n ≡ length stages + 1 → stage_of n stages ≡ None
+pub stage_none : (stages : List Stage) (n : ℕ) → n ≡ length stages + 1 → stage_of n stages ≡ None
 stage_none stages zero e = refl
 stage_none stages (suc i) e = slice_get_past stages i (omega (arith, e))
 
@@ -168,7 +168,7 @@ module _ (site : Site) (lawful : IsLawful site.meaning) (u moment n : ℕ) where
           (ap (λ (t : Bool). cond t (option_map (when_admitted b.number) (standing_of n s.history)) (standing_of n s.history)) other))
           (eqb-false k n other) w free
 
-  arrived_owes : (s : State) (c size : ℕ) (gone : Bool) (asker : Option Asker) (a : Arrived)
+  pub arrived_owes : (s : State) (c size : ℕ) (gone : Bool) (asker : Option Asker) (a : Arrived)
       → AllFit site.meaning u s.history s.stages → Owed n asker s → IsFree (is_busy_in (standing_of n s.history)) asker c → c < (let k = s.connections in k.opened)
       → Owed n (asker_behind site s n c a asker) (after_arrived site (u + 1) moment c size gone s a)
   arrived_owes s c size gone asker (refused r) fit w free below =
@@ -181,7 +181,7 @@ module _ (site : Site) (lawful : IsLawful site.meaning) (u moment n : ℕ) where
   arrived_owes s c size gone asker (message m x) fit w free below =
       decided_owes s x c size gone m.close asker (decided site.limit s.history x) refl fit w free below
 
-  handled_owes : (s : State) (hs : List Handling) (asker : Option Asker) → AreHandledSo site (u + 1) moment s hs
+  pub handled_owes : (s : State) (hs : List Handling) (asker : Option Asker) → AreHandledSo site (u + 1) moment s hs
       → AllFit site.meaning u s.history s.stages → Owed n asker s → Owed n (asker_in site (u + 1) moment s hs n asker) (after_handlings site (u + 1) moment s hs)
   handled_owes s [] asker first fit w = w
   handled_owes s (h ∷ hs) asker (first, rest) fit w =
@@ -199,14 +199,14 @@ served_stay n turn k s [] es = refl
 served_stay n turn k s ((a, g) ∷ xs) es = served_stay n turn k s xs es
 
 -- the standing of a session after one went on
-gone_on : (n turn : ℕ) (h : List Recorded) (a : Advance)
+pub gone_on : (n turn : ℕ) (h : List Recorded) (a : Advance)
     → standing_of n (h ++ advance_entries turn a) ≡ standing_from n (standing_of n h) (done_entries turn a.session (length a.next.batches) a.progress)
 gone_on n turn h a =
     standing_join n None h (advance_entries turn a)
     ∙ served_stay n turn a.session (standing_of n h) (zip (servings_in a.parts) a.given) (done_entries turn a.session (length a.next.batches) a.progress)
 
 -- another is as busy as before
-other_same : (n turn j number : ℕ) (p : Progress) (s : Option Standing) → eqb j n ≡ false → standing_from n s (done_entries turn j number p) ≡ s
+pub other_same : (n turn j number : ℕ) (p : Progress) (s : Option Standing) → eqb j n ≡ false → standing_from n s (done_entries turn j number p) ≡ s
 other_same n turn j number Busy s other = refl
 other_same n turn j number (Finished how) s other = ap (λ (b : Bool). cond b (option_map (when_done number (option_map reason_of how)) s) s) other
 
@@ -296,19 +296,19 @@ acts_so site turn k s a busy w = ap (λ acts. all_put (advance_entries turn a) +
 
 -- ---- all sessions
 
-abbrev AllOwed : (ℕ → Option Asker) → State → Type 0
+abbrev pub AllOwed : (ℕ → Option Asker) → State → Type 0
 AllOwed askers s = (n : ℕ) → Owed n (askers n) s
 
 -- what the session that goes on has: who asked, and how it stands
-record Goes (askers : ℕ → Option Asker) (s : State) (a : Advance) : Type 0 where
-  asker : Asker
-  asked : askers a.session ≡ Some asker
-  standing : Standing
-  stands : standing_of a.session s.history ≡ Some standing
-  busy : is_busy standing ≡ true
-  last : length a.next.batches ≡ standing.last
+pub record Goes (askers : ℕ → Option Asker) (s : State) (a : Advance) : Type 0 where
+  pub asker : Asker
+  pub asked : askers a.session ≡ Some asker
+  pub standing : Standing
+  pub stands : standing_of a.session s.history ≡ Some standing
+  pub busy : is_busy standing ≡ true
+  pub last : length a.next.batches ≡ standing.last
 
-goes : (site : Site) (u moment : ℕ) (askers : ℕ → Option Asker) (s : State) (a : Advance) (ns : List ℕ) → IsAdvance site moment s a
+pub goes : (site : Site) (u moment : ℕ) (askers : ℕ → Option Asker) (s : State) (a : Advance) (ns : List ℕ) → IsAdvance site moment s a
     → Midst site.meaning u s.history s.stages (a.session ∷ ns) → AllOwed askers s → Goes askers s a
 goes site u moment askers s a ns i f w =
     let waits = f.waits a.session (or_left (eqb a.session a.session) _ (eq-eqb a.session a.session refl)) in
@@ -330,7 +330,7 @@ goes site u moment askers s a ns i f w =
       last = last;
     }
 
-advance_owed : (turn : ℕ) (askers : ℕ → Option Asker) (s : State) (a : Advance) → Goes askers s a → AllOwed askers s → AllOwed askers (after_advance turn s a)
+pub advance_owed : (turn : ℕ) (askers : ℕ → Option Asker) (s : State) (a : Advance) → Goes askers s a → AllOwed askers s → AllOwed askers (after_advance turn s a)
 advance_owed turn askers s a g w n = by (eqb a.session n) refl
   where
     by : (b : Bool) → eqb a.session n ≡ b → Owed n (askers n) (after_advance turn s a)
@@ -360,7 +360,7 @@ advances_owed site u moment low askers s (n ∷ ns) (a ∷ rest) r (same, i, mor
 
 -- ---- turns
 
-turn_owed : (site : Site) → IsLawful site.meaning → (u : ℕ) (askers : ℕ → Option Asker) (s : State) (t : Coming) → IsTurn site (u + 1) s t
+pub turn_owed : (site : Site) → IsLawful site.meaning → (u : ℕ) (askers : ℕ → Option Asker) (s : State) (t : Coming) → IsTurn site (u + 1) s t
     → AllFit site.meaning u s.history s.stages → AllOwed askers s
     → AreAnswered site (u + 1) (λ n. asker_in site (u + 1) t.moment (knocked_at t s) t.handlings n (askers n)) (handled_at site (u + 1) t s) t.advances
     × AllOwed (λ n. asker_in site (u + 1) t.moment (knocked_at t s) t.handlings n (askers n)) (after_turn site (u + 1) t s)
@@ -381,7 +381,7 @@ turns_owed site lawful u askers s (t ∷ ts) turns fit w =
     turns_owed site lawful (u + 1) (λ n. asker_in site (u + 1) t.moment (knocked_at t s) t.handlings n (askers n)) (after_turn site (u + 1) t s) ts turns.1
     (turn_fit site lawful u s t turns.0 fit) here.1
 
-begun_owed : AllOwed (λ n. None) first_state
+pub begun_owed : AllOwed (λ n. None) first_state
 begun_owed n = record {
   good = tt;
   asked = λ k is. absurd (false≢true (ap (λ (o : Option Asker). is_some o) is));

@@ -9,7 +9,7 @@ use Rattle.rip_history.specs.Sessions.{Deed, batches_in, deed_of, deeds_of, is_d
 use Rattle.rip_history.specs.Stages.{Stage, finishes_batch}
 use Rattle.rip_history.specs.Standings.{has_done, is_busy, standing_of}
 use Rattle.rip_history.specs.declared.standing.Standing.{Standing}
-use Rattle.rip_history.specs.Run.{stage_of}
+use Rattle.rip_history.specs.Run.{is_busy_in, stage_of}
 use Rattle.rip_history.proofs.ComeLemmas.{HasCome, come_all, come_bounds}
 use Rattle.rip_law_history.proofs.FitLemmas.{AllFit, Fits, whole_of}
 use Rattle.rip_law_history.proofs.WholeMadeLemmas.{all-maps}
@@ -117,3 +117,19 @@ told_idle m u n h stages count asked w done = by (stage_of n stages) (let f = w.
 
         idle : is_busy k.standing ≡ false
         idle = (let x = k.stands in x.busy) ∙ ap (λ (last : ℕ). not (finishes_batch last parts)) (sym same) ∙ ap not finished
+
+-- the last batch of a busy session is not done
+pub busy_undone : (m : Meaning) (u n : ℕ) (h : List Recorded) (st : Stage) → Fits m u (seen n h) (Some st) → is_busy_in (standing_of n h) ≡ true
+    → was_done n (length st.batches) h ≡ false
+busy_undone m u n h st k busy = by (was_done n (length st.batches) h) refl
+  where
+    parts : List Part
+    parts = at (whole_of m st) st.lacking st.units (length st.batches)
+
+    by : (b : Bool) → was_done n (length st.batches) h ≡ b → was_done n (length st.batches) h ≡ false
+    by true is =
+        let finished : finishes_batch (length st.batches) parts ≡ true =
+        deeds-finish (turns_in n h) (length st.batches) parts (sym (ap (list_any (Ends (length st.batches))) (let x = k.stands in x.deeds)) ∙ is) in
+        let idle : is_busy k.standing ≡ false = (let x = k.stands in x.busy) ∙ ap not finished in
+        absurd (true≢false (sym busy ∙ ap is_busy_in k.is ∙ idle))
+    by false is = is

@@ -2,6 +2,8 @@ mod Admitting
 pub mod Askers
 mod Busy
 pub mod Coming
+pub mod Conversed
+pub mod Conversing
 mod Examples
 pub mod Fronts
 mod GoLemmas
@@ -11,6 +13,7 @@ pub mod Idle
 pub mod MeantLemmas
 mod OnLemmas
 mod OpeningsLemmas
+mod Ordering
 pub mod Owing
 pub mod PaceDeciding
 pub mod PaceLemmas

@@ -1,10 +1,12 @@
 pub mod Answered
 pub mod Asked
 pub mod Begun
+pub mod Conversation
 pub mod Ending
 pub mod Going
 pub mod Meant
 pub mod Opened
+pub mod Ordered
 pub mod Paced
 pub mod Rising
 pub mod Turned
