@@ -5,7 +5,7 @@ use Rattle.rip_base.specs.declared.report.Report.{Report}
 use Rattle.rip_base.specs.declared.value.Limit.TheVariants.{Units}
 use Rattle.rip_base.specs.declared.value.Span.{Span}
 use Rattle.rip_base.specs.declared.value.Value.{Value}
-use Rattle.rip_base.specs.declared.limits.Limits.{Limits}
+use Rattle.rip_limits.specs.declared.limits.Limits.{Limits}
 use Rattle.rip_heap.specs.Conversions.{span_of}
 use Rattle.rip_heap.specs.Objects.{new_of}
 use Rattle.rip_heap.specs.World.{World}
@@ -31,11 +31,10 @@ use Rattle.rip_browser.specs.Events.{Going, browser_after, dispatched, event_pla
 use Rattle.rip_browser.specs.Opening.{load_at, loading, opening_plan, scripts}
 use Rattle.rip_browser.specs.Replies.{delivered, delivery, handed, taken_out}
 use Rattle.rip_law_served.proofs.KeepsPlans.{HasPlan}
-use Rattle.rip_session.specs.Opening.{replies_of}
 
 -- the page has these limits of nodes, of bytes that wait and of replies that may be undelivered
 abbrev pub Bounded : Limits → Browser → Type 0
-Bounded limits s = (s.dom.limit ≡ limits.nodes) × (s.calls.limit ≡ limits.queue) × (s.undelivered.most ≡ replies_of limits)
+Bounded limits s = (s.dom.limit ≡ limits.nodes) × (s.calls.limit ≡ limits.queue) × (s.undelivered.most ≡ limits.replies)
 
 module _ (l : Limits) where
   abbrev Next : Going → Type 0

@@ -1,6 +1,6 @@
 -- What the sessions of an application have taken of the limits of its manifest.
 use Rattle.std.specs.Prelude.{◌≡◌, ℕ, ◌≤◌, Some}
-use Rattle.rip_base.specs.declared.limits.Limits.{Limits}
+use Rattle.rip_limits.specs.declared.limits.Limits.{Limits}
 use Rattle.rip_app.specs.App.{Loaded}
 use Rattle.rip_heap.specs.World.{World}
 use Rattle.rip_host.specs.declared.browser.Browser.{Browser}
@@ -16,7 +16,6 @@ use Rattle.rip_session.specs.declared.application.Session.{Session}
 use Rattle.rip_replica.specs.Cuts.{CutAfter, StandsDone, StandsEnded}
 use Rattle.rip_session.specs.Application.{IsPageWithin, StandsAt, doing_of, meaning_of_app, runs_of}
 use Rattle.rip_session.specs.Limits.{PassesNoLimit}
-use Rattle.rip_session.specs.Opening.{replies_of}
 use Rattle.rip_headline.specs.declared.limits.counts.Used.{Used}
 use Rattle.rip_headline.specs.Within.{used_in}
 
@@ -30,7 +29,7 @@ pub record IsPageAllowed (limits : Limits) (u : Used) : Type 0 where
   pub nodes : u.nodes ≤ limits.nodes
   pub depth : u.depth ≤ limits.depth
   pub waiting : u.waiting ≤ limits.queue
-  pub replies : u.replies ≤ replies_of limits
+  pub replies : u.replies ≤ limits.replies
 
 -- these are the counts of the world and the page, and of the depth that is open, in which the last batch of a session is cut after
 -- the units that it got

@@ -1,7 +1,7 @@
 -- How a browser begins, and what the call that makes an event answers.
 use Rattle.std.specs.Prelude.{◌≡◌, ℕ, ℤ, suc, ◌+◌, ◌&&◌, Bool, nat_eq, codes, if◌then◌else◌, Option, None, Some, List, [], ◌∷◌, Result, Ok, Err}
 use Rattle.std.specs.Cmp.Lexicographic.{pointwise}
-use Rattle.rip_base.specs.declared.limits.Limits.{Limits}
+use Rattle.rip_limits.specs.declared.limits.Limits.{Limits}
 use Rattle.rip_base.specs.declared.page.PageNode.{PageNode}
 use Rattle.rip_base.specs.declared.value.Limit.TheVariants.{Cells}
 use Rattle.rip_base.specs.declared.value.Refused.{Refused}
@@ -27,8 +27,8 @@ body_from n [] = None
 body_from n (x ∷ xs) = if is_body x then Some n else body_from (suc n) xs
 
 -- the browser of a page: its document, no listener, no event and no call yet, no state of a control set, room for so many
--- replies, the seed as random word and the moment; the text `class` stands behind those of the page
-pub record IsNew (nodes : List PageNode) (limits : Limits) (most : ℕ) (old middle : Texts) (seed : ℕ) (time : ℤ) (s : Browser) (new : Texts) : Type 0 where
+-- replies as the limits say, the seed as random word and the moment; the text `class` stands behind those of the page
+pub record IsNew (nodes : List PageNode) (limits : Limits) (old middle : Texts) (seed : ℕ) (time : ℤ) (s : Browser) (new : Texts) : Type 0 where
   pub document : OpensDocument nodes limits.nodes old (Ok s.dom) middle
   pub texts : new ≡ with_text middle (codes "class") 0
   pub class : s.class ≡ span_behind middle (codes "class")
@@ -37,15 +37,15 @@ pub record IsNew (nodes : List PageNode) (limits : Limits) (most : ℕ) (old mid
   pub listeners : s.listeners ≡ record { limit = limits.cells + 1; nodes = s.dom.limit; registered = []; standing = [] }
   pub events : s.events ≡ record { limit = limits.cells; events = [] }
   pub calls : s.calls ≡ none_made limits.queue
-  pub undelivered : s.undelivered ≡ none_waits most
+  pub undelivered : s.undelivered ≡ none_waits limits.replies
   pub random : s.random ≡ seed
   pub moment : s.moment ≡ time
 
 -- what the maker answers: a limit comes exactly where the document's does
-abbrev pub Begins : List PageNode → Limits → ℕ → Texts → ℕ → ℤ → Result Browser Refused → Texts → Type 0
-Begins nodes limits most old seed time (Ok s) new = (middle : Texts) × IsNew nodes limits most old middle seed time s new
-Begins nodes limits most old seed time (Err (At limit)) new = OpensDocument nodes limits.nodes old (Err (At limit)) new
-Begins nodes limits most old seed time (Err Memory) new = Unit {0}
+abbrev pub Begins : List PageNode → Limits → Texts → ℕ → ℤ → Result Browser Refused → Texts → Type 0
+Begins nodes limits old seed time (Ok s) new = (middle : Texts) × IsNew nodes limits old middle seed time s new
+Begins nodes limits old seed time (Err (At limit)) new = OpensDocument nodes limits.nodes old (Err (At limit)) new
+Begins nodes limits old seed time (Err Memory) new = Unit {0}
 
 -- EVENTS
 

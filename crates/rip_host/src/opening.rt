@@ -6,12 +6,13 @@ ghost use Rattle.rip_host.specs.Visit.{Fits};
 use crate::browser::Browser;
 use crate::events::Events;
 use crate::replies::Undelivered;
-use rip_base::{Limits, NodeKind, Page, PageNode, Refused, Whole};
+use rip_base::{NodeKind, Page, PageNode, Refused, Whole};
 use rip_calls::Queue;
 use rip_convert::CallRow;
 use rip_dom::Dom;
 use rip_events::Listeners;
 use rip_forms::Forms;
+use rip_limits::Limits;
 use rip_values::{FIRST_NODE, Pool};
 use std::alloc::Global;
 
@@ -21,19 +22,19 @@ const CLASS: [u16; 5] = [99, 108, 97, 115, 115];
 const BODY: [u16; 4] = [98, 111, 100, 121];
 
 impl Browser {
-    /// What stands behind the objects of a page before its first script, with all rooms for these limits, and for `most`
-    /// replies that are not delivered. The limits of nodes and of units are those of the document; a limit of nodes past the numbers that objects of nodes have is want
-    /// of memory. One listener more than cells has room, so that the limit of cells always comes first. Where it is refused, texts may be left in the pool.
+    /// What stands behind the objects of a page before its first script, with all rooms for these limits. The limits of nodes and
+    /// of units are those of the document; a limit of nodes past the numbers that objects of nodes have is want of memory. One
+    /// listener more than cells has room, so that the limit of cells always comes first. Where it is refused, texts may be left
+    /// in the pool.
     pub fn make(
         alloc: Global,
         page: &Page,
         limits: &Limits,
-        most: u32,
         pool: &mut Pool,
         seed: u32,
         time: Whole,
     ) -> Result<Browser, Refused>
-        ensures begins { Begins page.now.nodes limits.now most pool.old seed time result pool.new }
+        ensures begins { Begins page.now.nodes limits.now pool.old seed time result pool.new }
         ensures fits { IfOk result (λ s. (w : World) → w.pool ≡ pool.new →
             w.limit ≡ limits.now.cells → Fits s w) }
     {
@@ -51,7 +52,7 @@ impl Browser {
             listeners: Listeners::make(alloc, limits.cells + 1, nodes)?,
             events: Events::make(alloc, limits.cells)?,
             calls: Queue::make(alloc, limits.queue)?,
-            undelivered: Undelivered::make(alloc, most)?,
+            undelivered: Undelivered::make(alloc, limits.replies)?,
             row: CallRow::make(alloc, limits.cells)?,
             moment: time,
             random: seed,

@@ -3,7 +3,7 @@ use Rattle.std.proofs.Common.{◌≡◌, ℕ, ℤ, ◌≤◌, Bool, true, false,
 use Rattle.std.specs.Prelude.{◌+◌, max, nat_le, nat_lt, is_some, if◌then◌else◌}
 use Rattle.rip_values.specs.FixedTexts.{fixed_span}
 use Rattle.rip_values.specs.Pool.{Texts, with_text}
-use Rattle.rip_base.specs.declared.limits.Limits.{Limits}
+use Rattle.rip_limits.specs.declared.limits.Limits.{Limits}
 use Rattle.rip_base.specs.declared.page.Attribute.{Attribute}
 use Rattle.rip_base.specs.declared.page.PageNode.{PageNode}
 use Rattle.rip_base.specs.declared.value.Limit.{Limit}

@@ -3,7 +3,7 @@ use Rattle.std.proofs.Common.{◌≡◌, ℕ, ℤ, Result, IfOk, ◌+◌, ◌≤
 use Rattle.std.specs.Prelude.{codes, nat_lt, if◌then◌else◌}
 use Rattle.std.proofs.lemmas.Bool.{le-ltb, lt-ltb}
 use Rattle.std.proofs.lemmas.Option.{same_Some}
-use Rattle.rip_base.specs.declared.limits.Limits.{Limits}
+use Rattle.rip_limits.specs.declared.limits.Limits.{Limits}
 use Rattle.rip_base.specs.declared.page.PageNode.{PageNode}
 use Rattle.rip_base.specs.declared.value.Limit.{Limit}
 use Rattle.rip_base.specs.declared.value.Limit.TheVariants.{Fuel, Cells, Units, Nodes, Depth, Queue, Replies}
@@ -18,7 +18,7 @@ use Rattle.rip_forms.specs.States.{no_states}
 use Rattle.rip_host.specs.declared.browser.Browser.{Browser}
 use Rattle.rip_host.specs.Opening.{Begins, IsNew}
 use Rattle.rip_session.specs.declared.opening.Opened.{Opened}
-use Rattle.rip_session.specs.Opening.{IsBegun, browser_of, document_of, replies_of, texts_of, with_page, with_scope, without_page}
+use Rattle.rip_session.specs.Opening.{IsBegun, browser_of, document_of, texts_of, with_page, with_scope, without_page}
 
 -- what holds of a value holds of it where another fact makes it so
 pub on-ok : {A E : Type 0} {P Q : A → Type 0} (r : Result A E) → ((x : A) → P x → Q x) → IfOk r P → IfOk r Q
@@ -40,7 +40,7 @@ begun-limit app w (Some limit) h = ap (λ (x : World). x.limit) h.1
 
 -- the browser that was made is that of the document
 pub new-browser : (nodes : List PageNode) (limits : Limits) (old middle : Texts) (seed : ℕ) (time : ℤ) (s : Browser) (new : Texts)
-    → IsNew nodes limits (replies_of limits) old middle seed time s new
+    → IsNew nodes limits old middle seed time s new
     → (s ≡ browser_of (document_of nodes limits old) nodes limits seed time) × (new ≡ texts_of (document_of nodes limits old))
 new-browser nodes limits old middle seed time s new is =
     let made : ◌≡◌ {A = Opening} (record { pool = middle; tree = s.dom }) (document_of nodes limits old) = is.document.2 in
@@ -105,27 +105,26 @@ page-passes app w seed time Queue new h = absurd h
 page-passes app w seed time Replies new h = absurd h
 
 -- a page of the application, its limits, and the texts of the heap: what the maker of a browser answers of them
-answered : (app : Loaded) (w : World) (page : Page) (limits : Limits) (most : ℕ) (old new : Texts) (seed : ℕ) (time : ℤ) (result : Result Browser Refused)
-    → page ≡ app.page → limits ≡ app.manifest.limits → most ≡ replies_of limits → old ≡ w.pool
-    → Begins page.nodes limits most old seed time result new → Begins app.page.nodes app.manifest.limits (replies_of app.manifest.limits) w.pool seed time result new
-answered app w page limits most old new seed time result a b m c h =
-    subst (λ o. Begins app.page.nodes app.manifest.limits (replies_of app.manifest.limits) o seed time result new) c
-    (subst (λ l. Begins app.page.nodes l (replies_of l) old seed time result new) b
-    (subst (λ (p : Page). Begins p.nodes limits (replies_of limits) old seed time result new) a
-    (subst (λ n. Begins page.nodes limits n old seed time result new) m h)))
+answered : (app : Loaded) (w : World) (page : Page) (limits : Limits) (old new : Texts) (seed : ℕ) (time : ℤ) (result : Result Browser Refused)
+    → page ≡ app.page → limits ≡ app.manifest.limits → old ≡ w.pool
+    → Begins page.nodes limits old seed time result new → Begins app.page.nodes app.manifest.limits w.pool seed time result new
+answered app w page limits old new seed time result a b c h =
+    subst (λ o. Begins app.page.nodes app.manifest.limits o seed time result new) c
+    (subst (λ l. Begins app.page.nodes l old seed time result new) b
+    (subst (λ (p : Page). Begins p.nodes limits old seed time result new) a h))
 
-pub page-opens : (app : Loaded) (w : World) (page : Page) (limits : Limits) (most : ℕ) (old new : Texts) (seed : ℕ) (time : ℤ) (s : Browser)
-    → page ≡ app.page → limits ≡ app.manifest.limits → most ≡ replies_of limits → old ≡ w.pool
-    → Begins page.nodes limits most old seed time (Ok s) new → with_page app (record w { pool = new }) s ≡ with_scope app w seed time
-page-opens app w page limits most old new seed time s a b m c h =
-    let is : (middle : Texts) × IsNew app.page.nodes app.manifest.limits (replies_of app.manifest.limits) w.pool middle seed time s new = answered app w page limits most old new seed time (Ok s) a b m c h in
+pub page-opens : (app : Loaded) (w : World) (page : Page) (limits : Limits) (old new : Texts) (seed : ℕ) (time : ℤ) (s : Browser)
+    → page ≡ app.page → limits ≡ app.manifest.limits → old ≡ w.pool
+    → Begins page.nodes limits old seed time (Ok s) new → with_page app (record w { pool = new }) s ≡ with_scope app w seed time
+page-opens app w page limits old new seed time s a b c h =
+    let is : (middle : Texts) × IsNew app.page.nodes app.manifest.limits w.pool middle seed time s new = answered app w page limits old new seed time (Ok s) a b c h in
     let made : (s ≡ browser_of (document_of app.page.nodes app.manifest.limits w.pool) app.page.nodes app.manifest.limits seed time)
     × (new ≡ texts_of (document_of app.page.nodes app.manifest.limits w.pool)) =
     new-browser app.page.nodes app.manifest.limits w.pool is.0 seed time s new is.1 in
     (λ i. with_page app (record w { pool = made.1 i }) (made.0 i)) ∙ sym (page-fits app w seed time is.1.document.0 is.1.document.1)
 
-pub page-refuses : (app : Loaded) (w : World) (page : Page) (limits : Limits) (most : ℕ) (old new : Texts) (seed : ℕ) (time : ℤ) (limit : Limit)
-    → page ≡ app.page → limits ≡ app.manifest.limits → most ≡ replies_of limits → old ≡ w.pool
-    → Begins page.nodes limits most old seed time (Err (At limit)) new → without_page app limit w seed time ≡ with_scope app w seed time
-page-refuses app w page limits most old new seed time limit a b m c h =
-    sym (page-passes app w seed time limit new (answered app w page limits most old new seed time (Err (At limit)) a b m c h))
+pub page-refuses : (app : Loaded) (w : World) (page : Page) (limits : Limits) (old new : Texts) (seed : ℕ) (time : ℤ) (limit : Limit)
+    → page ≡ app.page → limits ≡ app.manifest.limits → old ≡ w.pool
+    → Begins page.nodes limits old seed time (Err (At limit)) new → without_page app limit w seed time ≡ with_scope app w seed time
+page-refuses app w page limits old new seed time limit a b c h =
+    sym (page-passes app w seed time limit new (answered app w page limits old new seed time (Err (At limit)) a b c h))

@@ -1,6 +1,6 @@
 -- What the sessions of an application do.
 use Rattle.std.specs.Prelude.{◌≡◌, ℕ, false}
-use Rattle.rip_base.specs.declared.limits.Limits.{Limits}
+use Rattle.rip_limits.specs.declared.limits.Limits.{Limits}
 use Rattle.rip_app.specs.App.{Loaded}
 use Rattle.rip_history.specs.Parts.{Meaning}
 use Rattle.rip_history.specs.Stages.{Stage, is_ended}

@@ -1,7 +1,7 @@
 -- How a session of an application is opened: the charges of its top scope, of the nodes and the texts of its page and of the
 -- literals of its program, each whole or not at all, in this order; and the heap, the browser and the machine behind them.
 use Rattle.std.specs.Prelude.{◌≡◌, ℕ, ℤ, ◌+◌, max, nat_le, nat_lt, Option, None, Some, List, [], length, codes, if◌then◌else◌}
-use Rattle.rip_base.specs.declared.limits.Limits.{Limits}
+use Rattle.rip_limits.specs.declared.limits.Limits.{Limits}
 use Rattle.rip_base.specs.declared.page.PageNode.{PageNode}
 use Rattle.rip_base.specs.declared.value.Limit.{Limit}
 use Rattle.rip_base.specs.declared.value.Limit.TheVariants.{Cells, Units, Nodes}
@@ -24,16 +24,8 @@ use Rattle.rip_machine.specs.Loading.{cost_of_literals, spans_loaded, values_nee
 use Rattle.rip_browser.specs.declared.opening.Start.TheVariants.{Passes, Loads}
 use Rattle.rip_session.specs.declared.opening.Opened.{Opened}
 
--- the longest text that a run makes, in units
-abbrev pub text_of : Limits → ℕ
-text_of limits = 65535
-
--- the most replies that may be undelivered
-abbrev pub replies_of : Limits → ℕ
-replies_of limits = 64
-
 abbrev pub heap_limits : Limits → HeapLimits
-heap_limits limits = record { cells = limits.cells; units = limits.units; text = text_of limits }
+heap_limits limits = record { cells = limits.cells; units = limits.units; text = limits.text }
 
 -- the world with nothing but the top scope, which binds the names of the program, or none where its charge would pass the
 -- limit
@@ -56,7 +48,7 @@ browser_of d nodes limits seed time = record {
   listeners = record { limit = limits.cells + 1; nodes = d.tree.limit; registered = []; standing = [] };
   events = record { limit = limits.cells; events = [] };
   calls = none_made limits.queue;
-  undelivered = none_waits (replies_of limits);
+  undelivered = none_waits limits.replies;
   row = tt;
   moment = time;
   random = seed;

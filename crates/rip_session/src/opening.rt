@@ -1,10 +1,10 @@
 ghost use Rattle.std.specs.Prelude.{◌≡◌, ◌≤◌, ℕ, IfOk, Some};
 ghost use Rattle.rip_heap.specs.World.{World};
 ghost use Rattle.rip_host.specs.Visit.{Fits};
-ghost use Rattle.rip_session.specs.Opening.{IsBegun, idle_machine, opened_of, replies_of, text_of, top_scope, with_page, with_scope, without_page};
+ghost use Rattle.rip_session.specs.Opening.{IsBegun, idle_machine, opened_of, top_scope, with_page, with_scope, without_page};
 
 use rip_app::App;
-use rip_base::{LONGEST_TEXT, Limit, Limits, List, MOST_REPLIES, NoMemory, Page, Refused, Whole};
+use rip_base::{Limit, List, NoMemory, Page, Refused, Whole};
 use rip_browser::Start;
 use rip_heap::{Heap, HeapLimits};
 use rip_host::Browser;
@@ -33,22 +33,6 @@ pub fn open(alloc: Global, app: &App, seed: u32, time: Whole) -> Result<Opened, 
     }
 }
 
-/// The longest text that a run makes, in units.
-fn text_of(limits: &Limits) -> u32
-    ensures { result ≡ text_of limits.now }
-{
-    let _ = limits;
-    LONGEST_TEXT
-}
-
-/// The most replies that may be undelivered.
-fn replies_of(limits: &Limits) -> u32
-    ensures { result ≡ replies_of limits.now }
-{
-    let _ = limits;
-    MOST_REPLIES
-}
-
 /// The heap of a session with its top scope; or without it, and the limit that it would pass.
 fn begin_heap(alloc: Global, app: &App) -> Result<(Heap, Option<Limit>), NoMemory>
     ensures { IfOk result (λ r. IsBegun app.now r.0 r.1) }
@@ -59,7 +43,7 @@ fn begin_heap(alloc: Global, app: &App) -> Result<(Heap, Option<Limit>), NoMemor
         HeapLimits {
             cells: limits.cells,
             units: limits.units,
-            text: text_of(limits),
+            text: limits.text,
         },
     )?;
     match heap.new_scope(alloc, None, app.program().top_names()) {
@@ -92,8 +76,7 @@ fn open_page(
     ensures fits { IfOk result (λ o. Fits o.browser o.heap) }
 {
     let limits = app.limits();
-    let most = replies_of(limits);
-    match Browser::make(alloc, app.page(), limits, most, heap.pool_mut(), seed, time) {
+    match Browser::make(alloc, app.page(), limits, heap.pool_mut(), seed, time) {
         Ok(browser) => load_program(alloc, app, heap, browser),
         Err(Refused::Limit(limit)) => open_again(alloc, app, limit, seed, time),
         Err(Refused::Memory) => Err(NoMemory),
@@ -131,8 +114,7 @@ fn open_without_page(
 {
     let page = Page::new(List::new(alloc), List::new(alloc));
     let limits = app.limits();
-    let most = replies_of(limits);
-    match Browser::make(alloc, &page, limits, most, heap.pool_mut(), seed, time) {
+    match Browser::make(alloc, &page, limits, heap.pool_mut(), seed, time) {
         Ok(browser) => Ok(Opened {
             heap,
             machine: begin_machine(alloc, app)?,

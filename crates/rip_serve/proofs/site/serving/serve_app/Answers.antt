@@ -1,5 +1,5 @@
 use Rattle.std.proofs.Common.{◌∙◌, [], ap, refl}
-use Rattle.rip_base.specs.declared.limits.Limits.{Limits}
+use Rattle.rip_limits.specs.declared.limits.Limits.{Limits}
 use Rattle.rip_history.specs.Services.{RepliesAs, service_of}
 use Rattle.rip_store.specs.Held.{functions_of}
 use Rattle.rip_session.specs.Application.{meaning_of_app}
