@@ -16,7 +16,7 @@ pub trait Service {
     ghost replies_as: { Self → Meant → List Called → Type 0 };
 
     /// The reply to a call of this name with these args, three times. Want of memory leaves all as before.
-    fn reply(&mut self, alloc: Global, name: &Units, args: &DatumList) -> Result<Replies, NoMemory>
+    fn apply(&mut self, alloc: Global, name: &Units, args: &DatumList) -> Result<Replies, NoMemory>
         requires { AreArgs (trees_in args.now) }
         ensures replies { (service : Meant) (calls : List Called)
             → replies_as self.old service calls
@@ -36,7 +36,7 @@ impl Service for Store {
 
     ghost replies_as = { RepliesAs };
 
-    fn reply(
+    fn apply(
         &mut self,
         alloc: Global,
         name: &Units,

@@ -43,7 +43,7 @@ pub(crate) fn serve_call<H: Host, T, I: Works<H, T>, V: Service>(
 {
     made.entries.reserve(1)?;
     made.served.reserve(1)?;
-    let replies = service.reply(alloc, &call.name, &call.args)?;
+    let replies = service.apply(alloc, &call.name, &call.args)?;
     let Call {
         number,
         name,

@@ -42,7 +42,7 @@ pub(crate) fn serve_next<H: Host, T, I: Works<H, T>, E, V: Service>(
     if !I::can_serve(&replica.host) {
         return Err(NoMemory);
     }
-    let replies = service.reply(alloc, &call.name, &call.args)?;
+    let replies = service.apply(alloc, &call.name, &call.args)?;
     let batch = replica.number;
     I::serve(&replica.heap, &mut replica.host, batch, time, replies.kept);
     replica.runner.phase = Phase::Asking;

@@ -2,7 +2,7 @@ use Rattle.rip_data.specs.Datum.{trees_in}
 use Rattle.rip_store.specs.Args.{args_of}
 use Rattle.rip_store.specs.Kept.{AreAccepted}
 use Rattle.rip_history.proofs.ServiceLemmas.{on-success, replies_on}
-use Rattle.rip_history.proofs.service.StoreService.reply.Goals as goal
+use Rattle.rip_history.proofs.service.StoreService.apply.Goals as goal
 
 -- src/service.rt:41:5
 pub returns-clause-called : goal.returns-clause-called
