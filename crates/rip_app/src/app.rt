@@ -1,5 +1,6 @@
 ghost use Rattle.std.specs.Prelude.{◌≡◌, ◌≢◌, IfErr, IfOk, MatchResult, length};
-ghost use Rattle.rip_base.specs.Limits.{AreInRange};
+ghost use Rattle.rip_limits.specs.Limits.{greatest, AreInRange};
+ghost use Rattle.rip_limits.specs.declared.version.Version.TheVariants.{Two};
 ghost use Rattle.rip_html.specs.Pages.{PageOf};
 ghost use Rattle.rip_manifest.specs.Manifest.{ManifestOf};
 ghost use Rattle.rip_app.specs.App.{AppOf, IsAppRefusal, Loaded};
@@ -9,8 +10,9 @@ ghost use Rattle.rip_app.specs.declared.refusal.AppRefusal.{AppRefusal as AppRef
 
 use crate::refusal::AppRefusal;
 use crate::scripts::program_of;
-use rip_base::{Bytes, Limits, Page};
+use rip_base::{Bytes, Page};
 use rip_html::read_page;
+use rip_limits::{Language, Limits, Wire};
 use rip_manifest::{Functions, Manifest, read_manifest};
 use rip_tree::Program;
 use std::alloc::Global;
@@ -58,9 +60,23 @@ impl App {
     /// The limits of each session.
     pub fn limits(&self) -> &Limits
         ensures value { result.now ≡ self.now.manifest.limits }
-        ensures in_range { AreInRange self.now.manifest.limits Limits.GREATEST }
+        ensures in_range { AreInRange self.now.manifest.limits (greatest Two) }
     {
         self.manifest.limits()
+    }
+
+    /// The language that the page's scripts are in, as the manifest states it; language 1 in version 1.
+    pub fn language(&self) -> Language
+        ensures { result ≡ self.now.manifest.stated.language }
+    {
+        self.manifest.language()
+    }
+
+    /// The wire that browsers report on, as the manifest states it; wire 1 in version 1.
+    pub fn wire(&self) -> Wire
+        ensures { result ≡ self.now.manifest.stated.wire }
+    {
+        self.manifest.wire()
     }
 
     /// The bytes of the page, as they were read.

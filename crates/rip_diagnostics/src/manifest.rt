@@ -3,8 +3,9 @@ use crate::members::{Part, depth_at, member_at, number_at, value_of};
 use crate::page::PageFile;
 use crate::sheet::{Severity, Sheet};
 use crate::table::app_message;
-use rip_base::{Limits, NoMemory};
+use rip_base::NoMemory;
 use rip_data::{DataError, read_long};
+use rip_limits::{Limits, Version};
 use rip_manifest::{MOST_FUNCTIONS, MOST_LETTERS, ManifestKind, ManifestRefusal, read_manifest};
 use serde_json::Value;
 use std::alloc::Global;
@@ -106,10 +107,7 @@ fn put_kind(
     };
     let found = match kind {
         ManifestKind::Syntax | ManifestKind::Member => wrong_member(&value, file.bytes),
-        ManifestKind::Version => {
-            let name = name_of(file.bytes, b"version", None);
-            wrong_at(AppCause::Version, b"version", value_of(file.bytes, name))
-        }
+        ManifestKind::Version => wrong_version(&value, file.bytes),
         ManifestKind::Function => wrong_functions(&value, file.bytes),
         ManifestKind::LimitRange => wrong_limits(&value, file.bytes),
     };
@@ -122,19 +120,59 @@ fn wrong_member<'a>(value: &'a Value, bytes: &[u8]) -> Wrong<'a> {
     let Some(members) = value.as_object() else {
         return wrong_at(AppCause::NoObject, b"", start);
     };
+    let of_five = value.get("language").is_some() || value.get("wire").is_some();
     for (name, _) in members.iter() {
-        if !matches!(name.as_str(), "version" | "functions" | "limits") {
+        if !is_member(name.as_str()) {
             let place = name_of(bytes, name.as_str().as_bytes(), None);
             return wrong_at(AppCause::OtherMember, name.as_str().as_bytes(), place);
         }
     }
+    wrong_at(AppCause::NoMember, missing(value, of_five), start)
+}
+
+/// Whether manifests of version 1 or 2 have a member of this name.
+fn is_member(name: &str) -> bool {
+    matches!(
+        name,
+        "version" | "language" | "wire" | "functions" | "limits"
+    )
+}
+
+/// The first of the three members, or of the five, that the value has not.
+fn missing(value: &Value, of_five: bool) -> &'static [u8] {
     if value.get("version").is_none() {
-        return wrong_at(AppCause::NoMember, b"version", start);
+        b"version"
+    } else if of_five && value.get("language").is_none() {
+        b"language"
+    } else if of_five && value.get("wire").is_none() {
+        b"wire"
+    } else if value.get("functions").is_none() {
+        b"functions"
+    } else {
+        b"limits"
     }
-    if value.get("functions").is_none() {
-        return wrong_at(AppCause::NoMember, b"functions", start);
+}
+
+/// Which of the version, the language and the wire is none.
+fn wrong_version<'a>(value: &Value, bytes: &[u8]) -> Wrong<'a> {
+    let version = value.get("version").and_then(Value::as_u64);
+    let language = value.get("language").and_then(Value::as_u64);
+    let name: &'static [u8] = match (version_of(value), version) {
+        (Version::One, _) => b"version",
+        (Version::Two, Some(2)) if language != Some(1) => b"language",
+        (Version::Two, Some(2)) => b"wire",
+        (Version::Two, _) => b"version",
+    };
+    let place = name_of(bytes, name, None);
+    wrong_at(AppCause::Version, name, value_of(bytes, place))
+}
+
+/// The version whose members the value has.
+fn version_of(value: &Value) -> Version {
+    match value.get("language") {
+        None => Version::One,
+        Some(_) => Version::Two,
     }
-    wrong_at(AppCause::NoMember, b"limits", start)
 }
 
 /// Which function is none.
@@ -202,7 +240,7 @@ fn wrong_limits<'a>(value: &'a Value, bytes: &[u8]) -> Wrong<'a> {
     };
     for (name, limit) in members.iter() {
         let place = name_of(bytes, b"limits", Some(name.as_str().as_bytes()));
-        match greatest(name.as_str()) {
+        match greatest(version_of(value), name.as_str()) {
             None => return wrong_at(AppCause::LimitName, name.as_str().as_bytes(), place),
             Some(most) if !is_limit(limit, most) => {
                 return wrong_at(
@@ -225,9 +263,9 @@ fn is_limit(value: &Value, most: u64) -> bool {
     }
 }
 
-/// The greatest that a limit may be.
-fn greatest(name: &str) -> Option<u64> {
-    let greatest = Limits::GREATEST;
+/// The greatest that a limit of this version may be, if it has one of this name.
+fn greatest(version: Version, name: &str) -> Option<u64> {
+    let greatest = Limits::greatest(version);
     match name {
         "fuel" => Some(greatest.fuel),
         "cells" => Some(u64::from(greatest.cells)),
@@ -236,6 +274,8 @@ fn greatest(name: &str) -> Option<u64> {
         "depth" => Some(u64::from(greatest.depth)),
         "queue" => Some(u64::from(greatest.queue)),
         "sessions" => Some(u64::from(greatest.sessions)),
+        "text" if version == Version::Two => Some(u64::from(greatest.text)),
+        "replies" if version == Version::Two => Some(u64::from(greatest.replies)),
         _ => None,
     }
 }

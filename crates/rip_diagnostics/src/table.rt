@@ -594,17 +594,17 @@ pub fn app_message(cause: AppCause) -> Message {
         ),
         AppCause::NoMember => row(
             "the member `@` is missing",
-            "a manifest has the members `version`, `functions` and `limits`, each of them, where functions and limits may be `{}`",
+            "a manifest has the members `version`, `functions` and `limits`, and in version 2 `language` and `wire`, each of them, where functions and limits may be `{}`",
             APP,
         ),
         AppCause::OtherMember => row(
             "a manifest has no member `@`",
-            "a manifest has the members `version`, `functions` and `limits`, and no other",
+            "a manifest has the members `version`, `functions` and `limits`, and in version 2 `language` and `wire`, and no other",
             APP,
         ),
         AppCause::Version => row(
-            "the version is not 1",
-            "write `\"version\":1`, as a number",
+            "`@` is no number that is known",
+            "write `\"version\":1` with three members, or `\"version\":2,\"language\":1,\"wire\":1` with five, as numbers",
             APP,
         ),
         AppCause::NoFunctions => row(

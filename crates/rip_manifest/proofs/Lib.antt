@@ -3,3 +3,5 @@ pub mod Answering
 pub mod FunctionLemmas
 pub mod JsonLemmas
 pub mod LimitLemmas
+pub mod PartLemmas
+pub mod VersionLemmas

@@ -4,3 +4,4 @@ pub mod Limits
 pub mod Manifest
 pub mod Names
 pub mod Printed
+pub mod Reading

@@ -1,29 +1,33 @@
 ghost use Rattle.std.specs.Prelude.{◌≡◌, ℕ, ◌^◌, ◌<◌, ◌≤◌, ◌↔◌, IsTrue, IfSome, IfNone};
 ghost use Rattle.serde_json.specs.Find.{get};
 ghost use Rattle.serde_json.specs.View.{view, members_view};
-ghost use Rattle.rip_base.specs.Limits.{AreInRange};
-ghost use Rattle.rip_base.specs.declared.limits.Limits.{Limits as Named};
+ghost use Rattle.rip_limits.specs.Limits.{greatest, AreInRange};
+ghost use Rattle.rip_limits.specs.declared.limits.Limits.{Limits as Named};
+ghost use Rattle.rip_limits.specs.declared.version.Version.TheVariants.{Two};
 ghost use Rattle.rip_manifest.specs.Limits.{is_limit_name, NameLimits, IsLimit, AreLimits, memory_of};
 
-use rip_base::Limits;
+use rip_limits::{Limits, Version};
 use serde_json::{Map, Value};
 
 /// The bytes that all sessions may take together, 2^32.
 pub const MOST_MEMORY: u64 = 4_294_967_296;
 
 // What a session takes beside what its limits say, in bytes.
-const MEMORY_OF_SESSION: u64 = 3_145_728;
+const MEMORY_OF_SESSION: u64 = 2_097_152;
 
-// The limits that the value names, with the defaults of the others.
-pub(crate) fn limits_of(value: &Value) -> Option<Limits>
-    ensures found { IfSome result (AreLimits (view value.now)) }
-    ensures none { IfNone result ((limits : Named) → ¬ AreLimits (view value.now) limits) }
+// What a reply takes that is not delivered, in bytes.
+const MEMORY_OF_REPLY: u64 = 16_384;
+
+// The limits that the value names in this version, with the defaults of the others.
+pub(crate) fn limits_of(version: Version, value: &Value) -> Option<Limits>
+    ensures found { IfSome result (AreLimits version (view value.now)) }
+    ensures none { IfNone result ((limits : Named) → ¬ AreLimits version (view value.now) limits) }
 {
-    if !name_limits(value.as_object()?) {
+    if !name_limits(version, value.as_object()?) {
         return None;
     }
     let default = Limits::DEFAULT;
-    let greatest = Limits::GREATEST;
+    let greatest = Limits::greatest(version);
     Some(Limits {
         fuel: limit(value, "fuel", default.fuel, greatest.fuel)?,
         cells: short_limit(value, "cells", default.cells, greatest.cells)?,
@@ -32,28 +36,31 @@ pub(crate) fn limits_of(value: &Value) -> Option<Limits>
         depth: short_limit(value, "depth", default.depth, greatest.depth)?,
         queue: short_limit(value, "queue", default.queue, greatest.queue)?,
         sessions: short_limit(value, "sessions", default.sessions, greatest.sessions)?,
+        text: short_limit(value, "text", default.text, greatest.text)?,
+        replies: short_limit(value, "replies", default.replies, greatest.replies)?,
     })
 }
 
-// Whether each member has the name of a limit.
-fn name_limits(members: &Map<String, Value>) -> bool
-    ensures { IsTrue result ↔ NameLimits (members_view members.now.entries) }
+// Whether each member has the name of a limit of this version.
+fn name_limits(version: Version, members: &Map<String, Value>) -> bool
+    ensures { IsTrue result ↔ NameLimits version (members_view members.now.entries) }
 {
     for (name, _) in members.iter() {
-        if !is_limit_name(name.as_str()) {
+        if !is_limit_name(version, name.as_str()) {
             return false;
         }
     }
     true
 }
 
-fn is_limit_name(name: &str) -> bool
-    ensures { result ≡ is_limit_name name.now }
+fn is_limit_name(version: Version, name: &str) -> bool
+    ensures { result ≡ is_limit_name version name.now }
 {
-    matches!(
-        name,
-        "fuel" | "cells" | "units" | "nodes" | "depth" | "queue" | "sessions"
-    )
+    match name {
+        "fuel" | "cells" | "units" | "nodes" | "depth" | "queue" | "sessions" => true,
+        "text" | "replies" => version == Version::Two,
+        _ => false,
+    }
 }
 
 // The limit of this name in the object: a whole number from 1 to the most, or the usual one where it is not named.
@@ -85,7 +92,7 @@ fn short_limit(object: &Value, name: &str, usual: u32, most: u32) -> Option<u32>
 
 // The bytes that sessions with these limits may take.
 pub(crate) fn memory_of(limits: &Limits) -> u64
-    requires { AreInRange limits.now Limits.GREATEST }
+    requires { AreInRange limits.now (greatest Two) }
     ensures { result ≡ memory_of limits.now }
 {
     let session = 32 * u64::from(limits.cells)
@@ -93,6 +100,7 @@ pub(crate) fn memory_of(limits: &Limits) -> u64
         + 64 * u64::from(limits.nodes)
         + 64 * u64::from(limits.depth)
         + u64::from(limits.queue)
-        + MEMORY_OF_SESSION;
+        + MEMORY_OF_SESSION
+        + MEMORY_OF_REPLY * u64::from(limits.replies);
     u64::from(limits.sessions) * session
 }

@@ -10,9 +10,10 @@ use thiserror::Error;
 pub enum ManifestKind {
     /// The bytes are no JSON text.
     Syntax,
-    /// The value is no object with exactly the members `version`, `functions` and `limits`.
+    /// The value is no object with exactly the members `version`, `functions` and `limits`, or exactly these and
+    /// `language` and `wire`.
     Member,
-    /// The version is not 1.
+    /// The version is not 1 of three members, or not 2 of five; or the language or the wire is none that is served.
     Version,
     /// The functions are no object of at most 256 members `NAME:[OP,PREFIX]`.
     Function,

@@ -10,9 +10,9 @@ returns-then-not-is_limit_name c =
     let e : Entry = (c.in-Some.name.now, c.in-Some.field-0-1.now) in
     let left = c.next.new.self in
     let all : c.args.members.now.entries ≡ done ++ e ∷ left = c.loop-name.invariant.1 ∙ ap (λ es. done ++ es) c.in-Some.ensures.steps in
-    let unknown = sym c.if-not-is_limit_name.true ∙ c.is_limit_name.ensures ∙ ap is_limit_name c.as_str.ensures.value in (
+    let unknown = sym c.if-not-is_limit_name.true ∙ c.is_limit_name.ensures ∙ ap (is_limit_name c.args.version) c.as_str.ensures.value in (
       λ none. absurd (true≢false (sym none)),
-      λ names. absurd (true≢false (sym (unknown ∙ NameLimits-among done e left (rw all at names)))),
+      λ names. absurd (true≢false (sym (unknown ∙ NameLimits-among c.args.version done e left (rw all at names)))),
     )
 
 pub loop-name-preserved : goal.loop-name-preserved
@@ -21,8 +21,8 @@ loop-name-preserved c =
     let e : Entry = (c.in-Some.name.now, c.in-Some.field-0-1.now) in
     let left = c.next.new.self in
     let all : c.args.members.now.entries ≡ done ++ e ∷ left = c.loop-name.invariant.1 ∙ ap (λ es. done ++ es) c.in-Some.ensures.steps in
-    let known = sym (ap is_limit_name c.as_str.ensures.value) ∙ sym c.is_limit_name.ensures ∙ c.if-not-is_limit_name.false in (
+    let known = sym (ap (is_limit_name c.args.version) c.as_str.ensures.value) ∙ sym c.is_limit_name.ensures ∙ c.if-not-is_limit_name.false in (
       done ++ e ∷ [],
       all ∙ sym (append_assoc done (e ∷ []) left),
-      NameLimits-push done e c.loop-name.invariant.2 known,
+      NameLimits-push c.args.version done e c.loop-name.invariant.2 known,
     )

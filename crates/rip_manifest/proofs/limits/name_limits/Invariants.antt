@@ -7,4 +7,4 @@ use Rattle.rip_manifest.proofs.limits.name_limits.Given as goal
 -- the members so far have names of limits, and come before those that are left
 abbrev pub invariant-loop-name : goal.invariant-loop-name
 invariant-loop-name l =
-    (done : List Entry) × (l.members.entries ≡ done ++ l.name-iterator) × NameLimits (members_view done)
+    (done : List Entry) × (l.members.entries ≡ done ++ l.name-iterator) × NameLimits l.version (members_view done)
