@@ -1,5 +1,5 @@
 -- That what is driven is what an honest client tells, and is served.
-use Rattle.std.proofs.Common.{◌≡◌, ◌≢◌, ℕ, ◌+◌, false, List, [], ◌∷◌, ◌++◌, map, take, zero, suc, refl, sym, ap, subst, ◌∙◌, ◌-◌, ◌||◌}
+use Rattle.std.proofs.Common.{◌≡◌, ◌≢◌, ℕ, ◌+◌, false, List, [], ◌∷◌, ◌++◌, take, zero, suc, refl, sym, ap, subst, ◌∙◌, ◌-◌, ◌||◌}
 use Rattle.std.proofs.lemmas.List.{append-nil}
 use Rattle.std.proofs.lemmas.Grind.{flat_map-append}
 use Rattle.std.specs.Prelude.{Option, Some}
@@ -14,7 +14,6 @@ use Rattle.rip_eval_rows.specs.Plan.{IsPlain}
 use Rattle.rip_replica.specs.Play.{Closes}
 use Rattle.rip_wire.specs.Batches.{Contents}
 use Rattle.rip_wire.specs.Items.{Reported, event, call, reply}
-use Rattle.rip_wire.specs.declared.gesture.Gesture.{Gesture}
 use Rattle.rip_history.specs.Parts.{finishes, passes, Given}
 use Rattle.rip_history.specs.Services.{Called, Service, service_of}
 use Rattle.rip_replica.specs.Parts.{Doing, first_given, session_parts, whole_item}

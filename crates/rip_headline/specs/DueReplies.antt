@@ -6,7 +6,7 @@ use Rattle.rip_eval_rows.specs.declared.close.Close.TheVariants.{Fine}
 use Rattle.rip_replica.specs.Play.{Closes}
 use Rattle.rip_base.specs.declared.report.EventKind.{EventKind}
 use Rattle.rip_wire.specs.Batches.{Contents}
-use Rattle.rip_wire.specs.Items.{Reported, event, call, reply}
+use Rattle.rip_wire.specs.Items.{Reported, event, reply}
 use Rattle.rip_wire.specs.declared.gesture.Gesture.{Gesture}
 use Rattle.rip_history.specs.Parts.{Given}
 use Rattle.rip_replica.specs.Parts.{Doing, whole_item}

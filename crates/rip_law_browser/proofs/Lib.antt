@@ -3,3 +3,5 @@ pub mod KeepsAnswers
 pub mod KeepsCalls
 pub mod KeepsRuns
 pub mod TreeLimits
+pub mod UnreadAnswers
+pub mod UnreadRuns
