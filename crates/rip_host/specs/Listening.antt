@@ -92,6 +92,10 @@ is_second w s k NaN f capture = false
 is_second w s k (Text span) f capture = false
 is_second w s k (Object n) f capture = false
 
+-- the text of the type could be made, but the handler is outside the profile
+abbrev pub left_out : World → Browser → Value → HostDone × World × Browser
+left_out w s t = if are_past w.pool (cost_of_text t) then (host.Limit Units, w, s) else (host.Fault NotInProfile, w, s)
+
 -- the listener is registered, once the text of its type is made. A second registration is dropped, and costs no cell;
 -- that of a number is known before the text is made
 abbrev pub register : World → Browser → ℕ → Value → ℕ → Bool → HostDone × World × Browser
@@ -99,14 +103,14 @@ register w s k t f capture =
     let kind = text_span w.pool t in
     let x = world_with w t in
     if is_second w s k t f capture then ignored w s t
-    else if is_number t && is_spent w then (host.Limit Cells, w, s)
     else if are_past w.pool (cost_of_text t) then (host.Limit Units, w, s)
+    else if is_number t && is_spent w then (host.Limit Cells, w, s)
     else after_registering w s (registered (found x.pool (same_as (listener k kind f capture)) s.listeners) (listener k kind f capture) s.listeners x)
 
 abbrev pub added_by : World → Browser → ℕ → Value → Handler → Bool → HostDone × World × Browser
 added_by w s k t Ignored capture = ignored w s t
 added_by w s k t (Function f) capture = register w s k t f capture
-added_by w s k t Other capture = (host.Fault NotInProfile, w, s)
+added_by w s k t Other capture = left_out w s t
 
 -- addEventListener on this node
 abbrev pub listener_added : World → Browser → ℕ → Value → Value → Value → HostDone × World × Browser
@@ -125,7 +129,7 @@ unregister w s k t f capture =
 abbrev pub removed_by : World → Browser → ℕ → Value → Handler → Bool → HostDone × World × Browser
 removed_by w s k t Ignored capture = ignored w s t
 removed_by w s k t (Function f) capture = unregister w s k t f capture
-removed_by w s k t Other capture = (host.Fault NotInProfile, w, s)
+removed_by w s k t Other capture = left_out w s t
 
 -- removeEventListener on this node
 abbrev pub listener_removed : World → Browser → ℕ → Value → Value → Value → HostDone × World × Browser

@@ -1,14 +1,14 @@
 ghost use Rattle.std.specs.Prelude.{◌≡◌, ◌<◌, None, length};
 ghost use Rattle.rip_heap.specs.Conversions.{text_fault};
 ghost use Rattle.rip_ops.specs.Calls.{builtin_of};
-ghost use Rattle.rip_host.specs.Listening.{added_by, handler_of, ignored, is_built_in_function, is_function_object, is_number, is_second, is_spent, listener_added, listener_removed, register, removed_by, unregister};
+ghost use Rattle.rip_host.specs.Listening.{added_by, handler_of, ignored, is_built_in_function, is_function_object, is_number, is_second, is_spent, left_out, listener_added, listener_removed, register, removed_by, unregister};
 ghost use Rattle.rip_host.specs.Visit.{Fits, KeepsBrowser};
 
 use crate::browser::Browser;
 use rip_base::{Limit, Refused, Value, text_of_whole};
 use rip_events::Listener;
 use rip_heap::{Heap, HostDone, to_boolean};
-use rip_nodes::{outside, text_arg, text_fault};
+use rip_nodes::{are_past, cost_of_text, make_text, outside, text_arg, text_fault};
 use rip_ops::access::builtin_of;
 use rip_values::Builtin;
 
@@ -86,7 +86,7 @@ impl Browser {
         match handler_of(heap, f) {
             Handler::Ignored => self.ignore(heap, kind),
             Handler::Function(f) => self.register(heap, node, kind, f, capture),
-            Handler::Other => outside(),
+            Handler::Other => self.leave_out(heap, kind),
         }
     }
 
@@ -112,7 +112,7 @@ impl Browser {
         match handler_of(heap, f) {
             Handler::Ignored => self.ignore(heap, kind),
             Handler::Function(f) => self.unregister(heap, node, kind, f, capture),
-            Handler::Other => outside(),
+            Handler::Other => self.leave_out(heap, kind),
         }
     }
 
@@ -127,6 +127,18 @@ impl Browser {
             Ok(_) => HostDone::Value(Value::Undefined),
             Err(done) => done,
         }
+    }
+
+    // The text of the type could be made, but the handler is outside the profile.
+    fn leave_out(&self, heap: &Heap, kind: &Value) -> HostDone
+        requires fits { Fits self.now heap.now }
+        ensures answer { (result, heap.now, self.now) ≡ left_out heap.now self.now kind.now }
+        ensures keeps { KeepsBrowser heap.now self.now result heap.now self.now }
+    {
+        if are_past(heap, cost_of_text(kind)) {
+            return HostDone::Limit(Limit::Units);
+        }
+        outside()
     }
 
     // Whether the type is a number, and a listener with its text stands on the node, of this function and phase.
@@ -162,26 +174,24 @@ impl Browser {
         if self.is_second(heap, node, kind, function, capture) {
             return self.ignore(heap, kind);
         }
+        if are_past(heap, cost_of_text(kind)) {
+            return HostDone::Limit(Limit::Units);
+        }
         let free = heap.free_cells();
         let _made = self.dom.made();
         if is_number(kind) && free == 0 {
             return HostDone::Limit(Limit::Cells);
         }
-        match text_arg(self.alloc, heap, false, kind) {
-            Ok(kind) => {
-                let listener = Listener {
-                    node,
-                    kind,
-                    function,
-                    capture,
-                };
-                match self.listeners.add(heap, listener) {
-                    Ok(()) => HostDone::Value(Value::Undefined),
-                    Err(Refused::Limit(limit)) => HostDone::Limit(limit),
-                    Err(Refused::Memory) => HostDone::Memory,
-                }
-            }
-            Err(done) => done,
+        let listener = Listener {
+            node,
+            kind: make_text(self.alloc, heap, kind),
+            function,
+            capture,
+        };
+        match self.listeners.add(heap, listener) {
+            Ok(()) => HostDone::Value(Value::Undefined),
+            Err(Refused::Limit(limit)) => HostDone::Limit(limit),
+            Err(Refused::Memory) => HostDone::Memory,
         }
     }
 

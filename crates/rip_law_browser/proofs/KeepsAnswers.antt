@@ -6,7 +6,7 @@ use Rattle.rip_values.specs.declared.builtin.Builtin.{Builtin}
 use Rattle.rip_values.specs.declared.fixed.FixedText.{FixedText}
 use Rattle.rip_values.specs.declared.fixed.FixedText.TheVariants.{Disabled as DisabledText, Empty, Value as ValueText}
 use Rattle.rip_base.specs.declared.value.Fault.{Fault}
-use Rattle.rip_base.specs.declared.value.Fault.TheVariants.{BadArgument}
+use Rattle.rip_base.specs.declared.value.Fault.TheVariants.{BadArgument, NotInProfile}
 use Rattle.rip_base.specs.declared.value.Limit.TheVariants.{Cells, Queue, Units}
 use Rattle.rip_base.specs.declared.value.Numeral.{Numeral}
 use Rattle.rip_base.specs.declared.value.Span.{Span}
@@ -51,7 +51,7 @@ use Rattle.rip_host.specs.declared.owner.Owner.TheVariants.{Node, Dispatched, Ri
 use Rattle.rip_host.specs.EventMembers.{event_member_of, prevented, stopped}
 use Rattle.rip_host.specs.FormMembers.{attribute_kept, checked_written, disabled_written, form_member_of, form_read, form_written, goes_on_in, has_value, if_part, null_or_empty, option_chosen, place_written, selected_written, text_held, value_written, with_state}
 use Rattle.rip_host.specs.HostCalls.{host_call_of}
-use Rattle.rip_host.specs.Listening.{added_by, after_registering, handler_of, ignored, is_number, is_second, is_spent, listener, listener_added, listener_removed, register, removed_by, unless_fault, unregister}
+use Rattle.rip_host.specs.Listening.{added_by, after_registering, handler_of, ignored, is_number, is_second, is_spent, left_out, listener, listener_added, listener_removed, register, removed_by, unless_fault, unregister}
 use Rattle.rip_host.specs.Owners.{owner_of}
 use Rattle.rip_host.specs.Visit.{of_nodes}
 use Rattle.rip_law_browser.proofs.TreeLimits.{call_limit, given_limit, written_limit}
@@ -209,16 +209,19 @@ registering_keeps w s (Some step) = refl
 ignored_keeps : (w : World) (s : Browser) (t : Value) → kept (ignored w s t) ≡ held s
 ignored_keeps w s t = if_keeps (are_past w.pool (cost_of_text t)) (host.Limit Units, w, s) (host.Value Undefined, world_with w t, s) (held s) refl refl
 
+left_out_keeps : (w : World) (s : Browser) (t : Value) → kept (left_out w s t) ≡ held s
+left_out_keeps w s t = if_keeps (are_past w.pool (cost_of_text t)) (host.Limit Units, w, s) (host.Fault NotInProfile, w, s) (held s) refl refl
+
 register_keeps : (w : World) (s : Browser) (k : ℕ) (t : Value) (f : ℕ) (capture : Bool) → kept (register w s k t f capture) ≡ held s
 register_keeps w s k t f capture =
     let kind = text_span w.pool t in
     let x = world_with w t in
     let last : HostDone × World × Browser = after_registering w s (registered (found x.pool (same_as (listener k kind f capture)) s.listeners) (listener k kind f capture) s.listeners x) in
-    let made : HostDone × World × Browser = if are_past w.pool (cost_of_text t) then (host.Limit Units, w, s) else last in
-    let first : HostDone × World × Browser = if is_number t && is_spent w then (host.Limit Cells, w, s) else made in
+    let made : HostDone × World × Browser = if is_number t && is_spent w then (host.Limit Cells, w, s) else last in
+    let first : HostDone × World × Browser = if are_past w.pool (cost_of_text t) then (host.Limit Units, w, s) else made in
     if_keeps (is_second w s k t f capture) (ignored w s t) first (held s) (ignored_keeps w s t)
-    (if_keeps (is_number t && is_spent w) (host.Limit Cells, w, s) made (held s) refl
-    (if_keeps (are_past w.pool (cost_of_text t)) (host.Limit Units, w, s) last (held s) refl
+    (if_keeps (are_past w.pool (cost_of_text t)) (host.Limit Units, w, s) made (held s) refl
+    (if_keeps (is_number t && is_spent w) (host.Limit Cells, w, s) last (held s) refl
     (registering_keeps w s (registered (found x.pool (same_as (listener k kind f capture)) s.listeners) (listener k kind f capture) s.listeners x))))
 
 unregister_keeps : (w : World) (s : Browser) (k : ℕ) (t : Value) (f : ℕ) (capture : Bool) → kept (unregister w s k t f capture) ≡ held s
@@ -231,12 +234,12 @@ unregister_keeps w s k t f capture =
 added_keeps : (w : World) (s : Browser) (k : ℕ) (t : Value) (h : Handler) (capture : Bool) → kept (added_by w s k t h capture) ≡ held s
 added_keeps w s k t Ignored capture = ignored_keeps w s t
 added_keeps w s k t (Function f) capture = register_keeps w s k t f capture
-added_keeps w s k t Other capture = refl
+added_keeps w s k t Other capture = left_out_keeps w s t
 
 removed_keeps : (w : World) (s : Browser) (k : ℕ) (t : Value) (h : Handler) (capture : Bool) → kept (removed_by w s k t h capture) ≡ held s
 removed_keeps w s k t Ignored capture = ignored_keeps w s t
 removed_keeps w s k t (Function f) capture = unregister_keeps w s k t f capture
-removed_keeps w s k t Other capture = refl
+removed_keeps w s k t Other capture = left_out_keeps w s t
 
 listener_added_keeps : (w : World) (s : Browser) (k : ℕ) (t f c : Value) → kept (listener_added w s k t f c) ≡ held s
 listener_added_keeps w s k t f c = fault_keeps (text_fault w.pool t) w s (added_by w s k t (handler_of w f) (boolean_of w.pool c)) (added_keeps w s k t (handler_of w f) (boolean_of w.pool c))
