@@ -6,7 +6,7 @@
 //!
 //! | what | its definition in `specs/` |
 //! |---|---|
-//! | [`value_of_datum`] | `Values.made_value`, the steps in the order of their charges; `Values.Does` says what an answer means; want of memory is no answer |
+//! | [`value_of_datum`] | `Values.made_value`, the steps in the order of their charges, with the fault or the limit that ends them; want of memory is no answer |
 //! | [`CallRow::write_call`] | `Arguments.call_text`: the first fault `Arguments.fault_of` on the walk over the arguments, left to right, then their data `Arguments.walked`, and at last their length; `Told.IsCallOf` that they are the text of a datum that is well made |
 //! | [`calls_are_told`] | `Told.CallsAreTold` and `Told.ListsAreTold`: so is each text that `Arguments.call_text` comes to, whatever the heap |
 //!
