@@ -3,12 +3,12 @@ ghost use Rattle.rip_heap.specs.Growth.{Grows};
 ghost use Rattle.rip_host.specs.Visit.{Fits};
 ghost use Rattle.rip_replica.specs.Rules.{Delivers};
 ghost use Rattle.rip_browser.specs.Calls.{at_hand, position_in};
-ghost use Rattle.rip_browser.specs.Replies.{delivered, without_reply};
+ghost use Rattle.rip_browser.specs.Replies.{delivered, stop_of, without_reply};
 
-use rip_base::Refused;
 use rip_calls::{Match, Queue};
 use rip_convert::value_of_datum;
-use rip_heap::Heap;
+use rip_eval_rows::Stop;
+use rip_heap::{Halt, Heap};
 use rip_host::{Browser, Undelivered};
 use rip_replica::items::{Callback, Position, ReplyRefused};
 
@@ -68,11 +68,20 @@ pub(crate) fn deliver(
             take_out(browser, heap, batch, number);
             Ok(Callback { function, reply })
         }
-        Err(Refused::Limit(limit)) => {
+        Err(halt) => {
             take_out(browser, heap, batch, number);
-            Err(ReplyRefused::Limit(limit))
+            Err(ReplyRefused::Stopped(stop_of(halt)))
         }
-        Err(Refused::Memory) => unreachable!(),
+    }
+}
+
+/// How an item stops where the making of a value halts.
+fn stop_of(halt: Halt) -> Stop
+    ensures { result ≡ stop_of halt }
+{
+    match halt {
+        Halt::Fault(fault) => Stop::Fault(fault),
+        Halt::Limit(limit) => Stop::Limit(limit),
     }
 }
 

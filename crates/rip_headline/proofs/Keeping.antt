@@ -21,7 +21,6 @@ use Rattle.rip_replica.specs.declared.items.page_host.Position.{Position}
 use Rattle.rip_replica.specs.declared.items.page_host.Position.TheVariants as position
 use Rattle.rip_eval_rows.specs.declared.close.Close.{Close}
 use Rattle.rip_eval_rows.specs.declared.close.Close.TheVariants.{Fine, Stopped}
-use Rattle.rip_eval_rows.specs.declared.completion.Stop.TheVariants.{Limit as AtLimit}
 use Rattle.rip_eval_rows.specs.Evaluation.{Reached, Passes, Breaks, Pauses}
 use Rattle.rip_eval_rows.specs.Plan.{Plan}
 use Rattle.rip_eval_rows.specs.Started.{Started}
@@ -33,7 +32,7 @@ use Rattle.rip_machine.specs.Starting.{begun_by}
 use Rattle.rip_eval_language.specs.Table.{table}
 use Rattle.rip_tree.specs.Program.{Code}
 use Rattle.rip_browser.specs.Calls.{position_of}
-use Rattle.rip_browser.specs.Replies.{delivery, handed, taken_out}
+use Rattle.rip_browser.specs.Replies.{delivery, handed, stop_of, taken_out}
 use Rattle.rip_wire.specs.Calls.{call_text}
 use Rattle.rip_wire.specs.Items.{Reported, event, reply}
 use Rattle.rip_history.specs.Parts.{Given}
@@ -195,8 +194,8 @@ handed_closes : (run : Started → World → Browser → ℕ → ℕ → Reached
     → play run full (reply_plan n (handed callback m t) w s) gs full full ≡ Closes close more fuel left x r → IsFineOrStopped close
 handed_closes run full n callback (Ok v, y) w s t gs close more fuel left x r is =
     run_closes run full n _ gs full full close more fuel left x r is
-handed_closes run full n callback (Err limit, y) w s t gs close more fuel left x r is =
-    subst IsFineOrStopped (same_close (Stopped n (AtLimit limit)) close gs more full full fuel left y x t r is) tt
+handed_closes run full n callback (Err halt, y) w s t gs close more fuel left x r is =
+    subst IsFineOrStopped (same_close (Stopped n (stop_of halt)) close gs more full full fuel left y x t r is) tt
 
 -- the first that waits, where it is due
 due_first : (number batch : ℕ) (u : WaitingReply) (us : List WaitingReply) → is_due number batch u ≡ true

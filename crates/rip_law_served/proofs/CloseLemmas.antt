@@ -19,7 +19,7 @@ use Rattle.rip_replica.specs.Play.{Played, Closes, Holds, after_run, play}
 use Rattle.rip_replica.specs.declared.items.page_host.Position.{Position}
 use Rattle.rip_replica.specs.declared.items.page_host.Position.TheVariants as position
 use Rattle.rip_replica.specs.Items.{call_plan, fine, reply_plan}
-use Rattle.rip_replica.specs.Rules.{CallsBack, Delivered, NotDue, ReplyPasses}
+use Rattle.rip_replica.specs.Rules.{CallsBack, Delivered, NotDue, ReplyStops}
 use Rattle.rip_host.specs.declared.browser.Browser.{Browser}
 use Rattle.rip_host.specs.EventMembers.{bubbles}
 use Rattle.rip_host.specs.Flow.{along, called, calls_at, event_opened, flow, flow_of, is_stopped, over, reached, standing, unless_stopped}
@@ -135,7 +135,7 @@ module _ (n : ℕ) (calls : Bool) where
 
   reply-so : (d : Delivered Browser) (w : World) (s : Browser) → So (reply_plan n d w s)
   reply-so NotDue w s = refl
-  reply-so (ReplyPasses limit x r) w s = refl
+  reply-so (ReplyStops stop x r) w s = refl
   reply-so (CallsBack f v x r) w s = (λ stop. refl, fine-so)
 
   -- ---- the opening

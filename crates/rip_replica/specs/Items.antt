@@ -16,17 +16,17 @@ use Rattle.rip_replica.specs.declared.items.session.Item.{Item}
 use Rattle.rip_replica.specs.declared.items.session.Item.TheVariants.{Event, Call, Reply}
 use Rattle.rip_replica.specs.declared.items.session.UnderWay.{UnderWay}
 use Rattle.rip_replica.specs.declared.items.session.UnderWay.TheVariants.{Fresh, Flowing, Ending}
-use Rattle.rip_replica.specs.Rules.{CallsBack, Delivered, NotDue, ReplyPasses, Rules}
+use Rattle.rip_replica.specs.Rules.{CallsBack, Delivered, NotDue, ReplyStops, Rules}
 
 -- an item that is over and fine
 abbrev pub fine : {S : Type 0} → World → S → Plan S
 fine w s = Over Fine w s
 
--- a reply: where it is not due it ends the session, and so does a limit; else its callback is called with `this` undefined,
+-- a reply: where it is not due it ends the session, and so does a fault or a limit; else its callback is called with `this` undefined,
 -- and how that comes out counts for nothing
 abbrev pub reply_plan : {S : Type 0} → ℕ → Delivered S → World → S → Plan S
 reply_plan item NotDue w s = Over (Refused item Due) w s
-reply_plan item (ReplyPasses limit x r) w s = Over (Stopped item (AtLimit limit)) x r
+reply_plan item (ReplyStops stop x r) w s = Over (Stopped item stop) x r
 reply_plan item (CallsBack function v x r) w s = Runs item (CallOf function Undefined (v ∷ [])) x r fine
 
 -- a call: where its number is not the next, another call stands at its position or none, or too many replies wait, it ends

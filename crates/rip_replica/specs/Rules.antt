@@ -1,11 +1,11 @@
 -- What the items of a batch come to over a page, as the page says it.
 use Rattle.std.specs.Prelude.{◌≡◌, ℕ, ◌+◌, ◌≤◌, Bool, true, List, [], ◌∷◌, slice_get, Option, None, Some, Result, Ok, Err}
 use Rattle.rip_base.specs.declared.report.Report.{Report}
-use Rattle.rip_base.specs.declared.value.Limit.{Limit}
 use Rattle.rip_base.specs.declared.value.Value.{Value}
 use Rattle.rip_base.specs.declared.value.Value.TheVariants.{Object}
 use Rattle.rip_heap.specs.World.{World}
 use Rattle.rip_eval_rows.specs.declared.close.Close.TheVariants.{Refused, Stopped}
+use Rattle.rip_eval_rows.specs.declared.completion.Stop.{Stop}
 use Rattle.rip_eval_rows.specs.declared.completion.Stop.TheVariants.{Limit as AtLimit}
 use Rattle.rip_eval_rows.specs.Plan.{Plan, Over, Runs}
 use Rattle.rip_eval_rows.specs.Started.{CallOf}
@@ -18,11 +18,11 @@ use Rattle.rip_replica.specs.declared.items.page_host.ReplyRefused.TheVariants a
 use Rattle.rip_replica.specs.declared.items.page_host.ReportRefused.{ReportRefused}
 use Rattle.rip_replica.specs.declared.items.page_host.ReportRefused.TheVariants as report
 
--- what the delivery of a reply comes to, where S is the type of the page: it is not due; or a limit would be passed while
--- its value is made, and then the world and the page are these; or the callback is to be called with this value
+-- what the delivery of a reply comes to, where S is the type of the page: it is not due; or its value has a fault or would pass
+-- a limit while it is made, and then the world and the page are these; or the callback is to be called with this value
 pub data Delivered (S : Type 0) : Type 0 where
   NotDue : Delivered S
-  ReplyPasses : Limit → World → S → Delivered S
+  ReplyStops : Stop → World → S → Delivered S
   CallsBack : ℕ → Value → World → S → Delivered S
 
 -- what items come to, where F is the type of flows and S that of the page: an event, for an item of a number, and then
@@ -85,4 +85,4 @@ Reports rules r w s (Err report.Memory) w' s' f' = (w' ≡ w) × (s' ≡ s)
 abbrev pub Delivers : {S : Type 0} → Delivered S → World → S → Result Callback ReplyRefused → World → S → Type 0
 Delivers meant w s (Ok callback) w' s' = meant ≡ CallsBack callback.function callback.reply w' s'
 Delivers meant w s (Err reply.NotDue) w' s' = (meant ≡ NotDue) × (w' ≡ w) × (s' ≡ s)
-Delivers meant w s (Err (reply.Limit limit)) w' s' = meant ≡ ReplyPasses limit w' s'
+Delivers meant w s (Err (reply.Stopped stop)) w' s' = meant ≡ ReplyStops stop w' s'

@@ -15,7 +15,7 @@ use Rattle.rip_eval_rows.specs.Plan.{IsPlain, Plan}
 use Rattle.rip_replica.specs.declared.items.page_host.Position.{Position}
 use Rattle.rip_replica.specs.declared.items.page_host.Position.TheVariants as position
 use Rattle.rip_replica.specs.Items.{call_plan, fine, reply_plan}
-use Rattle.rip_replica.specs.Rules.{CallsBack, Delivered, NotDue, ReplyPasses}
+use Rattle.rip_replica.specs.Rules.{CallsBack, Delivered, NotDue, ReplyStops}
 use Rattle.rip_host.specs.declared.browser.Browser.{Browser}
 use Rattle.rip_host.specs.Waiting.{is_full}
 use Rattle.rip_host.specs.Flow.{along, called, calls_at, event_opened, flow, flow_of, is_stopped, over, reached, standing, unless_stopped}
@@ -90,7 +90,7 @@ event-plain s w r item = judged-plain (refusal_of w.pool s.dom r) s w r item fin
 
 reply-plain : (item : ℕ) (d : Delivered Browser) (w : World) (s : Browser) → IsPlain (reply_plan item d w s)
 reply-plain item NotDue w s = tt
-reply-plain item (ReplyPasses limit x r) w s = tt
+reply-plain item (ReplyStops stop x r) w s = tt
 reply-plain item (CallsBack f v x r) w s = fine-plain
 
 scripts-plain : (item k n : ℕ) (next : Going) → GoesPlain next → GoesPlain (scripts item k n next)

@@ -1,7 +1,7 @@
-use rip_base::{Limit, Refused};
+use rip_base::Limit;
 use rip_convert::*;
 use rip_data::read_datum;
-use rip_heap::{Heap, HeapLimits};
+use rip_heap::{Halt, Heap, HeapLimits};
 use std::alloc::Global;
 use std::test::Fail;
 
@@ -22,8 +22,8 @@ fn made(
     let datum = read_datum(alloc, text.as_bytes())?;
     let limit = match value_of_datum(alloc, &mut heap, &datum) {
         Ok(_) => None,
-        Err(Refused::Limit(limit)) => Some(limit),
-        Err(Refused::Memory) => return Err(Fail::from("memory")),
+        Err(Halt::Limit(limit)) => Some(limit),
+        Err(Halt::Fault(_)) => return Err(Fail::from("fault")),
     };
     Ok((heap.used_cells(), heap.pool().used(), limit))
 }

@@ -1,4 +1,5 @@
 use rip_base::{BadReport, Limit, Report, Value};
+use rip_eval_rows::Stop;
 use rip_heap::{Heap, Host};
 
 /// A listener that is to be called: the function, the object that is the node whose listener it is, and that of the event.
@@ -42,7 +43,8 @@ pub struct Callback {
 #[derive(Clone, Copy, Debug, PartialEq, Eq)]
 pub enum ReplyRefused {
     NotDue,
-    Limit(Limit),
+    /// Its value has a fault, or would pass a limit.
+    Stopped(Stop),
 }
 
 /// What stands behind the script of a page, as the items of a batch use it, where F is the type of a flow under way.

@@ -146,7 +146,7 @@ impl<F> SessionItems<F> {
                 Ok(self.flow_step(number, heap, host))
             },
             Err(ReportRefused::Illegal(kind)) => Ok(refused(number, kind)),
-            Err(ReportRefused::Limit(limit)) => Ok(stopped(number, limit)),
+            Err(ReportRefused::Limit(limit)) => Ok(stopped(number, Stop::Limit(limit))),
             Err(ReportRefused::Memory) => Err(NoMemory),
         }
     }
@@ -194,7 +194,7 @@ impl<F> SessionItems<F> {
         match position {
             Position::NotNext => refused(number, BadReport::Number),
             Position::Other => Step::Over(Close::Mismatch { item: number }),
-            Position::TooMany => stopped(number, Limit::Replies),
+            Position::TooMany => stopped(number, Stop::Limit(Limit::Replies)),
             Position::Served => {
                 self.under_way = UnderWay::Ending;
                 Step::Await
@@ -237,7 +237,7 @@ impl<F> SessionItems<F> {
                 }
             },
             Err(ReplyRefused::NotDue) => refused(number, BadReport::Due),
-            Err(ReplyRefused::Limit(limit)) => stopped(number, limit),
+            Err(ReplyRefused::Stopped(stop)) => stopped(number, stop),
         }
     }
 }
@@ -249,10 +249,9 @@ fn refused(item: u32, kind: BadReport) -> Step
     Step::Over(Close::Refused { item, kind })
 }
 
-/// An item would pass a limit.
-fn stopped(item: u32, limit: Limit) -> Step
-    ensures { result ≡ Step.Over (Close.Stopped item (Stop.Limit limit)) }
+/// An item has a fault, or would pass a limit.
+fn stopped(item: u32, stop: Stop) -> Step
+    ensures { result ≡ Step.Over (Close.Stopped item stop) }
 {
-    let stop = Stop::Limit(limit);
     Step::Over(Close::Stopped { item, stop })
 }
