@@ -22,7 +22,7 @@ use Rattle.rip_nodes.specs.Answers.{is_document}
 use Rattle.rip_nodes.specs.Attributes.{attribute_given, attribute_set_by, attribute_set_call, attribute_set_named, attribute_taken, attribute_taken_by, attribute_taken_named, cost_of_new, illegal_name, name_left_out, opening, texts_kept}
 use Rattle.rip_nodes.specs.Calls.{argument, element_created, element_created_by, element_created_named, element_made_of, moved, node_call, node_in, on_receiver, place_in, with_argument}
 use Rattle.rip_nodes.specs.Names.{begins_with_on, is_script}
-use Rattle.rip_nodes.specs.Texts.{are_past, cost_of_text, goes_on, is_full, standing_text, text_span, text_taken, unless_fault, with_text, within_limits}
+use Rattle.rip_nodes.specs.Texts.{are_past, cost_of_text, goes_on, is_full, once_text, standing_text, text_span, text_taken, unless_fault, with_text, within_limits}
 use Rattle.rip_nodes.specs.Writing.{attribute_written, node_value_written, node_written, or_empty, text_content_written, text_written}
 use Rattle.rip_nodes.specs.declared.member.NodeCall.{NodeCall}
 use Rattle.rip_nodes.specs.declared.member.NodeCall.TheVariants as call
@@ -77,9 +77,12 @@ illegal_limit w t v = text_limit w t false v (λ text x. (host.Dom 5, x, t)) (λ
 left_out_limit : (w : World) (t : Tree) (v : Value) → limit_in (name_left_out w t v) ≡ t.limit
 left_out_limit w t v = text_limit w t false v (λ text x. (host.Fault NotInProfile, w, t)) (λ text x. refl)
 
+once_limit : (w : World) (t : Tree) (v : Value) (answer : Answer) → limit_in answer ≡ t.limit → limit_in (once_text w t v answer) ≡ t.limit
+once_limit w t v answer h = fault_limit (text_fault w.pool v) w t _ (within_limit false (are_past w.pool (cost_of_text v)) w t answer h)
+
 pub given_limit : (w : World) (t : Tree) (n : ℕ) (name : Span) (v : Value) → limit_in (attribute_given w t n name v) ≡ t.limit
 given_limit w t n name v =
-    fault_limit (text_fault w.pool v) w t _
+    once_limit w t v _
     (within_limit (not (has_attribute (opening w.pool t) n name) && is_full t) (are_past w.pool (cost_of_new w t n name + cost_of_text v)) w t _
     (limit_of_attribute_set (opening w.pool t) n name (text_span (texts_kept w t n name) v)))
 
@@ -93,7 +96,7 @@ set_by_limit w t n (Some name) a v = set_named_limit w t n name v
 set_by_limit w t n None a v = within_limit false (are_past w.pool (cost_of_text a + cost_of_text v)) w t _ refl
 
 set_limit : (w : World) (t : Tree) (n : ℕ) (a v : Value) → limit_in (attribute_set_call w t n a v) ≡ t.limit
-set_limit w t n a v = fault_limit (text_fault w.pool a) w t _ (fault_limit (text_fault w.pool v) w t _ (set_by_limit w t n (standing_text a) a v))
+set_limit w t n a v = once_limit w t a _ (fault_limit (text_fault w.pool v) w t _ (set_by_limit w t n (standing_text a) a v))
 
 taken_named_limit : (w : World) (t : Tree) (n : ℕ) (name : List ℕ) → limit_in (attribute_taken_named w t n name) ≡ t.limit
 taken_named_limit w t n name =

@@ -17,7 +17,7 @@ use Rattle.rip_dom.specs.Opening.{Opening}
 use Rattle.rip_dom.specs.Tree.{Tree}
 use Rattle.rip_nodes.specs.Answers.{attribute_value}
 use Rattle.rip_nodes.specs.Names.{begins_with_on}
-use Rattle.rip_nodes.specs.Texts.{are_past, cost_of_text, is_full, standing_text, text_span, unless_fault, with_text, with_text_of, within_limits, world_with}
+use Rattle.rip_nodes.specs.Texts.{are_past, cost_of_text, is_full, once_text, standing_text, text_span, unless_fault, with_text, with_text_of, within_limits, world_with}
 
 -- texts and tree together
 abbrev pub opening : Texts → Tree → Opening
@@ -53,11 +53,11 @@ cost_of_new w t n name = if has_attribute (opening w.pool t) n name then 0 else 
 abbrev pub texts_kept : World → Tree → ℕ → Span → Texts
 texts_kept w t n name = (attribute_set (opening w.pool t) n name (span_of Empty)).pool
 
--- the node's attribute of this name, which is legal, gets the text of the value. An attribute that is made costs a node
--- and the name's small letters, where it has capitals; the text of the value comes behind the name
+-- the node's attribute of this name, which is legal, gets the text of the value, once that can be made. An attribute that is
+-- made costs a node and the name's small letters, where it has capitals; the text of the value comes behind the name
 abbrev pub attribute_given : World → Tree → ℕ → Span → Value → HostDone × World × Tree
 attribute_given w t n name v =
-    unless_fault (text_fault w.pool v) w t
+    once_text w t v
     (within_limits (not (has_attribute (opening w.pool t) n name) && is_full t) (are_past w.pool (cost_of_new w t n name + cost_of_text v)) w t (
       host.Value Undefined,
       record w { pool = with_text_of (texts_kept w t n name) v },
@@ -85,7 +85,7 @@ attribute_set_by w t n None a v = attribute_set_numbered w t a v
 -- setAttribute: name and value become texts first, in this order
 abbrev pub attribute_set_call : World → Tree → ℕ → Value → Value → HostDone × World × Tree
 attribute_set_call w t n a v =
-    unless_fault (text_fault w.pool a) w t (unless_fault (text_fault w.pool v) w t (attribute_set_by w t n (standing_text a) a v))
+    once_text w t a (unless_fault (text_fault w.pool v) w t (attribute_set_by w t n (standing_text a) a v))
 
 -- TAKING
 

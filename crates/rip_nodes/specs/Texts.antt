@@ -79,13 +79,18 @@ abbrev pub within_limits : Bool → Bool → World → Tree → HostDone × Worl
 within_limits nodes units w t answer =
     if nodes then (host.Limit Nodes, w, t) else if units then (host.Limit Units, w, t) else answer
 
+-- the answer, where the text of a value can be made: the fault of the conversion comes first, and then the limit of units
+abbrev pub once_text : World → Tree → Value → HostDone × World × Tree → HostDone × World × Tree
+once_text w t v answer = unless_fault (text_fault w.pool v) w t (within_limits false (are_past w.pool (cost_of_text v)) w t answer)
+
 -- the text of a value as a member takes it, or what the member answers instead; and the world after it. The fault of
--- the conversion comes first, then the limit of nodes, where what follows would pass it, and then that of units
+-- the conversion comes first, then the limit of units, which the text costs, and then that of nodes, where what follows would
+-- pass it
 abbrev pub text_judged : Option Fault → Bool → Bool → World → Value → Result Span HostDone × World
 text_judged (Some fault) nodes units w v = (Err (host.Fault fault), w)
 text_judged None nodes units w v =
-    if nodes then (Err (host.Limit Nodes), w)
-    else if units then (Err (host.Limit Units), w)
+    if units then (Err (host.Limit Units), w)
+    else if nodes then (Err (host.Limit Nodes), w)
     else (Ok (text_span w.pool v), world_with w v)
 
 abbrev pub text_taken : World → Bool → Value → Result Span HostDone × World

@@ -77,6 +77,9 @@ pub(crate) fn set_attribute(
         Some(fault) => return HostDone::Fault(fault),
         None => {}
     }
+    if are_past(heap, cost_of_text(name)) {
+        return HostDone::Limit(Limit::Units);
+    }
     match text_fault(heap, v) {
         Some(fault) => return HostDone::Fault(fault),
         None => {}
@@ -248,6 +251,7 @@ pub fn give_attribute(
     let cost = cost_of_text(v);
     match text_fault(heap, v) {
         Some(fault) => HostDone::Fault(fault),
+        None if are_past(heap, cost) => HostDone::Limit(Limit::Units),
         None if !there && dom.used() >= dom.limit() => HostDone::Limit(Limit::Nodes),
         None if kept + u64::from(cost) > u64::from(heap.pool().free()) => {
             HostDone::Limit(Limit::Units)

@@ -80,7 +80,7 @@ pub fn make_text(alloc: Global, heap: &mut Heap, v: &Value) -> Span
 }
 
 /// The text of a value as a member takes it, or what the member answers instead: the fault of the conversion, then the
-/// limit of nodes, where what follows would pass it, and then that of units.
+/// limit of units, which the text costs, and then that of nodes, where what follows would pass it.
 pub fn text_arg(alloc: Global, heap: &mut Heap, nodes: bool, v: &Value) -> Result<Span, HostDone>
     ensures text { (result, heap.new) ≡ text_taken heap.old nodes v.now }
     ensures adds { AddsTexts heap.old heap.new }
@@ -89,8 +89,8 @@ pub fn text_arg(alloc: Global, heap: &mut Heap, nodes: bool, v: &Value) -> Resul
     let cost = cost_of_text(v);
     match text_fault(heap, v) {
         Some(fault) => Err(HostDone::Fault(fault)),
-        None if nodes => Err(HostDone::Limit(Limit::Nodes)),
         None if are_past(heap, cost) => Err(HostDone::Limit(Limit::Units)),
+        None if nodes => Err(HostDone::Limit(Limit::Nodes)),
         None => Ok(make_text(alloc, heap, v)),
     }
 }
