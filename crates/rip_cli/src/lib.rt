@@ -7,7 +7,7 @@
 //! | what a run did, by its status | `Run.Ran` |
 //! | the words that are answered | `Words.IsForm`, by `rip_words` |
 //! | why input is refused, the first cause that applies, and the line that says so | `Input.Refuses`, `Lines` |
-//! | what is done for input that is accepted | `Service.Does`: `ServesTrace` of `replay`, over what a trace brings (`brought`); `ServesDoor` of `serve`, at the door that is handed in; both by `rip_serve`'s `Serves`, with the log of a legal course, `IsLegal`, whose entries are in range; `PutsDriven` of `drive`, by `rip_drive`'s `IsTrace`; `PutsGenerated` of `generate`, by `rip_gen::generate`'s `IsGenerated` |
+//! | what is done for input that is accepted | `Service.Does`: `ServesTrace` of `replay`, over what a trace brings (`brought`); `ServesDoor` of `serve`, at the door that is handed in; both by `rip_serve`'s `ServesApp`: a run of the machine, `Serves`, and each entry of its log in range; `PutsDriven` of `drive`, by `rip_drive`'s `IsTrace`; `PutsGenerated` of `generate`, by `rip_gen::generate`'s `IsGenerated` |
 //! | [`accepted_files_are_served`] | `Laws.AcceptedIsDone` |
 //!
 //! The files `Steps`, `Settling`, `Content` and `TraceDoor` of `specs/` say what the functions below [`ripley`] do.

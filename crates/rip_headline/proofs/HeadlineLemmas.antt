@@ -19,9 +19,9 @@ use Rattle.rip_law_history.specs.Legal.{course_turns, told_in}
 use Rattle.rip_law_replica.proofs.Cut.{busy_cut}
 use Rattle.rip_law_replica.proofs.Done.{not_done_busy}
 use Rattle.rip_server.specs.Turning.{Outer}
-use Rattle.rip_serve.specs.Legal.{AreLegal, IsCutRun, IsLegalRun}
 use Rattle.rip_serve.specs.Sites.{site_of_app}
 use Rattle.rip_law_server.specs.Begun.{IsBetweenTurns, IsWithinTurn}
+use Rattle.rip_law_server.specs.Legal.{AreLegal, IsCutRun, IsLegalRun}
 use Rattle.rip_replica.specs.Standing.{spot}
 use Rattle.rip_session.specs.declared.work.items.PageItems.{PageItems}
 use Rattle.rip_session.specs.Application.{doing_of, meaning_of_app, runs_of}
@@ -185,11 +185,11 @@ honest_clients_are_served = in_each HonestServed honest
 -- ---- isolation
 
 isolated : (app : Loaded) (turns : List Coming) → AreLegal (site_of_app app) turns → AreIsolated app turns
-isolated app turns legal others other_legal n k g =
+isolated app turns legal others course n k g =
     let site = site_of_app app in
     let lawful = app_is_lawful app in
     courses_isolate (meaning_of_app app) lawful.reads site.service site.service site.limit site.limit (told_in turns) (told_in others)
-    (course_turns 1 turns) (course_turns 1 others) (log_of app turns) (log_of app others) n k g.start legal.course other_legal.course
+    (course_turns 1 turns) (course_turns 1 others) (log_of app turns) (log_of app others) n k g.start legal.course course
     g.opening g.other_opening g.calm g.other_calm g.batches g.given
 
 sliced : (app : Loaded) (turns : List Coming) → AreLegal (site_of_app app) turns → AreSliced app turns

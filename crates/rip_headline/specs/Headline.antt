@@ -9,17 +9,18 @@ use Rattle.rip_words.specs.Commands.{IsTask, Task, checks, drives, generates, re
 use Rattle.rip_app.specs.App.{Loaded}
 use Rattle.rip_log.specs.Entries.{Recorded, ended}
 use Rattle.rip_log.specs.Histories.{history_text}
+use Rattle.rip_history.specs.Course.{IsCourse}
 use Rattle.rip_history.specs.Run.{Coming}
 use Rattle.rip_history.specs.Sessions.{Agree, IsSessionOf, opening_in, story_in}
 use Rattle.rip_history.specs.Stages.{Stage, is_done, is_ended}
 use Rattle.rip_law_history.specs.Alone.{IsGivenAlike}
-use Rattle.rip_law_history.specs.Legal.{history_of}
+use Rattle.rip_law_history.specs.Legal.{course_turns, history_of, told_in}
 use Rattle.rip_server.specs.Turning.{Outer}
 use Rattle.rip_replica.specs.Cuts.{CutAfter}
 use Rattle.rip_replica.specs.Numbers.{open_of}
-use Rattle.rip_serve.specs.Legal.{AreGiven, AreLegal}
 use Rattle.rip_serve.specs.Sites.{site_of_app}
 use Rattle.rip_law_server.specs.Begun.{IsGivenTo}
+use Rattle.rip_law_server.specs.Legal.{AreGiven, AreLegal}
 use Rattle.rip_session.specs.Application.{IsPageWithin, StandsAt, doing_of, meaning_of_app, runs_of}
 use Rattle.rip_session.specs.Limits.{HasPageLimits, PassesNoLimit}
 use Rattle.rip_cli.specs.Laws.{AreAccepted}
@@ -155,11 +156,16 @@ HonestServed app turns = (n : ℕ) → IsTruthfulIn app (log_of app turns) n →
 abbrev pub HonestClientsAreServed : Type 0
 HonestClientsAreServed = InEachRun HonestServed
 
+-- the log of turns is a legal history of them, with their moments and words
+abbrev pub IsLegalLog : Loaded → List Coming → Type 0
+IsLegalLog app turns =
+    let site = site_of_app app in IsCourse site.meaning site.service site.limit (told_in turns) (course_turns 1 turns) (log_of app turns)
+
 -- a session that is given the same in these turns and in others, whatever other sessions do there, does the same in both, each so
 -- many turns after the admission of its batch, as far as both go
 abbrev pub AreIsolated : Loaded → List Coming → Type 0
 AreIsolated app turns =
-    (others : List Coming) → AreLegal (site_of_app app) others → (n k : ℕ) → IsGivenAlike (log_of app turns) (log_of app others) n k
+    (others : List Coming) → IsLegalLog app others → (n k : ℕ) → IsGivenAlike (log_of app turns) (log_of app others) n k
     → Agree (story_in n (log_of app turns)) (story_in k (log_of app others))
 
 -- each session is run in slices: what it does comes in the turn by whose end its batch got the units that it costs, 1,000 in each

@@ -11,8 +11,8 @@
 //! | definition | what it says | may be skipped |
 //! |---|---|---|
 //! | `rip_cli` `Run.Ran`, `Laws.AreAccepted` | what the program did, by its status; the files are an application, and a trace | all but the statuses 0, 3, 4 and 5 |
-//! | `rip_serve` `Legal.AreLegal` | the log is a legal history (`rip_history` `Course.IsCourse`) of the requests that came | `streams`, for the calls |
-//! | `rip_serve` `Legal.AreGiven`, `rip_law_server` `Begun.IsGivenTo` | the turns are given the connection pieces, moments and random words of the outside, in order | all, if the input is taken as given |
+//! | `rip_law_server` `Legal.AreLegal` | the turns are turns of the server model, and the log is a legal history (`rip_history` `Course.IsCourse`) of the requests that came | `made` and `streams`, for the calls |
+//! | `rip_law_server` `Legal.AreGiven`, `Begun.IsGivenTo` | the turns are given the connection pieces, moments and random words of the outside, in order | all, if the input is taken as given |
 //! | `PrefixHistories.ServesIn` | the calls that are served, item by item | the sums of units (`spent_by`, `comes`), which say in which turn an item comes |
 //! | `CompleteHistories.IsTruthfulIn` | the admitted batches are the first of those that an honest client tells of some gestures | |
 //! | `rip_law_history` `Alone.IsGivenAlike` | the same opening and batches, and as far as both go the same replies; in neither out of memory | |

@@ -1,14 +1,14 @@
 -- What is put by serving that breaks off is a front of the text of a legal course.
-use Rattle.std.proofs.Common.{◌≡◌, ◌⊎◌, inl, inr, ℕ, ◌+◌, ◌<◌, ◌≤◌, ◌^◌, List, [], ◌∷◌, ◌++◌, length, Option, Some, sym, ap, ◌∙◌, subst, arith, append-nil}
+use Rattle.std.proofs.Common.{◌≡◌, ◌⊎◌, inl, inr, ℕ, ◌+◌, ◌<◌, ◌≤◌, ◌^◌, List, [], ◌∷◌, ◌++◌, length, Option, Some, sym, ap, ◌∙◌, subst, arith, append-nil, append_assoc, cond, Bool, true, false, eqb}
 use Rattle.std.specs.Prelude.{unwrap_or}
 use Rattle.std.proofs.lemmas.List.Concat.{flat_map-append}
 use Rattle.rip_outer.specs.Outside.{Front, also}
 use Rattle.rip_outer.specs.declared.connections.TraceKnock.{TraceKnock}
-use Rattle.rip_outer.proofs.Composing.{Front-after, Front-longer, Front-none, also-nil, before-nil}
+use Rattle.rip_outer.proofs.Composing.{Front-after, Front-longer, Front-none, Front-whole, also-nil, before-nil}
 use Rattle.rip_log.specs.Entries.{Recorded, ended, entry_text}
 use Rattle.rip_log.specs.Histories.{IsHistory, history_text}
 use Rattle.rip_log.specs.Ranges.{IsLong}
-use Rattle.rip_history.specs.Connections.{Act, loses, put_in, puts, sends, shuts}
+use Rattle.rip_history.specs.Connections.{Act, loses, put_in, puts, sends, sent_in, shuts}
 use Rattle.rip_history.specs.Parts.{IsLawful}
 use Rattle.rip_history.specs.Run.{Coming, Site, first_state, turn_acts}
 use Rattle.rip_history.specs.Runs.{AreTurns, IsBroken, IsRun, StopsWith, after_turns, over, spent, turns_acts}
@@ -21,18 +21,18 @@ use Rattle.rip_law_history.specs.Ranged.{AreTimed}
 use Rattle.rip_law_history.proofs.RangeRunLemmas.{logs_are_in_range}
 use Rattle.rip_server.specs.Acts.{InPart, Seen, Stopped}
 use Rattle.rip_server.specs.Turning.{FailsAsked, Gives, Knocks, Outer, Source, StopsIn, at_knock, behind}
-use Rattle.rip_serve.specs.Legal.{AreLegal, ArePutInRange, IsCutRun, IsDoneWith}
-use Rattle.rip_serve.specs.Serving.{AreKnocks, AreTimely, Breaks, BreaksAtEnd, BreaksInTurn, at_end, in_turn, moments_of, unmade, words_of}
+use Rattle.rip_serve.specs.Serving.{AreKnocks, AreTimely, Breaks, BreaksAtEnd, BreaksInTurn, Ran, at_end, in_turn, moments_of, unmade, words_of}
 use Rattle.rip_serve.specs.declared.serving.Stop.TheVariants.{Idle, Memory, Outside, TurnsSpent}
-use Rattle.rip_serve.proofs.LegalLemmas.{served_is_legal}
-use Rattle.rip_serve.proofs.TellLemmas.{gives_none, gives_then, log-append}
+use Rattle.rip_serve.proofs.TellLemmas.{gives_none, gives_then, log-append, sent-append}
 use Rattle.rip_law_server.specs.Begun.{IsBetweenTurns, IsWithinTurn, ServedBeginsLegal}
 use Rattle.rip_law_server.specs.Going.{GoesOnTo, with_more}
+use Rattle.rip_law_server.specs.Legal.{AreLegal, ArePutInRange, IsCutRun, IsDoneWith, IsLegalRun}
 use Rattle.rip_law_server.specs.Rising.{PartsRise}
 use Rattle.rip_law_server.proofs.OnLemmas.{broken_runs_go_on}
 
 legal : (site : Site) (ts : List Coming) → IsLawful site.meaning → AreTurns site 1 first_state ts → AreLegal site ts
 legal site ts lawful are = record {
+  made = are;
   course = runs_are_courses site ts lawful are;
   streams = λ c. streams_are_handled site ts c are;
 }
@@ -53,6 +53,7 @@ unmade-between site most old new lawful e = record {
     moments = subst (λ (o : Outer). Gives [] old.clock o.clock) (sym e) (gives_none old.clock);
     words = subst (λ (o : Outer). Gives [] old.words o.words) (sym e) (gives_none old.words);
   };
+  sent = λ c. ap (λ (o : Outer). o.seen.sent c) e ∙ also-nil (old.seen.sent c);
   legal = legal site [] lawful tt;
   put = ap (λ (o : Outer). o.seen.held) e ∙ also-nil old.seen.held;
 }
@@ -72,6 +73,7 @@ asked-between site most old new lawful b still silent f =
         moments = given-none (moments_of b.turns) h.moments old.clock mid.clock new.clock still told.moments h.moment;
         words = given-none (words_of b.turns) h.coming.words old.words mid.words new.words silent told.words h.words;
       };
+      sent = λ c. f.sent c ∙ told.sent c;
       legal = legal site b.turns lawful b.made;
       put = f.held ∙ told.held ∙ ap (λ (es : List Recorded). also (history_text es) old.seen.held) (sym (turns-puts site 1 first_state b.turns));
     }
@@ -96,6 +98,33 @@ stopped acts old new s =
     subst (λ (t : List ℕ). Front t old.held new.held) all
     (Front-after (history_text (put_in s.done)) (history_text (put_in s.others)) old.held s.mid.held new.held s.did.held (in-part s.others s.mid new s.in_part))
 
+-- and of the bytes on each connection
+sent-part : (c : ℕ) (acts : List Act) (old new : Seen) → InPart acts old new → Front (sent_in c acts) (old.sent c) (new.sent c)
+sent-part c [] old new d = Front-none [] (old.sent c) (new.sent c) (d.sent c ∙ sym (also-nil (old.sent c)))
+sent-part c (puts e ∷ acts) old new (held, front, d) = Front-none (sent_in c acts) (old.sent c) (new.sent c) (d.sent c ∙ sym (also-nil (old.sent c)))
+sent-part c (sends e bytes ∷ acts) old new (more, rest, is, d) = by (eqb e c) (d.sent c)
+  where
+    text : (more ++ []) ++ (rest ++ sent_in c acts) ≡ bytes ++ sent_in c acts
+    text =
+        ap (λ (t : List ℕ). t ++ (rest ++ sent_in c acts)) (append-nil more)
+        ∙ sym (append_assoc more rest (sent_in c acts)) ∙ ap (λ (t : List ℕ). t ++ sent_in c acts) (sym is)
+
+    by : (b : Bool) → new.sent c ≡ also (cond b (more ++ []) []) (old.sent c) → Front (cond b (bytes ++ sent_in c acts) (sent_in c acts)) (old.sent c) (new.sent c)
+    by true e =
+        subst (λ (t : List ℕ). Front t (old.sent c) (new.sent c)) text
+        (Front-longer (more ++ []) (rest ++ sent_in c acts) (old.sent c) (new.sent c) (Front-whole (more ++ []) (old.sent c) (new.sent c) e))
+    by false e = Front-none (sent_in c acts) (old.sent c) (new.sent c) (e ∙ sym (also-nil (old.sent c)))
+sent-part c (loses e ∷ acts) old new d = Front-none (sent_in c acts) (old.sent c) (new.sent c) (d.sent c ∙ sym (also-nil (old.sent c)))
+sent-part c (shuts e ∷ acts) old new d = Front-none (sent_in c acts) (old.sent c) (new.sent c) (d.sent c ∙ sym (also-nil (old.sent c)))
+
+sent-stopped : (c : ℕ) (acts : List Act) (old new : Seen) → Stopped acts old new → Front (sent_in c acts) (old.sent c) (new.sent c)
+sent-stopped c acts old new s =
+    let mid = s.mid in
+    let did = s.did in
+    let all : sent_in c s.done ++ sent_in c s.others ≡ sent_in c acts = sym (ap (sent_in c) s.parts ∙ sent-append c s.done s.others) in
+    subst (λ (t : List ℕ). Front t (old.sent c) (new.sent c)) all
+    (Front-after (sent_in c s.done) (sent_in c s.others) (old.sent c) (mid.sent c) (new.sent c) (did.sent c) (sent-part c s.others mid new s.in_part))
+
 within : (site : Site) (most : ℕ) (old new : Outer) → IsLawful site.meaning → PartsRise site.meaning → (b : BreaksInTurn site most old new)
     → (knocked : Seen) → Knocks (after_turns site 1 first_state b.turns) (let h = b.last in h.coming.knock) (let m = b.between in m.seen) knocked
     → Stopped (turn_acts site (length b.turns + 1) (let h = b.last in h.coming) (after_turns site 1 first_state b.turns)) knocked new.seen
@@ -116,6 +145,12 @@ within site most old new lawful rises b knocked k st =
     let last : Coming = with_more go.handlings go.advances t in
     let here : Front (history_text (put_in now)) mid.seen.held new.seen.held =
     subst (λ (x : Option (List ℕ)). Front (history_text (put_in now)) x new.seen.held) k.held (stopped now knocked new.seen st) in
+    let longer = go.front in
+    let bytes : (c : ℕ) → Front (sent_in c acts) (old.seen.sent c) (new.seen.sent c) =
+    λ c.
+    subst (λ (x : List ℕ). Front x (old.seen.sent c) (new.seen.sent c)) (sym (sent-append c first now))
+    (Front-after (sent_in c first) (sent_in c now) (old.seen.sent c) (mid.seen.sent c) (new.seen.sent c) (told.sent c)
+    (subst (λ (x : Option (List ℕ)). Front (sent_in c now) x (new.seen.sent c)) (k.sent c) (sent-stopped c now knocked new.seen st))) in
     let text : Front (history_text (put_in acts)) old.seen.held new.seen.held =
     subst (λ (x : List ℕ). Front x old.seen.held new.seen.held) (sym (log-append first now))
     (Front-after (history_text (put_in first)) (history_text (put_in now)) old.seen.held mid.seen.held new.seen.held told.held here) in
@@ -134,13 +169,16 @@ within site most old new lawful rises b knocked k st =
         moment = h.moment;
         words = h.words;
       };
+      sent = λ c.
+          subst (λ (x : List ℕ). Front x (old.seen.sent c) (new.seen.sent c)) (sym (ap (sent_in c) longer.1 ∙ sent-append c acts longer.0))
+          (Front-longer (sent_in c acts) (sent_in c longer.0) (old.seen.sent c) (new.seen.sent c) (bytes c));
       legal = legal site (b.turns ++ last ∷ []) lawful go.turns;
       put = subst (λ (x : List ℕ). Front x old.seen.held new.seen.held)
           (sym (ap history_text more.1 ∙ flat_map-append entry_text (put_in acts) more.0))
           (Front-longer (history_text (put_in acts)) (history_text more.0) old.seen.held new.seen.held text);
     }
 
--- ---- in the last line
+-- ---- a whole run, and one that breaks off in its last line
 
 -- a run has no more turns than may be
 few-turns : (site : Site) (most status : ℕ) (ts : List Coming) → StopsWith site (Some most) ts status → length ts ≤ most
@@ -165,6 +203,23 @@ ranged site most status ts acts lawful timely run bound means replies =
     timed : AreTimed ts
     timed = all-maps (λ (t : Coming). t.moment < 2 ^ 53) (λ (t : Coming). IsLong t.moment) (λ t lt. omega (arith, lt)) ts timely
 
+legal-run : (site : Site) (most status : ℕ) (old new : Outer) → IsLawful site.meaning → Ran site most status old new → IsLegalRun site most status old new
+legal-run site most status old new lawful r =
+    let told = r.tells in record {
+      turns = r.turns;
+      few = few-turns site most status r.turns r.run.stops;
+      given = record { knocks = told.knocks; moments = told.moments; words = told.words };
+      sent = λ c.
+          told.sent c ∙ ap (λ (xs : List Act). also (sent_in c xs) (old.seen.sent c)) r.run.done
+          ∙ ap (λ (t : List ℕ). also t (old.seen.sent c))
+          (sent-append c (turns_acts site 1 first_state r.turns) (puts (ended (length r.turns) status) ∷ []) ∙ append-nil (sent_in c (turns_acts site 1 first_state r.turns)));
+      legal = legal site r.turns lawful r.run.turns;
+      stops = r.run.stops;
+      done = done-with site most status r.turns r.acts lawful r.run;
+      in_range = ranged site most status r.turns r.acts lawful told.timely r.run;
+      put = told.held ∙ ap (λ (h : List Recorded). also (history_text h) old.seen.held) (runs_put site (Some most) r.turns status r.acts r.run);
+    }
+
 cut-run : (site : Site) (most : ℕ) (old new : Outer) → IsLawful site.meaning → BreaksAtEnd site most old new → IsCutRun site most old new
 cut-run site most old new lawful b =
     let mid = b.between in
@@ -185,6 +240,7 @@ cut-run site most old new lawful b =
         moments = subst (λ (s : Source). Gives (moments_of b.turns) old.clock s) (sym only.clock) told.moments;
         words = subst (λ (s : Source). Gives (words_of b.turns) old.words s) (sym only.words) told.words;
       };
+      sent = λ c. ap (λ (s : Seen). s.sent c) only.seen ∙ told.sent c;
       legal = legal site b.turns lawful b.run.turns;
       stops = b.run.stops;
       done = done-with site most b.status b.turns b.acts lawful b.run;
@@ -209,7 +265,7 @@ broken site most old new lawful rises (in_turn b) = by-stop site most old new la
 broken site most old new lawful rises (at_end b) = inr (inr (cut-run site most old new lawful b))
 
 pub served_begins_legal : ServedBeginsLegal
-served_begins_legal site most Idle old new lawful rises s = served_is_legal site most Idle old new lawful s
-served_begins_legal site most TurnsSpent old new lawful rises s = served_is_legal site most TurnsSpent old new lawful s
+served_begins_legal site most Idle old new lawful rises s = legal-run site most 0 old new lawful s.0
+served_begins_legal site most TurnsSpent old new lawful rises s = legal-run site most 3 old new lawful s.0
 served_begins_legal site most Outside old new lawful rises s = broken site most old new lawful rises s.0
 served_begins_legal site most Memory old new lawful rises s = broken site most old new lawful rises s.0

@@ -3,14 +3,16 @@ use Rattle.std.specs.Prelude.{◌≡◌, ◌⊎◌, ℕ, ◌<◌, ◌≤◌, Lis
 use Rattle.rip_outer.specs.Outside.{Front, also, before}
 use Rattle.rip_outer.specs.declared.connections.TraceKnock.{TraceKnock}
 use Rattle.rip_log.specs.Histories.{history_text}
+use Rattle.rip_history.specs.Connections.{sent_in}
 use Rattle.rip_history.specs.Parts.{IsLawful}
-use Rattle.rip_history.specs.Run.{Coming, Site}
+use Rattle.rip_history.specs.Run.{Coming, Site, first_state}
+use Rattle.rip_history.specs.Runs.{turns_acts}
 use Rattle.rip_law_history.specs.Legal.{history_of}
 use Rattle.rip_server.specs.Turning.{ClosedSo, Gives, Outer, knocks_of}
-use Rattle.rip_serve.specs.Legal.{AreGiven, AreLegal, IsCutRun, IsLegalRun}
 use Rattle.rip_serve.specs.Serving.{Serves}
 use Rattle.rip_serve.specs.declared.serving.Stop.{Stop}
 use Rattle.rip_serve.specs.declared.serving.Stop.TheVariants.{Idle, Memory, Outside, TurnsSpent}
+use Rattle.rip_law_server.specs.Legal.{AreGiven, AreLegal, AreSent, IsCutRun, IsLegalRun}
 use Rattle.rip_law_server.specs.Rising.{PartsRise}
 
 -- the sink holds the text of the legal course of whole turns behind what it held
@@ -18,6 +20,7 @@ pub record IsBetweenTurns (site : Site) (most : ℕ) (old new : Outer) : Type 0 
   pub turns : List Coming
   pub few : length turns ≤ most
   pub given : AreGiven site turns old new
+  pub sent : AreSent site turns old new
   pub legal : AreLegal site turns
   pub put : new.seen.held ≡ also (history_text (history_of site turns)) old.seen.held
 
@@ -33,7 +36,7 @@ pub record IsGivenTo (t : Coming) (old new : Outer) : Type 0 where
   pub words : Gives t.words old.words new.words
 
 -- or a front of the text of the legal course of whole turns, the last of which is the one that broke off, but that more is handled in
--- it and more sessions go on
+-- it and more sessions go on; and on each connection a front of what these turns send
 pub record IsWithinTurn (site : Site) (most : ℕ) (old new : Outer) : Type 0 where
   pub turns : List Coming
   pub few : length turns < most
@@ -41,6 +44,7 @@ pub record IsWithinTurn (site : Site) (most : ℕ) (old new : Outer) : Type 0 wh
   pub given : AreGiven site turns old between
   pub last : Coming
   pub given_last : IsGivenTo last between new
+  pub sent : (c : ℕ) → Front (sent_in c (turns_acts site 1 first_state (turns ++ last ∷ []))) (old.seen.sent c) (new.seen.sent c)
   pub legal : AreLegal site (turns ++ last ∷ [])
   pub put : Front (history_text (history_of site (turns ++ last ∷ []))) old.seen.held new.seen.held
 

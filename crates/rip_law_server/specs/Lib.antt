@@ -4,6 +4,7 @@ pub mod Begun
 pub mod Conversation
 pub mod Ending
 pub mod Going
+pub mod Legal
 pub mod Meant
 pub mod Opened
 pub mod Ordered

@@ -1,4 +1,4 @@
-pub mod LegalLemmas
+mod RangeLemmas
 pub mod RunLemmas
 pub mod SiteLemmas
 pub mod TellLemmas

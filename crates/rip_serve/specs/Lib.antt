@@ -1,4 +1,3 @@
-pub mod Legal
 pub mod Making
 pub mod Serving
 pub mod Sites

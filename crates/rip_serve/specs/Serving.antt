@@ -1,10 +1,10 @@
 -- What serving does: a run of the machine, and what is told of it outside.
-use Rattle.std.specs.Prelude.{◌≡◌, ◌⊎◌, ℕ, ◌+◌, ◌<◌, ◌^◌, Bool, List, [], ◌∷◌, length, map, count_by, Option, Some}
+use Rattle.std.specs.Prelude.{◌≡◌, ◌⊎◌, ℕ, ◌+◌, ◌<◌, ◌^◌, Bool, List, [], ◌∷◌, ◌++◌, length, map, count_by, Option, Some}
 use Rattle.std.specs.List.{AllByRecursion, flat_map}
 use Rattle.rip_outer.specs.Connections.{Told, is_knock}
 use Rattle.rip_outer.specs.Outside.{Rose, Front, also, before}
 use Rattle.rip_outer.specs.declared.connections.TraceKnock.{TraceKnock}
-use Rattle.rip_log.specs.Entries.{ended, entry_text}
+use Rattle.rip_log.specs.Entries.{Recorded, ended, entry_text}
 use Rattle.rip_log.specs.Histories.{history_text}
 use Rattle.rip_history.specs.Connections.{Act, put_in, sent_in}
 use Rattle.rip_history.specs.Run.{Site, State, first_state, Coming, after_turn, turn_acts}
@@ -105,3 +105,19 @@ Serves site most Idle old new = Ran site most 0 old new × NoFaults old new
 Serves site most TurnsSpent old new = Ran site most 3 old new × NoFaults old new
 Serves site most Outside old new = Breaks site most old new × OneFault old new
 Serves site most Memory old new = Breaks site most old new × NoFaults old new
+
+-- the entries that a run was to put that broke off: those of what was done before, of its last turn, and its last line
+abbrev pub entries_begun : (site : Site) (most : ℕ) (old new : Outer) → Breaks site most old new → List Recorded
+entries_begun site most old new (unmade same) = []
+entries_begun site most old new (in_turn b) =
+    let before = turns_acts site 1 first_state b.turns in
+    let halted = b.last in
+    put_in (before ++ turn_acts site (length b.turns + 1) halted.coming (after_turns site 1 first_state b.turns))
+entries_begun site most old new (at_end b) = put_in b.acts
+
+-- the entries of which serving put the text, or a prefix of it where it broke off
+abbrev pub entries_put : (site : Site) (most : ℕ) (stop : Stop) (old new : Outer) → Serves site most stop old new → List Recorded
+entries_put site most Idle old new (run, calm) = put_in run.acts
+entries_put site most TurnsSpent old new (run, calm) = put_in run.acts
+entries_put site most Outside old new (breaks, fault) = entries_begun site most old new breaks
+entries_put site most Memory old new (breaks, calm) = entries_begun site most old new breaks

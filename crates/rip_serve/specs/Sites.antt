@@ -5,8 +5,7 @@ use Rattle.rip_log.specs.Histories.{IsHistory}
 use Rattle.rip_history.specs.Run.{Site}
 use Rattle.rip_history.specs.Services.{service_of}
 use Rattle.rip_server.specs.Turning.{Outer, site_of}
-use Rattle.rip_serve.specs.Serving.{Serves}
-use Rattle.rip_serve.specs.Legal.{IsLegal, history_put}
+use Rattle.rip_serve.specs.Serving.{Serves, entries_put}
 use Rattle.rip_serve.specs.declared.serving.Stop.{Stop}
 use Rattle.rip_session.specs.Application.{meaning_of_app}
 
@@ -15,9 +14,7 @@ use Rattle.rip_session.specs.Application.{meaning_of_app}
 abbrev pub site_of_app : Loaded → Site
 site_of_app app = site_of (meaning_of_app app) (service_of app.manifest.functions) app.manifest.limits.sessions app.bytes
 
--- it is served within so many turns, and what is put is the log of a legal course whose entries are in range, or a front of
--- one
+-- it is served within so many turns, and each entry of which it puts the text, or a prefix, is in range
 pub record ServesApp (app : Loaded) (most : ℕ) (how : Stop) (old new : Outer) : Type 0 where
   pub serves : Serves (site_of_app app) most how old new
-  pub legal : IsLegal (site_of_app app) most how old new
-  pub in_range : IsHistory (history_put (site_of_app app) most how old new legal)
+  pub in_range : IsHistory (entries_put (site_of_app app) most how old new serves)

@@ -6,7 +6,6 @@ ghost use Rattle.rip_server.specs.Acts.{seen};
 ghost use Rattle.rip_server.specs.Puts.{Counts, IsPut};
 ghost use Rattle.rip_server.specs.Standing.{IsReady, IsServer};
 ghost use Rattle.rip_server.specs.Turning.{Faults, outer, site_of, source};
-ghost use Rattle.rip_serve.specs.Legal.{IsLegal};
 ghost use Rattle.rip_serve.specs.Making.{MakesTo, RunsTo, status_for, stop_for};
 ghost use Rattle.rip_serve.specs.Serving.{Serves};
 
@@ -45,15 +44,6 @@ pub fn serve<S: Sessions, V: Service, D: Door, C: Clock, W: Words, K: Sink>(
 ) -> Stop
     ensures serves { (meant : Meant) → V.replies_as service.old meant []
         → Serves (site_of (S.meaning site.now.sessions.now) meant site.now.limit site.now.page.now)
-        turns result
-        (outer (seen (D.sent door.old) (D.knocks door.old) (D.shuts door.old)
-        (D.asked door.old) (K.held out.old)) (source (C.told clock.old) (C.coming clock.old))
-        (source (W.told words.old) (W.coming words.old)) (D.count door.old) (K.count out.old))
-        (outer (seen (D.sent door.new) (D.knocks door.new) (D.shuts door.new)
-        (D.asked door.new) (K.held out.new)) (source (C.told clock.new) (C.coming clock.new))
-        (source (W.told words.new) (W.coming words.new)) (D.count door.new) (K.count out.new)) }
-    ensures legal { (meant : Meant) → V.replies_as service.old meant []
-        → IsLegal (site_of (S.meaning site.now.sessions.now) meant site.now.limit site.now.page.now)
         turns result
         (outer (seen (D.sent door.old) (D.knocks door.old) (D.shuts door.old)
         (D.asked door.old) (K.held out.old)) (source (C.told clock.old) (C.coming clock.old))

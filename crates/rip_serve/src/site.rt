@@ -3,7 +3,7 @@
 //!
 //! | what | its definition in `specs/` |
 //! |---|---|
-//! | [`serve_app`] | `Sites.ServesApp`, over `Sites.site_of_app`: `Serves` and `IsLegal` of `rip_serve`, and entries in range |
+//! | [`serve_app`] | `Sites.ServesApp`, over `Sites.site_of_app`: `Serves` of `rip_serve`, and entries in range |
 //!
 //! A layer above may rest on this: want of memory before the first turn leaves door, clock, random words and sink as they
 //! were.

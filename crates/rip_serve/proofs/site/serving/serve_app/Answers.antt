@@ -12,4 +12,4 @@ returns-clause-served g c =
     let replies : RepliesAs c.in_ok-store.store service [] = record { replies = refl; stored = c.in_ok-store.ensures.empty; kept = c.in_ok-store.ensures.kept } in
     serves_app c.args.app.now _ service _ _ c.args.turns c.serve.result _ _ (ap meaning_of_app c.of-sessions.ensures)
     (ap service_of (c.in_ok-store.ensures.functions ∙ c.functions.ensures)) (ap (λ (l : Limits). l.sessions) c.limits.ensures.value) c.bytes.ensures c.ranges.turns.fits
-    (c.serve.ensures.serves service replies) (c.serve.ensures.legal service replies)
+    (c.serve.ensures.serves service replies)
