@@ -22,6 +22,7 @@ use Rattle.rip_server.specs.Turning.{Outer}
 use Rattle.rip_serve.specs.Sites.{site_of_app}
 use Rattle.rip_law_server.specs.Begun.{IsBetweenTurns, IsWithinTurn}
 use Rattle.rip_law_server.specs.Legal.{AreLegal, IsCutRun, IsLegalRun}
+use Rattle.rip_law_server.proofs.Conversed.{requests_are_answered}
 use Rattle.rip_replica.specs.Standing.{spot}
 use Rattle.rip_session.specs.declared.work.items.PageItems.{PageItems}
 use Rattle.rip_session.specs.Application.{doing_of, meaning_of_app, runs_of}
@@ -33,7 +34,7 @@ use Rattle.rip_cli.specs.Run.{Ran, Told}
 use Rattle.rip_cli.specs.Service.{brought}
 use Rattle.rip_cli.specs.declared.status.Status.{Status}
 use Rattle.rip_cli.specs.declared.status.Status.TheVariants.{BadInput, BadWords, NoMemory, Outside, Read, TurnsSpent}
-use Rattle.rip_headline.specs.Headline.{AreGivenAll, AreIsolated, AreSliced, CallsMatch, EndsInTime, HonestClientsAreServed, HonestServed, InEachRun, IsServed, NoLimitIsPassed, ServedCallsMatch, SessionsAreIsolated, Writes, Wrote, broken, log_of, outside_of, text_of, turns_of, whole}
+use Rattle.rip_headline.specs.Headline.{AreConversations, AreGivenAll, AreIsolated, AreSliced, CallsMatch, EndsInTime, HonestClientsAreServed, HonestServed, InEachRun, IsServed, NoLimitIsPassed, RequestsAreAnsweredInOrder, ServedCallsMatch, SessionsAreIsolated, Writes, Wrote, broken, log_of, outside_of, text_of, turns_of, whole}
 use Rattle.rip_headline.specs.Enough.{AreEnough, batch_cost}
 use Rattle.rip_headline.specs.PrefixHistories.{ServesIn}
 use Rattle.rip_headline.specs.Prefixed.{PutsLegal, ReplayPutsLegal, StopsFirst}
@@ -227,3 +228,11 @@ sessions_are_isolated = record {
   sliced = in_each AreSliced sliced;
   in_time = ends_in_time;
 }
+
+-- ---- answers
+
+conversations : (app : Loaded) (turns : List Coming) → AreLegal (site_of_app app) turns → AreConversations app turns
+conversations app turns legal c = requests_are_answered (site_of_app app) turns c (app_is_lawful app) legal.made
+
+pub answers_are_in_order : RequestsAreAnsweredInOrder
+answers_are_in_order = in_each AreConversations conversations

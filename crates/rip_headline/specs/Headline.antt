@@ -20,6 +20,7 @@ use Rattle.rip_replica.specs.Cuts.{CutAfter}
 use Rattle.rip_replica.specs.Numbers.{open_of}
 use Rattle.rip_serve.specs.Sites.{site_of_app}
 use Rattle.rip_law_server.specs.Begun.{IsGivenTo}
+use Rattle.rip_law_server.specs.Conversation.{IsConversation}
 use Rattle.rip_law_server.specs.Legal.{AreGiven, AreLegal}
 use Rattle.rip_session.specs.Application.{IsPageWithin, StandsAt, doing_of, meaning_of_app, runs_of}
 use Rattle.rip_session.specs.Limits.{HasPageLimits, PassesNoLimit}
@@ -187,3 +188,11 @@ pub record SessionsAreIsolated : Type 0 where
   pub isolated : InEachRun AreIsolated
   pub sliced : InEachRun AreSliced
   pub in_time : EndsInTime
+
+-- on each connection what is sent are the answers to its requests, one each, in their order, but perhaps to the last
+abbrev pub AreConversations : Loaded → List Coming → Type 0
+AreConversations app turns = (c : ℕ) → IsConversation (site_of_app app) turns c
+
+-- so it is in each run
+abbrev pub RequestsAreAnsweredInOrder : Type 0
+RequestsAreAnsweredInOrder = InEachRun AreConversations

@@ -2,7 +2,7 @@
 //!
 //! | module | what |
 //! |---|---|
-//! | [`headline`] | the three theorems over a run of the program: served calls match, honest clients are served, sessions are isolated |
+//! | [`headline`] | the theorems over a run of the program: served calls match, honest clients are served, sessions are isolated, requests are answered in order |
 //! | [`prefixes`] | each session's served calls are a longest matching prefix |
 //! | [`limits`] | no session passes a limit |
 //! | [`pages`] | the page of a session passes no limit, also once the session has ended |
