@@ -1,25 +1,23 @@
 -- A browser answers alike whichever replies wait, and so does each run over it.
-use Rattle.std.proofs.Common.{◌≡◌, ◌⊎◌, inl, inr, ◌∙◌, ℕ, Bool, true, false, List, Option, None, Some, Result, Ok, Err, ℤ, pos, negsuc, if◌then◌else◌, refl, ap}
-use Rattle.std.specs.Prelude.{◌+◌, ◌&&◌, ◌^◌, length, nat_le, option_and_then}
+use Rattle.std.proofs.Common.{◌≡◌, ◌∙◌, ℕ, Bool, true, false, List, Option, None, Some, Result, Ok, Err, ℤ, pos, negsuc, if◌then◌else◌, refl}
+use Rattle.std.specs.Prelude.{◌&&◌, ◌^◌, nat_le, option_and_then}
 use Rattle.rip_values.specs.declared.builtin.Builtin.{Builtin}
 use Rattle.rip_values.specs.declared.fixed.FixedText.{FixedText}
-use Rattle.rip_values.specs.declared.fixed.FixedText.TheVariants.{Disabled as DisabledText, Empty, Value as ValueText}
 use Rattle.rip_base.specs.declared.value.Fault.{Fault}
 use Rattle.rip_base.specs.declared.value.Fault.TheVariants.{BadArgument}
-use Rattle.rip_base.specs.declared.value.Limit.TheVariants.{Cells, Queue, Units}
+use Rattle.rip_base.specs.declared.value.Limit.TheVariants.{Cells, Units}
 use Rattle.rip_base.specs.declared.value.Numeral.{Numeral}
 use Rattle.rip_base.specs.declared.value.Span.{Span}
 use Rattle.rip_base.specs.declared.value.Value.{Value}
 use Rattle.rip_base.specs.declared.value.Value.TheVariants.{Undefined, Null, Bool as Boolean, Num, NaN, Text, Object}
 use Rattle.rip_values.specs.FixedSearch.{fixed_text}
 use Rattle.rip_values.specs.Pool.{text_at}
-use Rattle.rip_heap.specs.Conversions.{boolean_of, number_of, span_of, text_fault}
+use Rattle.rip_heap.specs.Conversions.{boolean_of, number_of, text_fault}
 use Rattle.rip_heap.specs.declared.host.HostDone.{HostDone}
 use Rattle.rip_heap.specs.declared.host.HostDone.TheVariants as host
-use Rattle.rip_heap.specs.Host.{Request, Reads, Writes, Calls}
-use Rattle.rip_heap.specs.World.{World, paid}
+use Rattle.rip_heap.specs.Host.{Reads, Writes, Calls}
+use Rattle.rip_heap.specs.World.{World}
 use Rattle.rip_ops.specs.Calls.{builtin_of}
-use Rattle.rip_calls.specs.Calls.{Calls as Queued, used, with_call}
 use Rattle.rip_convert.specs.Arguments.{call_text}
 use Rattle.rip_events.specs.Listed.{Listed, found, registered, same_as, without_listener}
 use Rattle.rip_forms.specs.Choices.{place_of_value}
@@ -27,12 +25,9 @@ use Rattle.rip_forms.specs.Controls.{is_checkbox, is_control, is_select, part_of
 use Rattle.rip_forms.specs.declared.control.FormPart.{FormPart}
 use Rattle.rip_forms.specs.declared.control.FormPart.TheVariants as part
 use Rattle.rip_forms.specs.declared.state.FormState.TheVariants.{Value as SetValue, Selected as SetSelected}
-use Rattle.rip_dom.specs.Tree.{Tree}
-use Rattle.rip_nodes.specs.Attributes.{attribute_given}
 use Rattle.rip_nodes.specs.Calls.{argument, node_call}
 use Rattle.rip_nodes.specs.declared.member.NodeMember.{NodeMember}
 use Rattle.rip_nodes.specs.Members.{member_of}
-use Rattle.rip_nodes.specs.Writing.{node_written}
 use Rattle.rip_nodes.specs.Texts.{are_past, cost_of_text, text_span, text_taken, world_with}
 use Rattle.rip_host.specs.Answers.{answers, called, event_put, event_read, event_receiver, node_read, node_read_by, node_receiver, node_write, node_write_by, on_receiver, owned_read, owned_write, ripley_read}
 use Rattle.rip_host.specs.declared.browser.Browser.{Browser}
@@ -53,7 +48,7 @@ use Rattle.rip_host.specs.HostCalls.{host_call_of}
 use Rattle.rip_host.specs.Listening.{added_by, after_registering, handler_of, ignored, is_number, is_second, is_spent, listener, listener_added, listener_removed, register, removed_by, unless_fault, unregister}
 use Rattle.rip_host.specs.Owners.{owner_of}
 use Rattle.rip_host.specs.Visit.{of_nodes}
-use Rattle.rip_host.specs.Ripley.{call_callback, call_judged, call_name, call_with, is_array, random_call, random_given, random_of, ripley_call, ripley_member}
+use Rattle.rip_host.specs.Ripley.{call_callback, call_judged, call_name, call_with, is_array, random_call, random_given, random_of, ripley_member}
 use Rattle.rip_law_browser.specs.Unread.{AnswersReadNoReply, RunsReadNoReply, answered_with, run_with, with_waiting}
 use Rattle.rip_law_browser.proofs.UnreadRuns.{behind, begun_same}
 use Rattle.rip_eval_rows.specs.Run.{Answer, Completes, Stops, Cuts}
