@@ -42,8 +42,7 @@ returns-in_default-limits_of-clause-only c = λ answer is _.
 pub returns-in_default-limits_of-clause-refused : goal.returns-in_default-limits_of-clause-refused
 returns-in_default-limits_of-clause-refused c = λ _.
     let parts : Parts = parts_view c.in-Some.parts in
-    let are : ArePartsOf c.args.bytes.now parts = (view c.in_ok-value.value, c.in_ok-value.ensures.found, c.in-Some.ensures.found) in
-    (
+    let are : ArePartsOf c.args.bytes.now parts = (view c.in_ok-value.value, c.in_ok-value.ensures.found, c.in-Some.ensures.found) in (
       parts,
       are,
       (c.in-Some-stated_of.stated, c.in-Some-stated_of.ensures.found),
