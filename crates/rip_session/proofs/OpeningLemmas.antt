@@ -1,5 +1,5 @@
 -- What the opening of a session comes to, by what its parts answer.
-use Rattle.std.proofs.Common.{◌≡◌, ℕ, ℤ, Result, IfOk, ◌+◌, ◌≤◌, Bool, true, false, Option, None, Some, Ok, Err, List, [], refl, sym, ap, ◌∙◌, subst}
+use Rattle.std.proofs.Common.{◌≡◌, ℕ, ℤ, Result, IfOk, ◌+◌, ◌≤◌, Bool, true, false, Option, None, Some, Ok, Err, List, [], refl, sym, ap, ◌∙◌, subst, arith}
 use Rattle.std.specs.Prelude.{codes, nat_lt, if◌then◌else◌}
 use Rattle.std.proofs.lemmas.Bool.{le-ltb, lt-ltb}
 use Rattle.std.proofs.lemmas.Option.{same_Some}
@@ -128,3 +128,18 @@ pub page-refuses : (app : Loaded) (w : World) (page : Page) (limits : Limits) (o
     → Begins page.nodes limits old seed time (Err (At limit)) new → without_page app limit w seed time ≡ with_scope app w seed time
 page-refuses app w page limits old new seed time limit a b c h =
     sym (page-passes app w seed time limit new (answered app w page limits old new seed time (Err (At limit)) a b c h))
+
+-- a page without nodes passes no limit
+pub no-page-passes : (nodes : List PageNode) (limits : Limits) (old new : Texts) (seed : ℕ) (time : ℤ) (limit : Limit) → nodes ≡ [] → old.used ≤ old.limit
+    → Begins nodes limits old seed time (Err (At limit)) new → ⊥
+no-page-passes nodes limits old new seed time limit none within h =
+    by limit (subst (λ (ns : List PageNode). Begins ns limits old seed time (Err (At limit)) new) none h)
+  where
+    by : (l : Limit) → Begins [] limits old seed time (Err (At l)) new → ⊥
+    by Nodes k = omega arith
+    by Units k = let past = k.1 in omega arith
+    by Fuel k = k
+    by Cells k = k
+    by Depth k = k
+    by Queue k = k
+    by Replies k = k

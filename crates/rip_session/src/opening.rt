@@ -78,12 +78,15 @@ fn open_page(
     let limits = app.limits();
     match Browser::make(alloc, app.page(), limits, heap.pool_mut(), seed, time) {
         Ok(browser) => load_program(alloc, app, heap, browser),
-        Err(Refused::Limit(limit)) => open_again(alloc, app, limit, seed, time),
+        Err(Refused::Limit(limit)) => {
+            drop(heap);
+            open_again(alloc, app, limit, seed, time)
+        }
         Err(Refused::Memory) => Err(NoMemory),
     }
 }
 
-/// A session whose page would pass this limit, in a heap with the top scope that is made anew.
+/// A session whose page would pass this limit, in a heap with the top scope that is made anew, where the first was let go.
 fn open_again(
     alloc: Global,
     app: &App,
@@ -113,15 +116,16 @@ fn open_without_page(
     ensures fits { IfOk result (λ o. Fits o.browser o.heap) }
 {
     let page = Page::new(List::new(alloc), List::new(alloc));
-    let limits = app.limits();
-    match Browser::make(alloc, &page, limits, heap.pool_mut(), seed, time) {
+    let _ = heap.pool().free();
+    match Browser::make(alloc, &page, app.limits(), heap.pool_mut(), seed, time) {
         Ok(browser) => Ok(Opened {
             heap,
             machine: begin_machine(alloc, app)?,
             browser,
             start: Start::Passes(limit),
         }),
-        Err(_) => Err(NoMemory),
+        Err(Refused::Limit(_)) => unreachable!(),
+        Err(Refused::Memory) => Err(NoMemory),
     }
 }
 
