@@ -4,7 +4,7 @@ use Rattle.std.specs.Prelude.{◌&&◌, ◌^◌, nat_le, option_and_then}
 use Rattle.rip_values.specs.declared.builtin.Builtin.{Builtin}
 use Rattle.rip_values.specs.declared.fixed.FixedText.{FixedText}
 use Rattle.rip_base.specs.declared.value.Fault.{Fault}
-use Rattle.rip_base.specs.declared.value.Fault.TheVariants.{BadArgument}
+use Rattle.rip_base.specs.declared.value.Fault.TheVariants.{BadArgument, NotInProfile}
 use Rattle.rip_base.specs.declared.value.Limit.TheVariants.{Cells, Units}
 use Rattle.rip_base.specs.declared.value.Numeral.{Numeral}
 use Rattle.rip_base.specs.declared.value.Span.{Span}
@@ -45,7 +45,7 @@ use Rattle.rip_host.specs.declared.owner.Owner.TheVariants.{Node, Dispatched, Ri
 use Rattle.rip_host.specs.EventMembers.{event_member_of, prevented, stopped}
 use Rattle.rip_host.specs.FormMembers.{attribute_kept, checked_written, disabled_written, form_member_of, form_read, form_written, goes_on_in, has_value, if_part, null_or_empty, option_chosen, place_written, selected_written, text_held, value_written, with_state}
 use Rattle.rip_host.specs.HostCalls.{host_call_of}
-use Rattle.rip_host.specs.Listening.{added_by, after_registering, handler_of, ignored, is_number, is_second, is_spent, listener, listener_added, listener_removed, register, removed_by, unless_fault, unregister}
+use Rattle.rip_host.specs.Listening.{added_by, after_registering, handler_of, ignored, is_number, is_second, is_spent, left_out, listener, listener_added, listener_removed, register, removed_by, unless_fault, unregister}
 use Rattle.rip_host.specs.Owners.{owner_of}
 use Rattle.rip_host.specs.Visit.{of_nodes}
 use Rattle.rip_host.specs.Ripley.{call_callback, call_judged, call_name, call_with, is_array, random_call, random_given, random_of, ripley_member}
@@ -192,17 +192,20 @@ registering_same rs w s (Some step) = refl
 ignored_same : (rs : Waiting) (w : World) (s : Browser) (t : Value) → Same rs (λ b. ignored w b t) s
 ignored_same rs w s t = if_same rs (are_past w.pool (cost_of_text t)) (host.Limit Units, w, s) (host.Value Undefined, world_with w t, s) _ _ refl refl
 
+left_out_same : (rs : Waiting) (w : World) (s : Browser) (t : Value) → Same rs (λ b. left_out w b t) s
+left_out_same rs w s t = if_same rs (are_past w.pool (cost_of_text t)) (host.Limit Units, w, s) (host.Fault NotInProfile, w, s) _ _ refl refl
+
 register_same : (rs : Waiting) (w : World) (s : Browser) (k : ℕ) (t : Value) (f : ℕ) (capture : Bool) → Same rs (λ b. register w b k t f capture) s
 register_same rs w s k t f capture =
     let kind = text_span w.pool t in
     let x = world_with w t in
     let last : Browser → HostDone × World × Browser = λ b. after_registering w b (registered (found x.pool (same_as (listener k kind f capture)) s.listeners) (listener k kind f capture) s.listeners x) in
-    let made : Browser → HostDone × World × Browser = λ b. if are_past w.pool (cost_of_text t) then (host.Limit Units, w, b) else last b in
-    let first : Browser → HostDone × World × Browser = λ b. if is_number t && is_spent w then (host.Limit Cells, w, b) else made b in
+    let made : Browser → HostDone × World × Browser = λ b. if is_number t && is_spent w then (host.Limit Cells, w, b) else last b in
+    let first : Browser → HostDone × World × Browser = λ b. if are_past w.pool (cost_of_text t) then (host.Limit Units, w, b) else made b in
     let with = with_waiting rs s in
     if_same rs (is_second w s k t f capture) (ignored w s t) (first s) (ignored w with t) (first with) (ignored_same rs w s t)
-    (if_same rs (is_number t && is_spent w) (host.Limit Cells, w, s) (made s) (host.Limit Cells, w, with) (made with) refl
-    (if_same rs (are_past w.pool (cost_of_text t)) (host.Limit Units, w, s) (last s) (host.Limit Units, w, with) (last with) refl
+    (if_same rs (are_past w.pool (cost_of_text t)) (host.Limit Units, w, s) (made s) (host.Limit Units, w, with) (made with) refl
+    (if_same rs (is_number t && is_spent w) (host.Limit Cells, w, s) (last s) (host.Limit Cells, w, with) (last with) refl
     (registering_same rs w s (registered (found x.pool (same_as (listener k kind f capture)) s.listeners) (listener k kind f capture) s.listeners x))))
 
 unregister_same : (rs : Waiting) (w : World) (s : Browser) (k : ℕ) (t : Value) (f : ℕ) (capture : Bool) → Same rs (λ b. unregister w b k t f capture) s
@@ -217,12 +220,12 @@ unregister_same rs w s k t f capture =
 added_same : (rs : Waiting) (w : World) (s : Browser) (k : ℕ) (t : Value) (h : Handler) (capture : Bool) → Same rs (λ b. added_by w b k t h capture) s
 added_same rs w s k t Ignored capture = ignored_same rs w s t
 added_same rs w s k t (Function f) capture = register_same rs w s k t f capture
-added_same rs w s k t Other capture = refl
+added_same rs w s k t Other capture = left_out_same rs w s t
 
 removed_same : (rs : Waiting) (w : World) (s : Browser) (k : ℕ) (t : Value) (h : Handler) (capture : Bool) → Same rs (λ b. removed_by w b k t h capture) s
 removed_same rs w s k t Ignored capture = ignored_same rs w s t
 removed_same rs w s k t (Function f) capture = unregister_same rs w s k t f capture
-removed_same rs w s k t Other capture = refl
+removed_same rs w s k t Other capture = left_out_same rs w s t
 
 listener_added_same : (rs : Waiting) (w : World) (s : Browser) (k : ℕ) (t f c : Value) → Same rs (λ b. listener_added w b k t f c) s
 listener_added_same rs w s k t f c =
