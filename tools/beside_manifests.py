@@ -98,7 +98,9 @@ def manifest(dice):
 def program_answer(ripley, room):
     run = subprocess.run([ripley, 'check', 'page.html', 'app.json'], cwd=room, capture_output=True, text=True)
     words = run.stdout.split()
-    return words[-1] if words and (words == ['ok'] or words[:2] == ['refused', 'app']) else run.stdout + run.stderr
+    if words[:1] == ['ok']:
+        return 'ok'
+    return words[-1] if words[:2] == ['refused', 'app'] else run.stdout + run.stderr
 
 
 def main(words):
